@@ -1,0 +1,75 @@
+-- Choices and the guide's order (document 01, "A configuration and its transitions").
+use mathlib.Core.Bool.{Bool, true, false}
+use mathlib.Core.List.{List, [], _∷_, _++_, map}
+use mathlib.Core.Option.{Option, none, some}
+use Prim.Native.Nat.{ℕ, zero, suc, _+_, _*_, _%_}
+use lib.ListN.{length}
+use Rattle.paper.specs.Language.{Agent, Config}
+use Rattle.paper.specs.Transitions.{Choice, select, act, revise}
+use Rattle.paper.specs.Next.{next, enabled}
+
+-- "A configuration is a set of believed atoms, a set of goal atoms, a plan … and a phase 0, 1 or 2. The phase is ours; the
+-- rest is 004's Definition 7."
+pub record State : Type 0 where
+  pub mental : Config
+  pub phase : ℕ
+
+-- "A choice is coded as 256 times the kind (0 selection, 1 action, 2 revision) plus the number of the rule or
+-- specification, from 0."
+unfoldable pub kind : Choice → ℕ
+kind (select n) = 0
+kind (act n) = 1
+kind (revise n) = 2
+
+unfoldable pub number : Choice → ℕ
+number (select n) = n
+number (act n) = n
+number (revise n) = n
+
+unfoldable pub code : Choice → ℕ
+code k = 256 * kind k + number k
+
+-- the m numbers from k on
+unfoldable pub numbers : ℕ → ℕ → List ℕ
+numbers k zero = []
+numbers k (suc m) = k ∷ numbers (suc k) m
+
+-- an agent's choices of a kind, the lowest number first
+unfoldable pub ofKind : Agent → ℕ → List Choice
+ofKind A zero = map select (numbers 0 (length (A .PS)))
+ofKind A (suc zero) = map act (numbers 0 (length (A .AS)))
+ofKind A (suc (suc k)) = map revise (numbers 0 (length (A .PR)))
+
+-- "From phase p the kinds p, p+1, p+2 (modulo 3) are tried in turn."
+unfoldable pub inTurn : Agent → ℕ → List Choice
+inTurn A p = ofKind A (p % 3) ++ (ofKind A ((p + 1) % 3) ++ ofKind A ((p + 2) % 3))
+
+-- "After any transition, the guide's or a chosen one, the phase is the kind taken plus 1, modulo 3."
+unfoldable pub after : Choice → Config → State
+after k c = record { mental = c; phase = (kind k + 1) % 3 }
+
+-- a choice with the state that it leads to
+pub record Move : Type 0 where
+  pub choice : Choice
+  pub to : State
+
+-- the first transition among some choices
+unfoldable pub firstMove : Agent → Config → List Choice → Option Move
+firstMove A c [] = none
+firstMove A c (k ∷ ks) = elim (next A c k) [
+  | none ↦ firstMove A c ks
+  | some c′ ↦ some (record { choice = k; to = after k c′ })
+]
+
+-- "In the first kind with an enabled transition, the lowest number is taken."
+unfoldable pub guide : Agent → State → Option Move
+guide A s = firstMove A (s .mental) (inTurn A (s .phase))
+
+-- what of a list passes a test
+abbrev pub keep : {X : Type 0} → (X → Bool) → List X → List X
+keep t [] = []
+keep t (x ∷ xs) = elim (t x) [ true ↦ x ∷ keep t xs | false ↦ keep t xs ]
+
+-- "The list of enabled choices goes as two-byte numbers, rising, each once" (document 01, "Numbers the guide may answer")
+unfoldable pub enabledCodes : Agent → Config → List ℕ
+enabledCodes A c = map code (keep (enabled A c) (inTurn A 0))
