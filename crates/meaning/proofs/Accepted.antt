@@ -1,0 +1,119 @@
+-- What an accepted card has passed, and what follows for its agent.
+use mathlib.Core.Path.{_≡_, refl, ap, _∙_, sym}
+use mathlib.Core.Bool.{Bool, true, false, not, _&&_}
+use mathlib.Core.List.{List, [], _∷_}
+use Prim.Native.Nat.{ℕ, zero, suc, _+_, _≤_, _<_}
+use native.Mathlib.Omega.{arith}
+use lib.Dec.{leb}
+use lib.ListN.{length, getD}
+use borrow.Author.Tests.{leb-true, not-false}
+use Rattle.paper.proofs.Relation.{both}
+use Rattle.house.specs.Theorems.{Numbered}
+use Rattle.house.proofs.Weight.{bounded-law}
+use Rattle.meaning.specs.declared.Answer.the-variants.{Done, Refused}
+use Rattle.meaning.specs.declared.Layout.{Layout}
+use Rattle.meaning.specs.Card.{Bytes, layout, entriesFrom, weights, weight, agent, initialPlan, selectionAt, specificationAt}
+use Rattle.meaning.specs.Refusals.{all, within, countsGood, weightsGood, cardTable, cardAnswer}
+use Rattle.meaning.specs.Theorems.{Accepted, CardLaws}
+use Rattle.meaning.proofs.Tables.{passes}
+
+pub accepted : (b : Bytes) → cardAnswer b ≡ Done → Accepted b
+unfolding cardAnswer cardTable
+accepted b e0 =
+    let (h1, e1) = passes _ _ b e0 in
+    let (h2, e2) = passes _ _ b e1 in
+    let (h3, e3) = passes _ _ b e2 in
+    let (h4, e4) = passes _ _ b e3 in
+    let (h5, e5) = passes _ _ b e4 in
+    let (h6, e6) = passes _ _ b e5 in
+    let (h7, e7) = passes _ _ b e6 in
+    let (h8, e8) = passes _ _ b e7 in
+    let (h9, e9) = passes _ _ b e8 in
+    record {
+      long-enough = h1;
+      marked = h2;
+      counts = not-false _ h3;
+      offsets = not-false _ h4;
+      weights = not-false _ h5;
+      nodes = not-false _ h6;
+      rules = not-false _ h7;
+      pool = not-false _ h8;
+      sets = not-false _ h9;
+    }
+
+-- ---- its numbers are in range
+
+pub within-low : (low high n : ℕ) → within low high n ≡ true → low ≤ n
+within-low low high n e = leb-true low n (both (leb low n) _ e .0)
+
+pub within-high : (low high n : ℕ) → within low high n ≡ true → n ≤ high
+within-high low high n e = leb-true n high (both (leb low n) _ e .1)
+
+pub record Counts (l : Layout) : Type 0 where
+  pub some-atoms : 1 ≤ l .atoms
+  pub atoms : l .atoms ≤ 128
+  pub some-actions : 1 ≤ l .actions
+  pub actions : l .actions ≤ 256
+  pub some-nodes : 1 ≤ l .nodes .count
+  pub nodes : l .nodes .count ≤ 256
+  pub specifications : l .specifications .count ≤ 256
+  pub selections : l .selections .count ≤ 256
+  pub revisions : l .revisions .count ≤ 256
+  pub pool : l .pool .count ≤ 8192
+
+pub counts : (l : Layout) → countsGood l ≡ true → Counts l
+unfolding countsGood
+counts l e0 =
+    let (h1, e1) = both (within 1 128 (l .atoms)) _ e0 in
+    let (h2, e2) = both (within 1 256 (l .actions)) _ e1 in
+    let (h3, e3) = both (within 1 256 (l .nodes .count)) _ e2 in
+    let (h4, e4) = both (leb (l .specifications .count) 256) _ e3 in
+    let (h5, e5) = both (leb (l .selections .count) 256) _ e4 in
+    let (h6, e6) = both (leb (l .revisions .count) 256) _ e5 in
+    record {
+      some-atoms = within-low _ _ _ h1;
+      atoms = within-high _ _ _ h1;
+      some-actions = within-low _ _ _ h2;
+      actions = within-high _ _ _ h2;
+      some-nodes = within-low _ _ _ h3;
+      nodes = within-high _ _ _ h3;
+      specifications = leb-true _ _ h4;
+      selections = leb-true _ _ h5;
+      revisions = leb-true _ _ h6;
+      pool = leb-true _ _ e6;
+    }
+
+-- ---- its agent
+
+pub entries-length : {R : Type 0} (read : ℕ → R) (size at n : ℕ) → length (entriesFrom read size at n) ≡ n
+entries-length read size at zero = refl
+entries-length read size at (suc n) = ap suc (entries-length read size (at + size) n)
+
+numbered : (b : Bytes) → countsGood (layout b) ≡ true → Numbered (agent b)
+unfolding agent
+numbered b e =
+    let c = counts (layout b) e in
+    record {
+      selections = rw (entries-length (selectionAt b) 8 (layout b .selections .offset) (layout b .selections .count)) (c .selections);
+      specifications = rw (entries-length (specificationAt b) 36 (layout b .specifications .offset) (layout b .specifications .count)) (c .specifications);
+    }
+
+-- ---- its weights
+
+at-least-one : (ws : List ℕ) (a : ℕ) → all (within 1 1024) ws ≡ true → 1 ≤ getD ws a 1
+at-least-one [] a e = omega arith
+at-least-one (w ∷ ws) zero e = within-low 1 1024 w (both (within 1 1024 w) _ e .0)
+at-least-one (w ∷ ws) (suc a) e = at-least-one ws a (both (within 1 1024 w) _ e .1)
+
+pub weighs-something : (b : Bytes) → weightsGood b ≡ true → (a : ℕ) → 1 ≤ weight b a
+unfolding weight weightsGood
+weighs-something b e a = at-least-one (weights b) a e
+
+pub card-laws : (b : Bytes) → cardAnswer b ≡ Done → CardLaws b
+card-laws b e =
+    let a = accepted b e in
+    record {
+      accepted = a;
+      numbered = numbered b (a .counts);
+      demand3 = bounded-law (weight b) (weighs-something b (a .weights)) (agent b) (initialPlan b);
+    }

@@ -1,0 +1,34 @@
+-- The P cases of document 01, computed.
+use mathlib.Core.Path.{refl}
+use mathlib.Core.List.{flatten}
+use Rattle.meaning.specs.Stripe.{assembled, set, specification, selection, revision, stripeWith, stripe, stripe-P4, stripe-P5, stripe-P9, stripe-P10, stripe-P13}
+use Rattle.meaning.specs.Cases.{endingNumber, verdictNumbers, shown, shownCheck, shownReply, shownGrade, shownWritten, shownRun, configuration, loaded, afterSteps, planLine, chosen, placeP7, resting, PCases}
+use Rattle.meaning.proofs.Computing.{computing}
+
+pub P-cases : PCases
+unfolding computing flatten assembled set specification selection revision stripeWith stripe stripe-P4 stripe-P5 stripe-P9 stripe-P10 stripe-P13 endingNumber verdictNumbers shown shownCheck shownReply shownGrade shownWritten shownRun configuration loaded afterSteps planLine chosen placeP7 resting
+P-cases =
+    record {
+      accepted = refl;
+      first-steps = refl;
+      last-steps = refl;
+      six-chosen = refl;
+      P1 = refl;
+      P2-six = refl;
+      P2-seven = refl;
+      P3 = refl;
+      P4 = refl;
+      P5 = refl;
+      P6 = refl;
+      P7 = refl;
+      P7-restored = refl;
+      P8 = refl;
+      P9 = refl;
+      P10 = refl;
+      P11-full = refl;
+      P11-taken = refl;
+      P12-start = refl;
+      P12-no-room = refl;
+      P12-rest = refl;
+      P13 = refl;
+    }

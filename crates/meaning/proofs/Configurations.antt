@@ -1,0 +1,72 @@
+-- A configuration and its state stand for each other.
+use mathlib.Core.Path.{_≡_, refl, ap, ap₂, _∙_, sym}
+use mathlib.Core.Bool.{Bool, true, _&&_}
+use mathlib.Core.List.{List, [], _∷_, _++_}
+use Prim.Native.Nat.{ℕ, zero, suc, _+_, _-_, _≤_}
+use native.Mathlib.Nat.{le-of-suc-le-suc, not-suc-le-zero}
+use native.Mathlib.Omega.{arith}
+use lib.Dec.{leb, eqb}
+use lib.ListN.{length, take, drop, replicate, length-take, length-drop, take-append-drop}
+use lib.Seq.{take-append-seam, length-take-le}
+use borrow.Author.Tests.{leb-true, eqb-true}
+use Rattle.paper.specs.Language.{⟨_/_/_⟩}
+use Rattle.paper.proofs.Relation.{both}
+use Rattle.house.specs.Order.{State}
+use Rattle.meaning.specs.declared.Configuration.{Configuration}
+use Rattle.meaning.specs.Card.{Bytes, layout}
+use Rattle.meaning.specs.Configurations.{padded, stateOf, configurationOf}
+use Rattle.meaning.specs.Refusals.{all, actionsGood, setGood, configurationGood}
+use Rattle.meaning.specs.Theorems.{ConfigurationLaws}
+
+pub take-padded : (π : List ℕ) → take (length π) (padded π) ≡ π
+unfolding padded
+take-padded π = take-append-seam π (replicate (1024 - length π) 0)
+
+all-zero : (xs : List ℕ) → all (λ x. eqb x 0) xs ≡ true → xs ≡ replicate (length xs) 0
+all-zero [] e = refl
+all-zero (x ∷ xs) e =
+    let (h, t) = both (eqb x 0) _ e in
+    ap₂ _∷_ (eqb-true x 0 h) (all-zero xs t)
+
+-- a plan's array with nothing but zeros after its end is the plan, padded
+pub padded-take : (d : List ℕ) (n : ℕ) → length d ≡ 1024 → n ≤ 1024 → all (λ x. eqb x 0) (drop n d) ≡ true → padded (take n d) ≡ d
+unfolding padded
+padded-take d n l h e =
+    let a : length (take n d) ≡ n = length-take-le n d (omega arith) in
+    let z : drop n d ≡ replicate (1024 - n) 0 = all-zero (drop n d) e ∙ ap (λ k. replicate k 0) (length-drop n d ∙ ap (λ k. k - n) l) in
+    ap (λ k. take n d ++ replicate (1024 - k) 0) a ∙ ap (λ r. take n d ++ r) (sym z) ∙ take-append-drop n d
+
+-- what row 13 leaves of a configuration
+pub record Good (b : Bytes) (c : Configuration) : Type 0 where
+  pub fits : c .length ≤ 1024
+  pub actions : actionsGood (layout b .actions) (take (c .length) (c .plan)) ≡ true
+  pub beliefs : setGood (layout b .atoms) (c .beliefs) ≡ true
+  pub goals : setGood (layout b .atoms) (c .goals) ≡ true
+  pub phase : c .phase ≤ 2
+  pub zeros : all (λ x. eqb x 0) (drop (c .length) (c .plan)) ≡ true
+
+pub good : (b : Bytes) (c : Configuration) → configurationGood b c ≡ true → Good b c
+unfolding configurationGood
+good b c e0 =
+    let (h1, e1) = both (leb (c .length) 1024) _ e0 in
+    let (h2, e2) = both (actionsGood (layout b .actions) (take (c .length) (c .plan))) _ e1 in
+    let (h3, e3) = both (setGood (layout b .atoms) (c .beliefs)) _ e2 in
+    let (h4, e4) = both (setGood (layout b .atoms) (c .goals)) _ e3 in
+    let (h5, e5) = both (leb (c .phase) 2) _ e4 in
+    record { fits = leb-true _ _ h1; actions = h2; beliefs = h3; goals = h4; phase = leb-true _ _ h5; zeros = e5 }
+
+of-state : (s : State) → length (s .mental .π) ≤ 1024 → stateOf (configurationOf s) ≡ s
+unfolding stateOf configurationOf
+of-state s h = λ i. record { mental = ⟨ s .mental .σ / take-padded (s .mental .π) i / s .mental .γ ⟩; phase = s .phase }
+
+of-configuration : (b : Bytes) (c : Configuration) → length (c .plan) ≡ 1024 → configurationGood b c ≡ true → configurationOf (stateOf c) ≡ c
+unfolding stateOf configurationOf
+of-configuration b c l e =
+    let g = good b c e in
+    let p : padded (take (c .length) (c .plan)) ≡ c .plan = padded-take (c .plan) (c .length) l (g .fits) (g .zeros) in
+    let f = g .fits in
+    let n : length (take (c .length) (c .plan)) ≡ c .length = length-take-le (c .length) (c .plan) (omega arith) in
+    λ i. record { beliefs = c .beliefs; goals = c .goals; plan = p i; length = n i; phase = c .phase }
+
+pub configuration-laws : ConfigurationLaws
+configuration-laws = record { of-state = of-state; of-configuration = of-configuration }

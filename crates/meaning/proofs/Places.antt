@@ -1,0 +1,118 @@
+-- A place saved and restored is the same state; an accepted place, restored and saved, is the same bytes.
+use mathlib.Core.Path.{_≡_, refl, ap, ap₂, _∙_, sym}
+use mathlib.Core.Bool.{Bool, true, false, not, _&&_}
+use mathlib.Core.List.{List, [], _∷_, _++_}
+use Prim.Native.Nat.{ℕ, zero, suc, _+_, _*_, _/_, _%_, _≤_, _<_}
+use native.Mathlib.Nat.{add-zero, mod-eq-of-lt}
+use native.Mathlib.Omega.{arith}
+use lib.Dec.{leb, ltb, eqb}
+use lib.ListN.{length, getD, take, drop, length-drop, length-take, take-append-drop}
+use lib.Seq.{take-at, drop-at, drop-drop, drop-cons}
+use borrow.Author.Tests.{leb-true, ltb-false, eqb-true, not-false}
+use Rattle.paper.specs.Language.{Plan, ⟨_/_/_⟩}
+use Rattle.paper.specs.Atoms.{Atoms}
+use Rattle.paper.specs.Theorems.{AreBytes}
+use Rattle.paper.proofs.Relation.{both}
+use Rattle.house.specs.Order.{State}
+use Rattle.meaning.specs.declared.Answer.the-variants.{Done}
+use Rattle.meaning.specs.Card.{Bytes, byte, number, part, layout}
+use Rattle.meaning.specs.Place.{twoBytes, placeHeader, place, placed}
+use Rattle.meaning.specs.Refusals.{firstGiven, placeTable, actionsGood, setGood}
+use Rattle.meaning.specs.Theorems.{PlaceLaws}
+use Rattle.meaning.proofs.Tables.{passes}
+
+saved-restored : (s : State) → length (s .mental .σ) ≡ 16 → length (s .mental .γ) ≡ 16 → s .phase ≤ 2 → placed (place s) ≡ s
+unfolding placed place placeHeader part
+saved-restored s h g f =
+    let σ = s .mental .σ in
+    let γ = s .mental .γ in
+    let π = s .mental .π in
+    let a : take 16 (σ ++ (γ ++ π)) ≡ σ = take-at σ (γ ++ π) 16 h in
+    let d : drop 16 (σ ++ (γ ++ π)) ≡ γ ++ π = drop-at σ (γ ++ π) 16 h in
+    let e : take 16 (drop 16 (σ ++ (γ ++ π))) ≡ γ = rw d (take-at γ π 16 g) in
+    let r : drop 32 (σ ++ (γ ++ π)) ≡ π = sym (drop-drop 16 16 (σ ++ (γ ++ π))) ∙ ap (drop 16) d ∙ drop-at γ π 16 g in
+    let k : s .phase % 256 + 256 * (s .phase / 256 % 256) ≡ s .phase = omega arith in
+    λ i. record { mental = ⟨ a i / r i / e i ⟩; phase = k i }
+
+-- ---- an accepted place's bytes
+
+-- n bytes from k on, one by one
+bytesFrom : Bytes → ℕ → ℕ → Bytes
+bytesFrom p k zero = []
+bytesFrom p k (suc n) = byte p k ∷ bytesFrom p (suc k) n
+
+front : (p : Bytes) (k n : ℕ) → k + n ≤ length p → drop k p ≡ bytesFrom p k n ++ drop (k + n) p
+unfolding bytesFrom
+front p k zero h = rw add-zero
+front p k (suc n) h =
+    let e : suc k + n ≡ k + suc n = omega arith in
+    drop-cons p k 0 (omega arith) ∙ ap (λ xs. byte p k ∷ xs) (front p (suc k) n (omega arith) ∙ ap (λ m. bytesFrom p (suc k) n ++ drop m p) e)
+
+-- what the rows of a place's header leave of it
+record Header (p : Bytes) : Type 0 where
+  long-enough : 44 ≤ length p
+  mark0 : byte p 0 ≡ 0x33
+  mark1 : byte p 1 ≡ 0x50
+  edition : number p 2 ≡ 1
+  short-plan : number p 4 ≤ 1024
+  phase : number p 8 ≤ 2
+  zeros : number p 10 ≡ 0
+  offset : number p 6 ≡ 44
+  ends : length p ≡ 44 + number p 4
+
+header : (b p : Bytes) → firstGiven (placeTable b) p ≡ Done → Header p
+unfolding placeTable
+header b p e0 =
+    let (h1, e1) = passes _ _ p e0 in
+    let (h2, e2) = passes _ _ p e1 in
+    let (h3, e3) = passes _ _ p e2 in
+    let (h4, e4) = passes _ _ p e3 in
+    let (m0, m) = both (eqb (byte p 0) 0x33) _ (not-false _ h2) in
+    let (m1, m2) = both (eqb (byte p 1) 0x50) _ m in
+    let (l, r) = both (leb (number p 4) 1024) _ (not-false _ h3) in
+    let (f, z) = both (leb (number p 8) 2) _ r in
+    let (o, t) = both (eqb (number p 6) 44) _ (not-false _ h4) in
+    record {
+      long-enough = ltb-false _ _ h1;
+      mark0 = eqb-true _ _ m0;
+      mark1 = eqb-true _ _ m1;
+      edition = eqb-true _ _ m2;
+      short-plan = leb-true _ _ l;
+      phase = leb-true _ _ f;
+      zeros = eqb-true _ _ z;
+      offset = eqb-true _ _ o;
+      ends = eqb-true _ _ t;
+    }
+
+same-header : (p : Bytes) → AreBytes p → Header p → (n f : ℕ) → n ≡ number p 4 → f ≡ number p 8 → placeHeader n f ≡ bytesFrom p 0 12
+unfolding placeHeader bytesFrom
+same-header p bs h n f l k =
+    let record { long-enough = _; mark0 = m0; mark1 = m1; edition = d; short-plan = s; phase = q; zeros = z; offset = o; ends = _ } = h in
+    let b4 = bs 4 in
+    let e2 : 1 ≡ byte p 2 = omega arith in
+    let e3 : 0 ≡ byte p 3 = omega arith in
+    let e4 : n % 256 ≡ byte p 4 = omega arith in
+    let high : n / 256 ≡ byte p 5 = omega arith in
+    let small : byte p 5 < 256 = omega arith in
+    let e5 : n / 256 % 256 ≡ byte p 5 = ap (λ m. m % 256) high ∙ mod-eq-of-lt small in
+    let e6 : 44 ≡ byte p 6 = omega arith in
+    let e7 : 0 ≡ byte p 7 = omega arith in
+    let e8 : f % 256 ≡ byte p 8 = omega arith in
+    let e9 : f / 256 % 256 ≡ byte p 9 = omega arith in
+    let e10 : 0 ≡ byte p 10 = omega arith in
+    let e11 : 0 ≡ byte p 11 = omega arith in
+    λ i. sym m0 i ∷ sym m1 i ∷ e2 i ∷ e3 i ∷ e4 i ∷ e5 i ∷ e6 i ∷ e7 i ∷ e8 i ∷ e9 i ∷ e10 i ∷ e11 i ∷ []
+
+restored-saved : (b p : Bytes) → AreBytes p → firstGiven (placeTable b) p ≡ Done → place (placed p) ≡ p
+unfolding placed place part
+restored-saved b p bs e =
+    let h = header b p e in
+    let l : length (drop 44 p) ≡ number p 4 = length-drop 44 p ∙ (let t = h .ends in omega arith) in
+    let q : placeHeader (length (drop 44 p)) (number p 8) ≡ bytesFrom p 0 12 = same-header p bs h (length (drop 44 p)) (number p 8) l refl in
+    let r : take 16 (drop 28 p) ++ drop 44 p ≡ drop 28 p = ap (λ x. take 16 (drop 28 p) ++ x) (sym (drop-drop 16 28 p)) ∙ take-append-drop 16 (drop 28 p) in
+    let s : take 16 (drop 12 p) ++ drop 28 p ≡ drop 12 p = ap (λ x. take 16 (drop 12 p) ++ x) (sym (drop-drop 16 12 p)) ∙ take-append-drop 16 (drop 12 p) in
+    let n = h .long-enough in
+    ap₂ _++_ q (ap (λ x. take 16 (drop 12 p) ++ x) r ∙ s) ∙ sym (front p 0 12 (omega arith))
+
+pub place-laws : PlaceLaws
+place-laws = record { saved-restored = saved-restored; restored-saved = restored-saved }

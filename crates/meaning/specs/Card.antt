@@ -1,0 +1,132 @@
+-- The card, edition 1: what its bytes stand for (document 01, "The card, edition 1").
+use mathlib.Core.Bool.{Bool}
+use mathlib.Core.List.{List, [], _∷_, _++_}
+use Prim.Native.Nat.{ℕ, zero, suc, _+_, _*_}
+use lib.ListN.{length, getD, take, drop}
+use Rattle.paper.specs.Atoms.{Atoms}
+use Rattle.paper.specs.Language.{Plan, Letter, 𝐁, 𝐆, Query, ⊤, atom, ¬′, _∧′_, _∨′_, Specification, Selection, Revision, Agent, ⟨_/_/_⟩}
+use Rattle.house.specs.Order.{State}
+use Rattle.meaning.specs.declared.Section.{Section}
+use Rattle.meaning.specs.declared.Span.{Span}
+use Rattle.meaning.specs.declared.Layout.{Layout}
+
+abbrev pub Bytes : Type 0
+Bytes = List ℕ
+
+-- the byte at a place; 0 past the end
+abbrev pub byte : Bytes → ℕ → ℕ
+byte b at = getD b at 0
+
+-- "Numbers are two bytes, low byte first"
+abbrev pub number : Bytes → ℕ → ℕ
+number b at = byte b at + 256 * byte b (at + 1)
+
+-- n bytes from a place on
+unfoldable pub part : Bytes → ℕ → ℕ → Bytes
+part b at n = take n (drop at b)
+
+abbrev pub section : Bytes → ℕ → Section
+section b at = record { count = number b at; offset = number b (at + 2) }
+
+abbrev pub span : Bytes → ℕ → Span
+span b at = record { start = number b at; length = number b (at + 2) }
+
+-- The header's table, row by row.
+unfoldable pub layout : Bytes → Layout
+layout b = record {
+  atoms = number b 4;
+  actions = number b 6;
+  nodes = section b 8;
+  specifications = section b 12;
+  selections = section b 16;
+  revisions = section b 20;
+  pool = section b 24;
+  initial = span b 28;
+}
+
+-- the entries of a section, each of a size: what is read at the place of each
+abbrev pub entriesFrom : {R : Type 0} → (ℕ → R) → ℕ → ℕ → ℕ → List R
+entriesFrom read size at zero = []
+entriesFrom read size at (suc n) = read at ∷ entriesFrom read size (at + size) n
+
+abbrev pub entries : {R : Type 0} → (ℕ → R) → ℕ → Section → List R
+entries read size s = entriesFrom read size (s .offset) (s .count)
+
+-- "64: weights, one for each action". An action that the card does not have weighs 1.
+unfoldable pub weights : Bytes → List ℕ
+weights b = entriesFrom (number b) 2 64 (layout b .actions)
+
+unfoldable pub weight : Bytes → ℕ → ℕ
+weight b a = getD (weights b) a 1
+
+-- "Node, 4 bytes: kind, a, b, 0."
+pub record Node : Type 0 where
+  pub kind : ℕ
+  pub a : ℕ
+  pub b : ℕ
+  pub last : ℕ
+
+unfoldable pub nodeAt : Bytes → ℕ → Node
+nodeAt b at = record { kind = byte b at; a = byte b (at + 1); b = byte b (at + 2); last = byte b (at + 3) }
+
+unfoldable pub nodes : Bytes → List Node
+nodes b = entries (nodeAt b) 4 (layout b .nodes)
+
+-- One pass over the nodes from the lowest upward: what is made of a node may use what was made of the lower ones. `make`
+-- is given the node's number, the node, and what was made so far; `other` stands for what was not made.
+module _ {X : Type 0} (make : ℕ → Node → (ℕ → X) → X) (other : X) where
+  abbrev pub passOn : List X → List Node → List X
+  passOn made [] = made
+  passOn made (n ∷ ns) = passOn (made ++ (make (length made) n (λ j. getD made j other) ∷ [])) ns
+
+  abbrev pub pass : List Node → List X
+  pass ns = passOn [] ns
+
+-- "Kind 0 true; 1 believes a; 2 has goal a; 3 not a; 4 a and b; 5 a or b." Of a belief condition every atom is of kind 1,
+-- and of a goal condition of kind 2. There is no kind 6.
+abbrev pub queryOf : {L : Letter} → ℕ → ℕ → ℕ → (ℕ → Query L) → Query L
+queryOf zero a b query = ⊤
+queryOf (suc zero) a b query = atom a
+queryOf (suc (suc zero)) a b query = atom a
+queryOf (suc (suc (suc zero))) a b query = ¬′ (query a)
+queryOf (suc (suc (suc (suc zero)))) a b query = query a ∧′ query b
+queryOf (suc (suc (suc (suc (suc zero))))) a b query = query a ∨′ query b
+queryOf (suc (suc (suc (suc (suc (suc k)))))) a b query = ⊤
+
+unfoldable pub queries : (L : Letter) → Bytes → List (Query L)
+queries L b = pass (λ i n query. queryOf (n .kind) (n .a) (n .b) query) ⊤ (nodes b)
+
+-- the condition that a node stands for
+unfoldable pub condition : (L : Letter) → Bytes → ℕ → Query L
+condition L b n = getD (queries L b) n ⊤
+
+-- "A plan is a start and a length in the pool"
+unfoldable pub plan : Bytes → Span → Plan
+plan b s = part b (layout b .pool .offset + s .start) (s .length)
+
+-- "Specification, 36 bytes: action, node, 0, 0, Add, Del."
+unfoldable pub specificationAt : Bytes → ℕ → Specification
+specificationAt b at = record { β = condition 𝐁 b (byte b (at + 1)); a = byte b at; Add = part b (at + 4) 16; Del = part b (at + 20) 16 }
+
+-- "Selection rule, 8 bytes: belief node, goal node, start, length, zero number."
+unfoldable pub selectionAt : Bytes → ℕ → Selection
+selectionAt b at = record { β = condition 𝐁 b (byte b at); κ = condition 𝐆 b (byte b (at + 1)); π = plan b (span b (at + 2)) }
+
+-- "Revision rule, 12 bytes: node, 0, head start, head length, body start, body length, zero number."
+unfoldable pub revisionAt : Bytes → ℕ → Revision
+revisionAt b at = record { πₕ = plan b (span b (at + 2)); β = condition 𝐁 b (byte b at); πb = plan b (span b (at + 6)) }
+
+-- "A card is an agent in 3APL" (the letter).
+unfoldable pub agent : Bytes → Agent
+agent b = record {
+  PS = entries (selectionAt b) 8 (layout b .selections);
+  PR = entries (revisionAt b) 12 (layout b .revisions);
+  AS = entries (specificationAt b) 36 (layout b .specifications);
+}
+
+unfoldable pub initialPlan : Bytes → Plan
+initialPlan b = plan b (layout b .initial)
+
+-- "Loading answers the card's initial beliefs, goals and plan with phase 0, and strikes no goal." They stand at 32 and 48.
+unfoldable pub start : Bytes → State
+start b = record { mental = ⟨ part b 32 16 / initialPlan b / part b 48 16 ⟩; phase = 0 }

@@ -1,0 +1,29 @@
+-- A configuration as it is handed in and out, and the state that it stands for (document 01, "A configuration and its
+-- transitions").
+use mathlib.Core.List.{List, [], _++_}
+use Prim.Native.Nat.{ℕ, _-_}
+use lib.ListN.{length, take, replicate}
+use Rattle.paper.specs.Language.{Plan, ⟨_/_/_⟩}
+use Rattle.house.specs.Order.{State}
+use Rattle.meaning.specs.Card.{Bytes}
+use Rattle.meaning.specs.declared.Configuration.{Configuration}
+
+-- a plan in its 1,024 bytes, with zeros after its end
+unfoldable pub padded : Plan → Bytes
+padded π = π ++ replicate (1024 - length π) 0
+
+unfoldable pub stateOf : Configuration → State
+stateOf c = record { mental = ⟨ c .beliefs / take (c .length) (c .plan) / c .goals ⟩; phase = c .phase }
+
+unfoldable pub configurationOf : State → Configuration
+configurationOf s = record {
+  beliefs = s .mental .σ;
+  goals = s .mental .γ;
+  plan = padded (s .mental .π);
+  length = length (s .mental .π);
+  phase = s .phase;
+}
+
+-- "the empty one (no atoms, empty plan, phase 0)"
+unfoldable pub empty : Configuration
+empty = configurationOf (record { mental = ⟨ replicate 16 0 / [] / replicate 16 0 ⟩; phase = 0 })

@@ -1,0 +1,103 @@
+-- The stripe card (document 01, "The stripe card"), put together from its parts, and the cards that its P cases vary.
+use mathlib.Core.List.{List, [], _∷_, _++_, map, flatten}
+use Prim.Native.Nat.{ℕ, _+_, _*_}
+use lib.ListN.{length, replicate}
+use Rattle.meaning.specs.Card.{Bytes}
+use Rattle.meaning.specs.Place.{twoBytes}
+
+-- the parts of a card, each entry as its bytes
+pub record Parts : Type 0 where
+  pub atoms : ℕ
+  pub weights : List ℕ
+  pub nodes : List Bytes
+  pub specifications : List Bytes
+  pub selections : List Bytes
+  pub revisions : List Bytes
+  pub pool : Bytes
+  pub beliefs : Bytes
+  pub goals : Bytes
+
+-- the card of some parts, with no initial plan (start 0, length 0)
+unfoldable pub assembled : Parts → Bytes
+assembled p =
+    let actions : ℕ = length (p .weights) in
+    let nodesAt : ℕ = 64 + 2 * actions in
+    let specificationsAt : ℕ = nodesAt + 4 * length (p .nodes) in
+    let selectionsAt : ℕ = specificationsAt + 36 * length (p .specifications) in
+    let revisionsAt : ℕ = selectionsAt + 8 * length (p .selections) in
+    let poolAt : ℕ = revisionsAt + 12 * length (p .revisions) in
+    0x33 ∷ 0x41
+    ∷ (flatten (map twoBytes (
+    1 ∷ p .atoms ∷ actions
+    ∷ length (p .nodes) ∷ nodesAt
+    ∷ length (p .specifications) ∷ specificationsAt
+    ∷ length (p .selections) ∷ selectionsAt
+    ∷ length (p .revisions) ∷ revisionsAt
+    ∷ length (p .pool) ∷ poolAt
+    ∷ 0 ∷ 0 ∷ []))
+    ++ (p .beliefs ++ (p .goals ++ (flatten (map twoBytes (p .weights))
+    ++ (flatten (p .nodes) ++ (flatten (p .specifications)
+    ++ (flatten (p .selections) ++ (flatten (p .revisions) ++ p .pool))))))))
+
+-- 16 bytes: a set whose atoms are below 8, by its first byte
+unfoldable pub set : ℕ → Bytes
+set n = n ∷ replicate 15 0
+
+unfoldable pub specification : ℕ → ℕ → ℕ → ℕ → Bytes
+specification action node add del = action ∷ node ∷ 0 ∷ 0 ∷ (set add ++ set del)
+
+unfoldable pub selection : ℕ → ℕ → ℕ → ℕ → Bytes
+selection belief goal start len = belief ∷ goal ∷ (twoBytes start ++ (twoBytes len ++ twoBytes 0))
+
+-- the node, then the head and the body, each by start and length
+unfoldable pub revision : ℕ → ℕ → ℕ → ℕ → ℕ → Bytes
+revision node headStart headLen bodyStart bodyLen =
+    node ∷ 0 ∷ (twoBytes headStart ++ (twoBytes headLen ++ (twoBytes bodyStart ++ (twoBytes bodyLen ++ twoBytes 0))))
+
+-- The stripe card, but for what the cases vary: the weight of weave, node 0, the Del of weave, revision 1 and the pool.
+unfoldable pub stripeWith : ℕ → Bytes → ℕ → Bytes → Bytes → Bytes
+stripeWith weave node0 del revision1 pool = assembled (record {
+  atoms = 4;
+  weights = weave ∷ 1 ∷ 1 ∷ 3 ∷ 5 ∷ [];
+  -- 0 true; 1 believes 1; 2 believes 3; 3 not 2; 4 1 and 3; 5 has goal 2
+  nodes = node0 ∷ (1 ∷ 1 ∷ 0 ∷ 0 ∷ []) ∷ (1 ∷ 3 ∷ 0 ∷ 0 ∷ []) ∷ (3 ∷ 2 ∷ 0 ∷ 0 ∷ []) ∷ (4 ∷ 1 ∷ 3 ∷ 0 ∷ []) ∷ (2 ∷ 2 ∷ 0 ∷ 0 ∷ []) ∷ [];
+  -- 0 weave if node 4, Add {2}, Del {1}; 1 wind if true, Add {1}; 2 repair if node 2, Del {3}
+  specifications = specification 0 4 4 del ∷ specification 1 0 2 0 ∷ specification 2 2 0 8 ∷ [];
+  -- true, node 5, plan 4
+  selections = selection 0 5 0 1 ∷ [];
+  -- 0: 4, true, becomes 1 3; 1: 3, node 2, becomes 2 0; 2: 3, node 3, becomes 0
+  revisions = revision 0 0 1 1 2 ∷ revision1 ∷ revision 3 2 1 4 1 ∷ [];
+  pool = pool;
+  -- beliefs {0, 3}, goals {2}
+  beliefs = set 9;
+  goals = set 4;
+})
+
+abbrev true-node : Bytes
+true-node = 0 ∷ 0 ∷ 0 ∷ 0 ∷ []
+
+abbrev its-pool : Bytes
+its-pool = 4 ∷ 1 ∷ 3 ∷ 2 ∷ 0 ∷ []
+
+unfoldable pub stripe : Bytes
+stripe = stripeWith 1 (true-node) 2 (revision 2 2 1 3 2) its-pool
+
+-- P4: weave's Del is {2}
+unfoldable pub stripe-P4 : Bytes
+stripe-P4 = stripeWith 1 true-node 4 (revision 2 2 1 3 2) its-pool
+
+-- P5: revision 1's head is 3 0, which stands at the end of a longer pool
+unfoldable pub stripe-P5 : Bytes
+stripe-P5 = stripeWith 1 true-node 2 (revision 2 5 2 3 2) (its-pool ++ (3 ∷ 0 ∷ []))
+
+-- P9: revision 1's body is empty
+unfoldable pub stripe-P9 : Bytes
+stripe-P9 = stripeWith 1 true-node 2 (revision 2 2 1 3 0) its-pool
+
+-- P10: weave weighs 2, and so revision 1's body, 2 0, weighs 3
+unfoldable pub stripe-P10 : Bytes
+stripe-P10 = stripeWith 2 true-node 2 (revision 2 2 1 3 2) its-pool
+
+-- P13: node 0 is "not 0"
+unfoldable pub stripe-P13 : Bytes
+stripe-P13 = stripeWith 1 (3 ∷ 0 ∷ 0 ∷ 0 ∷ []) 2 (revision 2 2 1 3 2) its-pool
