@@ -1,18 +1,20 @@
 -- What an accepted card has passed, and what follows for its agent.
 use mathlib.Core.Path.{_≡_, refl, ap, _∙_, sym}
 use mathlib.Core.Bool.{Bool, true, false, not, _&&_}
-use mathlib.Core.List.{List, [], _∷_}
+use mathlib.Core.List.{List, [], _∷_, map}
 use Prim.Native.Nat.{ℕ, zero, suc, _+_, _≤_, _<_}
 use native.Mathlib.Omega.{arith}
 use lib.Dec.{leb}
-use lib.ListN.{length, getD}
+use lib.ListN.{length, getD, length-map}
 use borrow.Author.Tests.{leb-true, not-false}
 use Rattle.paper.proofs.Relation.{both}
+use Rattle.house.specs.Order.{numbers}
 use Rattle.house.specs.Theorems.{Numbered}
 use Rattle.house.proofs.Weight.{bounded-law}
 use Rattle.meaning.specs.declared.Answer.the-variants.{Done, Refused}
+use Rattle.meaning.specs.declared.Section.{Section}
 use Rattle.meaning.specs.declared.Layout.{Layout}
-use Rattle.meaning.specs.Card.{Bytes, layout, entriesFrom, weights, weight, agent, initialPlan, selectionAt, specificationAt}
+use Rattle.meaning.specs.Card.{Bytes, layout, entryAt, entries, weightAt, weights, weight, agentOf, agent, initialPlan}
 use Rattle.meaning.specs.Refusals.{all, within, countsGood, weightsGood, cardTable, cardAnswer}
 use Rattle.meaning.specs.Theorems.{Accepted, CardLaws}
 use Rattle.meaning.proofs.Tables.{passes}
@@ -85,29 +87,33 @@ counts l e0 =
 
 -- ---- its agent
 
-pub entries-length : {R : Type 0} (read : ℕ → R) (size at n : ℕ) → length (entriesFrom read size at n) ≡ n
-entries-length read size at zero = refl
-entries-length read size at (suc n) = ap suc (entries-length read size (at + size) n)
+pub length-numbers : (k n : ℕ) → length (numbers k n) ≡ n
+unfolding numbers
+length-numbers k zero = refl
+length-numbers k (suc n) = ap suc (length-numbers (suc k) n)
+
+pub length-entries : {R : Type 0} (read : ℕ → R) (size : ℕ) (s : Section) → length (entries read size s) ≡ s .count
+length-entries read size s = length-map (numbers 0 (s .count)) (λ i. read (entryAt size s i)) ∙ length-numbers 0 (s .count)
 
 numbered : (b : Bytes) → countsGood (layout b) ≡ true → Numbered (agent b)
-unfolding agent
+unfolding agent agentOf
 numbered b e =
     let c = counts (layout b) e in
     record {
-      selections = rw (entries-length (selectionAt b) 8 (layout b .selections .offset) (layout b .selections .count)) (c .selections);
-      specifications = rw (entries-length (specificationAt b) 36 (layout b .specifications .offset) (layout b .specifications .count)) (c .specifications);
+      selections = rw (length-entries _ 8 (layout b .selections)) (c .selections);
+      specifications = rw (length-entries _ 36 (layout b .specifications)) (c .specifications);
     }
 
 -- ---- its weights
 
-at-least-one : (ws : List ℕ) (a : ℕ) → all (within 1 1024) ws ≡ true → 1 ≤ getD ws a 1
-at-least-one [] a e = omega arith
-at-least-one (w ∷ ws) zero e = within-low 1 1024 w (both (within 1 1024 w) _ e .0)
-at-least-one (w ∷ ws) (suc a) e = at-least-one ws a (both (within 1 1024 w) _ e .1)
+at-least-one : (f : ℕ → ℕ) (ns : List ℕ) (a : ℕ) → all (λ i. within 1 1024 (f i)) ns ≡ true → 1 ≤ getD (map f ns) a 1
+at-least-one f [] a e = omega arith
+at-least-one f (n ∷ ns) zero e = within-low 1 1024 (f n) (both (within 1 1024 (f n)) _ e .0)
+at-least-one f (n ∷ ns) (suc a) e = at-least-one f ns a (both (within 1 1024 (f n)) _ e .1)
 
-pub weighs-something : (b : Bytes) → weightsGood b ≡ true → (a : ℕ) → 1 ≤ weight b a
-unfolding weight weightsGood
-weighs-something b e a = at-least-one (weights b) a e
+pub weighs-something : (b : Bytes) → weightsGood (layout b) b ≡ true → (a : ℕ) → 1 ≤ weight b a
+unfolding weight weights weightsGood
+weighs-something b e a = at-least-one (weightAt b) (numbers 0 (layout b .actions)) a e
 
 pub card-laws : (b : Bytes) → cardAnswer b ≡ Done → CardLaws b
 card-laws b e =

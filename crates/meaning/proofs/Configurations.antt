@@ -12,8 +12,9 @@ use borrow.Author.Tests.{leb-true, eqb-true}
 use Rattle.paper.specs.Language.{⟨_/_/_⟩}
 use Rattle.paper.proofs.Relation.{both}
 use Rattle.house.specs.Order.{State}
+use Rattle.meaning.specs.declared.Layout.{Layout}
 use Rattle.meaning.specs.declared.Configuration.{Configuration}
-use Rattle.meaning.specs.Card.{Bytes, layout}
+use Rattle.meaning.specs.Card.{Bytes}
 use Rattle.meaning.specs.Configurations.{padded, stateOf, configurationOf}
 use Rattle.meaning.specs.Refusals.{all, actionsGood, setGood, configurationGood}
 use Rattle.meaning.specs.Theorems.{ConfigurationLaws}
@@ -37,21 +38,21 @@ padded-take d n l h e =
     ap (λ k. take n d ++ replicate (1024 - k) 0) a ∙ ap (λ r. take n d ++ r) (sym z) ∙ take-append-drop n d
 
 -- what row 13 leaves of a configuration
-pub record Good (b : Bytes) (c : Configuration) : Type 0 where
+pub record Good (l : Layout) (c : Configuration) : Type 0 where
   pub fits : c .length ≤ 1024
-  pub actions : actionsGood (layout b .actions) (take (c .length) (c .plan)) ≡ true
-  pub beliefs : setGood (layout b .atoms) (c .beliefs) ≡ true
-  pub goals : setGood (layout b .atoms) (c .goals) ≡ true
+  pub actions : actionsGood (l .actions) (take (c .length) (c .plan)) ≡ true
+  pub beliefs : setGood (l .atoms) (c .beliefs) ≡ true
+  pub goals : setGood (l .atoms) (c .goals) ≡ true
   pub phase : c .phase ≤ 2
   pub zeros : all (λ x. eqb x 0) (drop (c .length) (c .plan)) ≡ true
 
-pub good : (b : Bytes) (c : Configuration) → configurationGood b c ≡ true → Good b c
+pub good : (l : Layout) (c : Configuration) → configurationGood l c ≡ true → Good l c
 unfolding configurationGood
-good b c e0 =
+good l c e0 =
     let (h1, e1) = both (leb (c .length) 1024) _ e0 in
-    let (h2, e2) = both (actionsGood (layout b .actions) (take (c .length) (c .plan))) _ e1 in
-    let (h3, e3) = both (setGood (layout b .atoms) (c .beliefs)) _ e2 in
-    let (h4, e4) = both (setGood (layout b .atoms) (c .goals)) _ e3 in
+    let (h2, e2) = both (actionsGood (l .actions) (take (c .length) (c .plan))) _ e1 in
+    let (h3, e3) = both (setGood (l .atoms) (c .beliefs)) _ e2 in
+    let (h4, e4) = both (setGood (l .atoms) (c .goals)) _ e3 in
     let (h5, e5) = both (leb (c .phase) 2) _ e4 in
     record { fits = leb-true _ _ h1; actions = h2; beliefs = h3; goals = h4; phase = leb-true _ _ h5; zeros = e5 }
 
@@ -59,11 +60,11 @@ of-state : (s : State) → length (s .mental .π) ≤ 1024 → stateOf (configur
 unfolding stateOf configurationOf
 of-state s h = λ i. record { mental = ⟨ s .mental .σ / take-padded (s .mental .π) i / s .mental .γ ⟩; phase = s .phase }
 
-of-configuration : (b : Bytes) (c : Configuration) → length (c .plan) ≡ 1024 → configurationGood b c ≡ true → configurationOf (stateOf c) ≡ c
+of-configuration : (l : Layout) (c : Configuration) → length (c .plan) ≡ 1024 → configurationGood l c ≡ true → configurationOf (stateOf c) ≡ c
 unfolding stateOf configurationOf
-of-configuration b c l e =
-    let g = good b c e in
-    let p : padded (take (c .length) (c .plan)) ≡ c .plan = padded-take (c .plan) (c .length) l (g .fits) (g .zeros) in
+of-configuration l c r e =
+    let g = good l c e in
+    let p : padded (take (c .length) (c .plan)) ≡ c .plan = padded-take (c .plan) (c .length) r (g .fits) (g .zeros) in
     let f = g .fits in
     let n : length (take (c .length) (c .plan)) ≡ c .length = length-take-le (c .length) (c .plan) (omega arith) in
     λ i. record { beliefs = c .beliefs; goals = c .goals; plan = p i; length = n i; phase = c .phase }

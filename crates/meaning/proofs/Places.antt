@@ -14,8 +14,9 @@ use Rattle.paper.specs.Atoms.{Atoms}
 use Rattle.paper.specs.Theorems.{AreBytes}
 use Rattle.paper.proofs.Relation.{both}
 use Rattle.house.specs.Order.{State}
+use Rattle.meaning.specs.declared.Layout.{Layout}
 use Rattle.meaning.specs.declared.Answer.the-variants.{Done}
-use Rattle.meaning.specs.Card.{Bytes, byte, number, part, layout}
+use Rattle.meaning.specs.Card.{Bytes, byte, number, part}
 use Rattle.meaning.specs.Place.{twoBytes, placeHeader, place, placed}
 use Rattle.meaning.specs.Refusals.{firstGiven, placeTable, actionsGood, setGood}
 use Rattle.meaning.specs.Theorems.{PlaceLaws}
@@ -60,9 +61,9 @@ record Header (p : Bytes) : Type 0 where
   offset : number p 6 ≡ 44
   ends : length p ≡ 44 + number p 4
 
-header : (b p : Bytes) → firstGiven (placeTable b) p ≡ Done → Header p
+header : (y : Layout) (p : Bytes) → firstGiven (placeTable y) p ≡ Done → Header p
 unfolding placeTable
-header b p e0 =
+header y p e0 =
     let (h1, e1) = passes _ _ p e0 in
     let (h2, e2) = passes _ _ p e1 in
     let (h3, e3) = passes _ _ p e2 in
@@ -103,10 +104,10 @@ same-header p bs h n f l k =
     let e11 : 0 ≡ byte p 11 = omega arith in
     λ i. sym m0 i ∷ sym m1 i ∷ e2 i ∷ e3 i ∷ e4 i ∷ e5 i ∷ e6 i ∷ e7 i ∷ e8 i ∷ e9 i ∷ e10 i ∷ e11 i ∷ []
 
-restored-saved : (b p : Bytes) → AreBytes p → firstGiven (placeTable b) p ≡ Done → place (placed p) ≡ p
+restored-saved : (y : Layout) (p : Bytes) → AreBytes p → firstGiven (placeTable y) p ≡ Done → place (placed p) ≡ p
 unfolding placed place part
-restored-saved b p bs e =
-    let h = header b p e in
+restored-saved y p bs e =
+    let h = header y p e in
     let l : length (drop 44 p) ≡ number p 4 = length-drop 44 p ∙ (let t = h .ends in omega arith) in
     let q : placeHeader (length (drop 44 p)) (number p 8) ≡ bytesFrom p 0 12 = same-header p bs h (length (drop 44 p)) (number p 8) l refl in
     let r : take 16 (drop 28 p) ++ drop 44 p ≡ drop 28 p = ap (λ x. take 16 (drop 28 p) ++ x) (sym (drop-drop 16 28 p)) ∙ take-append-drop 16 (drop 28 p) in

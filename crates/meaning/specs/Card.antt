@@ -1,11 +1,10 @@
 -- The card, edition 1: what its bytes stand for (document 01, "The card, edition 1").
-use mathlib.Core.Bool.{Bool}
-use mathlib.Core.List.{List, [], _∷_, _++_}
+use mathlib.Core.List.{List, [], _∷_, _++_, map}
 use Prim.Native.Nat.{ℕ, zero, suc, _+_, _*_}
 use lib.ListN.{length, getD, take, drop}
 use Rattle.paper.specs.Atoms.{Atoms}
 use Rattle.paper.specs.Language.{Plan, Letter, 𝐁, 𝐆, Query, ⊤, atom, ¬′, _∧′_, _∨′_, Specification, Selection, Revision, Agent, ⟨_/_/_⟩}
-use Rattle.house.specs.Order.{State}
+use Rattle.house.specs.Order.{State, numbers}
 use Rattle.meaning.specs.declared.Section.{Section}
 use Rattle.meaning.specs.declared.Span.{Span}
 use Rattle.meaning.specs.declared.Layout.{Layout}
@@ -44,20 +43,20 @@ layout b = record {
   initial = span b 28;
 }
 
--- the entries of a section, each of a size: what is read at the place of each
-abbrev pub entriesFrom : {R : Type 0} → (ℕ → R) → ℕ → ℕ → ℕ → List R
-entriesFrom read size at zero = []
-entriesFrom read size at (suc n) = read at ∷ entriesFrom read size (at + size) n
+-- entry number i of a section starts at the section's offset plus i sizes
+abbrev pub entryAt : ℕ → Section → ℕ → ℕ
+entryAt size s i = s .offset + size * i
 
+-- the entries of a section in their order: what is read at the place of each
 abbrev pub entries : {R : Type 0} → (ℕ → R) → ℕ → Section → List R
-entries read size s = entriesFrom read size (s .offset) (s .count)
+entries read size s = map (λ i. read (entryAt size s i)) (numbers 0 (s .count))
 
 -- "64: weights, one for each action". An action that the card does not have weighs 1.
-unfoldable pub weights : Bytes → List ℕ
-weights b = entriesFrom (number b) 2 64 (layout b .actions)
+abbrev pub weightAt : Bytes → ℕ → ℕ
+weightAt b a = number b (64 + 2 * a)
 
-unfoldable pub weight : Bytes → ℕ → ℕ
-weight b a = getD (weights b) a 1
+unfoldable pub weights : Layout → Bytes → List ℕ
+weights l b = map (weightAt b) (numbers 0 (l .actions))
 
 -- "Node, 4 bytes: kind, a, b, 0."
 pub record Node : Type 0 where
@@ -69,8 +68,8 @@ pub record Node : Type 0 where
 unfoldable pub nodeAt : Bytes → ℕ → Node
 nodeAt b at = record { kind = byte b at; a = byte b (at + 1); b = byte b (at + 2); last = byte b (at + 3) }
 
-unfoldable pub nodes : Bytes → List Node
-nodes b = entries (nodeAt b) 4 (layout b .nodes)
+unfoldable pub nodes : Layout → Bytes → List Node
+nodes l b = entries (nodeAt b) 4 (l .nodes)
 
 -- One pass over the nodes from the lowest upward: what is made of a node may use what was made of the lower ones. `make`
 -- is given the node's number, the node, and what was made so far; `other` stands for what was not made.
@@ -93,39 +92,45 @@ queryOf (suc (suc (suc (suc zero)))) a b query = query a ∧′ query b
 queryOf (suc (suc (suc (suc (suc zero))))) a b query = query a ∨′ query b
 queryOf (suc (suc (suc (suc (suc (suc k)))))) a b query = ⊤
 
-unfoldable pub queries : (L : Letter) → Bytes → List (Query L)
-queries L b = pass (λ i n query. queryOf (n .kind) (n .a) (n .b) query) ⊤ (nodes b)
+-- the condition that each node stands for, as a belief condition or as a goal condition
+unfoldable pub conditions : (L : Letter) → Layout → Bytes → List (Query L)
+conditions L l b = pass (λ i n query. queryOf (n .kind) (n .a) (n .b) query) ⊤ (nodes l b)
 
--- the condition that a node stands for
-unfoldable pub condition : (L : Letter) → Bytes → ℕ → Query L
-condition L b n = getD (queries L b) n ⊤
+abbrev pub condition : {L : Letter} → List (Query L) → ℕ → Query L
+condition qs n = getD qs n ⊤
 
 -- "A plan is a start and a length in the pool"
-unfoldable pub plan : Bytes → Span → Plan
-plan b s = part b (layout b .pool .offset + s .start) (s .length)
+unfoldable pub plan : Layout → Bytes → Span → Plan
+plan l b s = part b (l .pool .offset + s .start) (s .length)
 
 -- "Specification, 36 bytes: action, node, 0, 0, Add, Del."
-unfoldable pub specificationAt : Bytes → ℕ → Specification
-specificationAt b at = record { β = condition 𝐁 b (byte b (at + 1)); a = byte b at; Add = part b (at + 4) 16; Del = part b (at + 20) 16 }
+unfoldable pub specificationAt : List (Query 𝐁) → Bytes → ℕ → Specification
+specificationAt βs b at = record { β = condition βs (byte b (at + 1)); a = byte b at; Add = part b (at + 4) 16; Del = part b (at + 20) 16 }
 
 -- "Selection rule, 8 bytes: belief node, goal node, start, length, zero number."
-unfoldable pub selectionAt : Bytes → ℕ → Selection
-selectionAt b at = record { β = condition 𝐁 b (byte b at); κ = condition 𝐆 b (byte b (at + 1)); π = plan b (span b (at + 2)) }
+unfoldable pub selectionAt : List (Query 𝐁) → List (Query 𝐆) → Layout → Bytes → ℕ → Selection
+selectionAt βs κs l b at = record { β = condition βs (byte b at); κ = condition κs (byte b (at + 1)); π = plan l b (span b (at + 2)) }
 
 -- "Revision rule, 12 bytes: node, 0, head start, head length, body start, body length, zero number."
-unfoldable pub revisionAt : Bytes → ℕ → Revision
-revisionAt b at = record { πₕ = plan b (span b (at + 2)); β = condition 𝐁 b (byte b at); πb = plan b (span b (at + 6)) }
+unfoldable pub revisionAt : List (Query 𝐁) → Layout → Bytes → ℕ → Revision
+revisionAt βs l b at = record { πₕ = plan l b (span b (at + 2)); β = condition βs (byte b at); πb = plan l b (span b (at + 6)) }
+
+unfoldable pub agentOf : List (Query 𝐁) → List (Query 𝐆) → Layout → Bytes → Agent
+agentOf βs κs l b = record {
+  PS = entries (selectionAt βs κs l b) 8 (l .selections);
+  PR = entries (revisionAt βs l b) 12 (l .revisions);
+  AS = entries (specificationAt βs b) 36 (l .specifications);
+}
 
 -- "A card is an agent in 3APL" (the letter).
 unfoldable pub agent : Bytes → Agent
-agent b = record {
-  PS = entries (selectionAt b) 8 (layout b .selections);
-  PR = entries (revisionAt b) 12 (layout b .revisions);
-  AS = entries (specificationAt b) 36 (layout b .specifications);
-}
+agent b = agentOf (conditions 𝐁 (layout b) b) (conditions 𝐆 (layout b) b) (layout b) b
+
+unfoldable pub weight : Bytes → ℕ → ℕ
+weight b a = getD (weights (layout b) b) a 1
 
 unfoldable pub initialPlan : Bytes → Plan
-initialPlan b = plan b (layout b .initial)
+initialPlan b = plan (layout b) b (layout b .initial)
 
 -- "Loading answers the card's initial beliefs, goals and plan with phase 0, and strikes no goal." They stand at 32 and 48.
 unfoldable pub start : Bytes → State

@@ -13,7 +13,7 @@ use Rattle.meaning.specs.declared.Section.{Section}
 use Rattle.meaning.specs.declared.Span.{Span}
 use Rattle.meaning.specs.declared.Layout.{Layout}
 use Rattle.meaning.specs.declared.Configuration.{Configuration}
-use Rattle.meaning.specs.Card.{Bytes, byte, number, part, span, layout, entriesFrom, entries, weights, Node, nodes, pass}
+use Rattle.meaning.specs.Card.{Bytes, byte, number, part, span, layout, entryAt, weightAt, Node, nodeAt, nodes, pass}
 
 -- "no."
 unfoldable pub numberOf : Refusal → ℕ
@@ -59,10 +59,13 @@ abbrev pub all : {X : Type 0} → (X → Bool) → List X → Bool
 all good [] = true
 all good (x ∷ xs) = good x && all good xs
 
--- every entry of a list, with its number from i on
-abbrev pub allFrom : {X : Type 0} → (ℕ → X → Bool) → ℕ → List X → Bool
-allFrom good i [] = true
-allFrom good i (x ∷ xs) = good i x && allFrom good (suc i) xs
+-- every number below n
+abbrev pub every : ℕ → (ℕ → Bool) → Bool
+every n good = all good (numbers 0 n)
+
+-- every entry of a section, by its place
+abbrev pub everyEntry : ℕ → Section → (ℕ → Bool) → Bool
+everyEntry size s good = every (s .count) (λ i. good (entryAt size s i))
 
 abbrev pub within : ℕ → ℕ → ℕ → Bool
 within low high n = leb low n && leb n high
@@ -103,8 +106,8 @@ offsetsGood l n =
     && eqb n (endOf 1 (l .pool))))))
 
 -- 5: "a weight is 0 or over 1,024"
-unfoldable pub weightsGood : Bytes → Bool
-weightsGood b = all (within 1 1024) (weights b)
+unfoldable pub weightsGood : Layout → Bytes → Bool
+weightsGood l b = every (l .actions) (λ a. within 1 1024 (weightAt b a))
 
 -- 6: "a node breaks its rule above". Node i of a card with n atoms: "Kind 0 true (a = b = 0); 1 believes a; 2 has goal a (in
 -- both b = 0 and a is below the number of atoms); 3 not a (b = 0); 4 a and b; 5 a or b. A child's number is lower than the
@@ -121,11 +124,11 @@ kindGood n i (suc (suc (suc (suc (suc (suc k)))))) a b = false
 abbrev pub nodeGood : ℕ → ℕ → Node → Bool
 nodeGood n i x = kindGood n i (x .kind) (x .a) (x .b) && eqb (x .last) 0
 
-unfoldable pub nodesGood : Bytes → Bool
-nodesGood b = allFrom (nodeGood (layout b .atoms)) 0 (nodes b)
+unfoldable pub nodesGood : Layout → Bytes → Bool
+nodesGood l b = every (l .nodes .count) (λ i. nodeGood (l .atoms) i (nodeAt b (entryAt 4 (l .nodes) i)))
 
--- whether an atom of a kind (1 believes, 2 has goal) stands in the condition of a node: "A belief condition contains no goal
--- atom, and a goal condition no belief atom."
+-- For each node, whether an atom of a kind (1 believes, 2 has goal) stands in its condition: "A belief condition contains no
+-- goal atom, and a goal condition no belief atom."
 abbrev pub containsOf : ℕ → ℕ → ℕ → ℕ → (ℕ → Bool) → Bool
 containsOf kind zero a b contains = false
 containsOf kind (suc zero) a b contains = eqb kind 1
@@ -133,54 +136,48 @@ containsOf kind (suc (suc zero)) a b contains = eqb kind 2
 containsOf kind (suc (suc (suc zero))) a b contains = contains a
 containsOf kind (suc (suc (suc (suc k)))) a b contains = contains a || contains b
 
-unfoldable pub contains : ℕ → Bytes → ℕ → Bool
-contains kind b n = getD (pass (λ i x c. containsOf kind (x .kind) (x .a) (x .b) c) false (nodes b)) n false
+unfoldable pub containing : ℕ → Layout → Bytes → List Bool
+containing kind l b = pass (λ i x contains. containsOf kind (x .kind) (x .a) (x .b) contains) false (nodes l b)
 
--- a known node whose condition is of the right kind
-unfoldable pub beliefCondition : Bytes → ℕ → Bool
-beliefCondition b n = ltb n (layout b .nodes .count) && not (contains 2 b n)
-
-unfoldable pub goalCondition : Bytes → ℕ → Bool
-goalCondition b n = ltb n (layout b .nodes .count) && not (contains 1 b n)
+-- a known node whose condition contains no atom of the other kind
+abbrev pub conditionGood : Layout → List Bool → ℕ → Bool
+conditionGood l others n = ltb n (l .nodes .count) && not (getD others n false)
 
 -- "start plus length at most the pool's bytes", and a length from least to 1,024
-unfoldable pub spanGood : ℕ → ℕ → Span → Bool
-spanGood pool least s = within least 1024 (s .length) && leb (s .start + s .length) pool
+abbrev pub spanGood : Layout → ℕ → Span → Bool
+spanGood l least s = within least 1024 (s .length) && leb (s .start + s .length) (l .pool .count)
 
 -- 7: "an entry or the initial plan breaks its rule: unknown action or node, condition of the wrong kind, plan outside the
--- pool, length out of range, a zero field not zero"
-unfoldable pub specificationGood : Bytes → ℕ → Bool
-specificationGood b at =
-    ltb (byte b at) (layout b .actions)
-    && (beliefCondition b (byte b (at + 1))
+-- pool, length out of range, a zero field not zero". gs tells the nodes that contain a goal atom, bs those that contain a
+-- belief atom.
+unfoldable pub specificationGood : List Bool → Layout → Bytes → ℕ → Bool
+specificationGood gs l b at =
+    ltb (byte b at) (l .actions)
+    && (conditionGood l gs (byte b (at + 1))
     && (eqb (byte b (at + 2)) 0
     && eqb (byte b (at + 3)) 0))
 
-unfoldable pub selectionGood : Bytes → ℕ → Bool
-selectionGood b at =
-    beliefCondition b (byte b at)
-    && (goalCondition b (byte b (at + 1))
-    && (spanGood (layout b .pool .count) 1 (span b (at + 2))
+unfoldable pub selectionGood : List Bool → List Bool → Layout → Bytes → ℕ → Bool
+selectionGood bs gs l b at =
+    conditionGood l gs (byte b at)
+    && (conditionGood l bs (byte b (at + 1))
+    && (spanGood l 1 (span b (at + 2))
     && eqb (number b (at + 6)) 0))
 
-unfoldable pub revisionGood : Bytes → ℕ → Bool
-revisionGood b at =
-    beliefCondition b (byte b at)
+unfoldable pub revisionGood : List Bool → Layout → Bytes → ℕ → Bool
+revisionGood gs l b at =
+    conditionGood l gs (byte b at)
     && (eqb (byte b (at + 1)) 0
-    && (spanGood (layout b .pool .count) 1 (span b (at + 2))
-    && (spanGood (layout b .pool .count) 0 (span b (at + 6))
+    && (spanGood l 1 (span b (at + 2))
+    && (spanGood l 0 (span b (at + 6))
     && eqb (number b (at + 10)) 0)))
 
--- every entry of a section, by its place
-abbrev pub allEntries : (ℕ → Bool) → ℕ → Section → Bool
-allEntries good size s = all good (entries (λ at. at) size s)
-
-unfoldable pub rulesGood : Bytes → Bool
-rulesGood b =
-    allEntries (specificationGood b) 36 (layout b .specifications)
-    && (allEntries (selectionGood b) 8 (layout b .selections)
-    && (allEntries (revisionGood b) 12 (layout b .revisions)
-    && spanGood (layout b .pool .count) 0 (layout b .initial)))
+unfoldable pub rulesGood : List Bool → List Bool → Layout → Bytes → Bool
+rulesGood bs gs l b =
+    everyEntry 36 (l .specifications) (specificationGood gs l b)
+    && (everyEntry 8 (l .selections) (selectionGood bs gs l b)
+    && (everyEntry 12 (l .revisions) (revisionGood gs l b)
+    && spanGood l 0 (l .initial)))
 
 -- 8: "a pool or plan byte is not below the number of actions"
 unfoldable pub actionsGood : ℕ → Bytes → Bool
@@ -190,11 +187,14 @@ actionsGood n π = all (λ a. ltb a n) π
 unfoldable pub setGood : ℕ → Atoms → Bool
 setGood n s = all (λ k. not (k ∈ s)) (numbers n (8 * length s - n))
 
-unfoldable pub setsGood : Bytes → Bool
-setsGood b =
-    setGood (layout b .atoms) (part b 32 16)
-    && (setGood (layout b .atoms) (part b 48 16)
-    && allEntries (λ at. setGood (layout b .atoms) (part b (at + 4) 16) && setGood (layout b .atoms) (part b (at + 20) 16)) 36 (layout b .specifications))
+unfoldable pub setsGood : Layout → Bytes → Bool
+setsGood l b =
+    setGood (l .atoms) (part b 32 16)
+    && (setGood (l .atoms) (part b 48 16)
+    && everyEntry 36 (l .specifications) (λ at. setGood (l .atoms) (part b (at + 4) 16) && setGood (l .atoms) (part b (at + 20) 16)))
+
+abbrev pub pool : Layout → Bytes → Bytes
+pool l b = part b (l .pool .offset) (l .pool .count)
 
 unfoldable pub cardTable : List (Row Bytes)
 cardTable =
@@ -202,11 +202,11 @@ cardTable =
     ∷ (Refusal.Mark given-when cardMark)
     ∷ (Refusal.Count given-when (λ b. not (countsGood (layout b))))
     ∷ (Refusal.Offsets given-when (λ b. not (offsetsGood (layout b) (length b))))
-    ∷ (Refusal.Weight given-when (λ b. not (weightsGood b)))
-    ∷ (Refusal.Node given-when (λ b. not (nodesGood b)))
-    ∷ (Refusal.Rule given-when (λ b. not (rulesGood b)))
-    ∷ (Refusal.ActionByte given-when (λ b. not (actionsGood (layout b .actions) (part b (layout b .pool .offset) (layout b .pool .count)))))
-    ∷ (Refusal.Atom given-when (λ b. not (setsGood b)))
+    ∷ (Refusal.Weight given-when (λ b. not (weightsGood (layout b) b)))
+    ∷ (Refusal.Node given-when (λ b. not (nodesGood (layout b) b)))
+    ∷ (Refusal.Rule given-when (λ b. not (rulesGood (containing 1 (layout b) b) (containing 2 (layout b) b) (layout b) b)))
+    ∷ (Refusal.ActionByte given-when (λ b. not (actionsGood (layout b .actions) (pool (layout b) b))))
+    ∷ (Refusal.Atom given-when (λ b. not (setsGood (layout b) b)))
     ∷ []
 
 unfoldable pub cardAnswer : Bytes → Answer
@@ -216,36 +216,36 @@ cardAnswer b = firstGiven cardTable b
 
 -- "place under 44"; "first two bytes or edition differ"; "in a place L over 1,024, phase over 2, or bytes 10 and 11 not
 -- zero"; "an offset or the total length is not the required one"; then its plan's bytes and its sets
-unfoldable pub placeTable : Bytes → List (Row Bytes)
-placeTable b =
+unfoldable pub placeTable : Layout → List (Row Bytes)
+placeTable l =
     (Refusal.Short given-when (λ p. ltb (length p) 44))
     ∷ (Refusal.Mark given-when (λ p. not (eqb (byte p 0) 0x33 && (eqb (byte p 1) 0x50 && eqb (number p 2) 1))))
     ∷ (Refusal.Count given-when (λ p. not (leb (number p 4) 1024 && (leb (number p 8) 2 && eqb (number p 10) 0))))
     ∷ (Refusal.Offsets given-when (λ p. not (eqb (number p 6) 44 && eqb (length p) (44 + number p 4))))
-    ∷ (Refusal.ActionByte given-when (λ p. not (actionsGood (layout b .actions) (drop 44 p))))
-    ∷ (Refusal.Atom given-when (λ p. not (setGood (layout b .atoms) (part p 12 16) && setGood (layout b .atoms) (part p 28 16))))
+    ∷ (Refusal.ActionByte given-when (λ p. not (actionsGood (l .actions) (drop 44 p))))
+    ∷ (Refusal.Atom given-when (λ p. not (setGood (l .atoms) (part p 12 16) && setGood (l .atoms) (part p 28 16))))
     ∷ []
 
 -- "the card first with 1 to 9, then a place with 1, 2, 3, 4, 8, 9"
 unfoldable pub placeAnswer : Bytes → Bytes → Answer
-placeAnswer b p = andThen (cardAnswer b) (firstGiven (placeTable b) p)
+placeAnswer b p = andThen (cardAnswer b) (firstGiven (placeTable (layout b)) p)
 
 -- ---- a configuration
 
 -- 13: "the configuration handed in has a plan over 1,024, an action or atom unknown to the card, a phase over 2, or anything
 -- but zero after the plan's end"
-unfoldable pub configurationGood : Bytes → Configuration → Bool
-configurationGood b c =
+unfoldable pub configurationGood : Layout → Configuration → Bool
+configurationGood l c =
     leb (c .length) 1024
-    && (actionsGood (layout b .actions) (take (c .length) (c .plan))
-    && (setGood (layout b .atoms) (c .beliefs)
-    && (setGood (layout b .atoms) (c .goals)
+    && (actionsGood (l .actions) (take (c .length) (c .plan))
+    && (setGood (l .atoms) (c .beliefs)
+    && (setGood (l .atoms) (c .goals)
     && (leb (c .phase) 2
     && all (λ x. eqb x 0) (drop (c .length) (c .plan))))))
 
-unfoldable pub configurationTable : Bytes → List (Row Configuration)
-configurationTable b = (Refusal.Configuration given-when (λ c. not (configurationGood b c))) ∷ []
+unfoldable pub configurationTable : Layout → List (Row Configuration)
+configurationTable l = (Refusal.Configuration given-when (λ c. not (configurationGood l c))) ∷ []
 
 -- "the card first with 1 to 9, then … a configuration with 13"
 unfoldable pub configurationAnswer : Bytes → Configuration → Answer
-configurationAnswer b c = andThen (cardAnswer b) (firstGiven (configurationTable b) c)
+configurationAnswer b c = andThen (cardAnswer b) (firstGiven (configurationTable (layout b)) c)

@@ -10,11 +10,12 @@ use Rattle.house.specs.Order.{State}
 use Rattle.house.specs.Theorems.{Numbered, Demand3}
 use Rattle.meaning.specs.declared.Refusal.{Refusal}
 use Rattle.meaning.specs.declared.Answer.the-variants.{Done, Refused}
+use Rattle.meaning.specs.declared.Layout.{Layout}
 use Rattle.meaning.specs.declared.Configuration.{Configuration}
-use Rattle.meaning.specs.Card.{Bytes, part, layout, weight, agent, initialPlan}
+use Rattle.meaning.specs.Card.{Bytes, layout, weight, agent, initialPlan}
 use Rattle.meaning.specs.Configurations.{stateOf, configurationOf}
 use Rattle.meaning.specs.Place.{place, placed}
-use Rattle.meaning.specs.Refusals.{numberOf, Row, firstGiven, cardTable, configurationTable, cardShort, cardMark, countsGood, offsetsGood, weightsGood, nodesGood, rulesGood, actionsGood, setsGood, cardAnswer, placeTable, configurationGood}
+use Rattle.meaning.specs.Refusals.{numberOf, Row, firstGiven, cardTable, configurationTable, cardShort, cardMark, countsGood, offsetsGood, weightsGood, nodesGood, containing, rulesGood, pool, actionsGood, setsGood, cardAnswer, placeTable, configurationGood}
 
 -- A row of the table answers exactly when what it is given for holds and nothing of the rows before it does; the answer is
 -- "done" exactly when no row's holds.
@@ -38,8 +39,8 @@ rowNumbers rows = map (λ q. numberOf (q .refusal)) rows
 
 pub record TableOrder : Type 0 where
   pub card : rowNumbers cardTable ≡ 1 ∷ 2 ∷ 3 ∷ 4 ∷ 5 ∷ 6 ∷ 7 ∷ 8 ∷ 9 ∷ []
-  pub place : (b : Bytes) → rowNumbers (placeTable b) ≡ 1 ∷ 2 ∷ 3 ∷ 4 ∷ 8 ∷ 9 ∷ []
-  pub configuration : (b : Bytes) → rowNumbers (configurationTable b) ≡ 13 ∷ []
+  pub place : (l : Layout) → rowNumbers (placeTable l) ≡ 1 ∷ 2 ∷ 3 ∷ 4 ∷ 8 ∷ 9 ∷ []
+  pub configuration : (l : Layout) → rowNumbers (configurationTable l) ≡ 13 ∷ []
 
 -- what an accepted card has passed, row by row
 pub record Accepted (b : Bytes) : Type 0 where
@@ -47,11 +48,11 @@ pub record Accepted (b : Bytes) : Type 0 where
   pub marked : cardMark b ≡ false
   pub counts : countsGood (layout b) ≡ true
   pub offsets : offsetsGood (layout b) (length b) ≡ true
-  pub weights : weightsGood b ≡ true
-  pub nodes : nodesGood b ≡ true
-  pub rules : rulesGood b ≡ true
-  pub pool : actionsGood (layout b .actions) (part b (layout b .pool .offset) (layout b .pool .count)) ≡ true
-  pub sets : setsGood b ≡ true
+  pub weights : weightsGood (layout b) b ≡ true
+  pub nodes : nodesGood (layout b) b ≡ true
+  pub rules : rulesGood (containing 1 (layout b) b) (containing 2 (layout b) b) (layout b) b ≡ true
+  pub pool : actionsGood (layout b .actions) (pool (layout b) b) ≡ true
+  pub sets : setsGood (layout b) b ≡ true
 
 pub record CardLaws (b : Bytes) : Type 0 where
   pub accepted : Accepted b
@@ -63,11 +64,11 @@ pub record CardLaws (b : Bytes) : Type 0 where
 -- A configuration that passes row 13 is known by its state, and a state that fits by its configuration.
 pub record ConfigurationLaws : Type 0 where
   pub of-state : (s : State) → length (s .mental .π) ≤ 1024 → stateOf (configurationOf s) ≡ s
-  pub of-configuration : (b : Bytes) (c : Configuration) → length (c .plan) ≡ 1024 → configurationGood b c ≡ true
+  pub of-configuration : (l : Layout) (c : Configuration) → length (c .plan) ≡ 1024 → configurationGood l c ≡ true
       → configurationOf (stateOf c) ≡ c
 
 -- "A place saved and restored is the same configuration; an accepted place, restored and saved, is the same bytes" (the
 -- letter, demand 2). Sets are 16 bytes; a saved plan's length and phase fit two bytes.
 pub record PlaceLaws : Type 0 where
   pub saved-restored : (s : State) → length (s .mental .σ) ≡ 16 → length (s .mental .γ) ≡ 16 → s .phase ≤ 2 → placed (place s) ≡ s
-  pub restored-saved : (b p : Bytes) → AreBytes p → firstGiven (placeTable b) p ≡ Done → place (placed p) ≡ p
+  pub restored-saved : (l : Layout) (p : Bytes) → AreBytes p → firstGiven (placeTable l) p ≡ Done → place (placed p) ≡ p

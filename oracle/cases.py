@@ -1,0 +1,404 @@
+"""Cases by seed: a card and requests about it, as drill.md writes them.
+
+As a command it writes the whole stream of requests and the answers, and prints
+how often each answer number was met for each call.
+"""
+
+import argparse
+import itertools
+import sys
+from random import Random
+from typing import NamedTuple
+
+import cards
+import damage
+import drill
+import guide
+
+REQUEST_LIMIT = 40
+CALL_NAMES = ("check", "load", "grade", "list", "take", "run", "save", "restore")
+ANSWER_NUMBERS = range(14)
+
+
+class Case(NamedTuple):
+    """A case: its name (which clause or shape), a card, and requests about it
+    (kinds 1 to 8 of the drill)."""
+
+    name: str
+    card: bytes
+    requests: list
+
+
+# --- requests ---------------------------------------------------------------
+
+
+def request_card(card):
+    """0 card: length n (2), n bytes."""
+    return bytes([drill.CARD]) + drill.two(len(card)) + card
+
+
+def request_plain(kind):
+    """1 check, 2 load, 3 grade: nothing follows."""
+    return bytes([kind])
+
+
+def request_about(random, kind, configuration, value):
+    """4 list, 5 take, 6 run, 7 save: an image and a number. The image's m is the
+    least that serves or a greater one."""
+    m = random.choice((0, 0, 0, min(configuration.length, 1024), 1024))
+    return bytes([kind]) + drill.image(configuration, m) + drill.two(value)
+
+
+def request_restore(place):
+    """8 restore: length n (2), n bytes."""
+    return bytes([drill.RESTORE]) + drill.two(len(place)) + place
+
+
+def stream(cases):
+    """The requests of some cases as one stream, each card set by a request 0."""
+    for case in cases:
+        yield request_card(case.card)
+        for request in case.requests:
+            yield request
+
+
+# --- configurations ---------------------------------------------------------
+
+
+def walk(random, card, configuration, steps):
+    """The configurations met along a run with random choices."""
+    met = [configuration]
+    for _ in range(steps):
+        _, _, codes = guide.list_choices(card, configuration, 1024)
+        if not codes:
+            break
+        number, moved = guide.take(card, configuration, random.choice(codes))
+        if number == guide.DONE:
+            configuration = moved
+            met.append(configuration)
+    return met
+
+
+def random_plan(random, accepted):
+    """A plan: empty, beginning as some rule's head or plan, or of any actions."""
+    style = random.random()
+    if style < 0.2:
+        return b""
+    length = random.choice((0, 1, 1, 2, 3, 5, 20, 1022, 1023, 1024))
+    rest = bytes(random.choices(range(accepted.actions), k=length))
+    if style < 0.8:
+        heads = [rule.head for rule in accepted.revisions]
+        heads += [bytes([entry.action]) for entry in accepted.specifications]
+        if heads:
+            return (random.choice(heads) + rest)[:1024]
+    return rest
+
+
+def random_configuration(random, accepted):
+    """Any configuration that the card takes."""
+    plan = random_plan(random, accepted)
+    return guide.Configuration(
+        damage.random_atoms(random, accepted.atoms),
+        damage.random_atoms(random, accepted.atoms),
+        damage.padded(plan),
+        len(plan),
+        random.randrange(3),
+    )
+
+
+def some_configurations(random, card, accepted):
+    """Four configurations: the loaded one, two from walks, one of any kind."""
+    _, loaded = guide.load(card)
+    other = random_configuration(random, accepted)
+    met = walk(random, card, loaded, random.choice((1, 3, 8, 25)))
+    far = walk(random, card, other, random.choice((1, 2, 6)))
+    chosen = [random.choice(met), random.choice(far), met[-1]]
+    return [loaded] + [varied_phase(random, held) for held in chosen]
+
+
+def varied_phase(random, configuration):
+    """The configuration, now and then in another phase."""
+    if random.random() < 0.3:
+        return configuration._replace(phase=random.randrange(3))
+    return configuration
+
+
+# --- requests about a good card ---------------------------------------------
+
+
+def list_request(random, card, configuration):
+    """A list with a room around the number needed; the codes it would answer."""
+    _, count, codes = guide.list_choices(card, configuration, 1024)
+    room = random.choice(damage.rooms_around(count, 1024 if random.random() < 0.05 else count + 5))
+    return request_about(random, drill.LIST, configuration, room), codes
+
+
+def take_requests(random, accepted, configuration, codes, most):
+    """The enabled choices, `most` at most, and one code of the others."""
+    chosen = list(codes) if len(codes) <= most else sorted(random.sample(codes, most))
+    chosen.append(random.choice(damage.wrong_choices(accepted)))
+    return [request_about(random, drill.TAKE, configuration, choice) for choice in chosen]
+
+
+def some_budget(random, card, configuration):
+    """A budget: 0, 1, a few, 1,000, and 65,535 where the run ends soon; seldom
+    65,535 on a small card whose run does not end."""
+    style = random.random()
+    if style < 0.75:
+        return random.choice((0, 1, 1, 2, 3, 4, 7, random.randint(5, 60)))
+    if style < 0.9:
+        return 1000
+    _, _, _, ending = guide.run(card, configuration, 1500)
+    if ending != guide.SPENT or (len(card) < 700 and random.random() < 0.03):
+        return 65535
+    return 1500
+
+
+def save_request(random, configuration):
+    """A save with a room around the number needed."""
+    rooms = damage.rooms_around(44 + configuration.length, 1100)
+    return request_about(random, drill.SAVE, configuration, random.choice(rooms))
+
+
+def requests_on(random, card, accepted, configuration, takes):
+    """List, takes, a run, a save and a restore on one configuration."""
+    listed, codes = list_request(random, card, configuration)
+    made = [listed]
+    made += take_requests(random, accepted, configuration, codes, takes)
+    budget = some_budget(random, card, configuration)
+    made.append(request_about(random, drill.RUN, configuration, budget))
+    made.append(save_request(random, configuration))
+    if random.random() < 0.5:
+        made.append(request_restore(guide.save(card, configuration, 2048)[1]))
+    return made
+
+
+def full_requests(random, accepted):
+    """Takes and runs where a revision leaves exactly 1,024 actions, and one
+    more."""
+    made = []
+    for over in (0, 1):
+        found = damage.full_configuration(random, accepted, over)
+        if found is not None:
+            configuration, code = found
+            made.append(request_about(random, drill.TAKE, configuration, code))
+            if random.random() < 0.3:
+                turned = configuration._replace(phase=2)
+                made.append(request_about(random, drill.RUN, turned, random.choice((1, 5, 1000))))
+    return made
+
+
+def call_on(random, configuration):
+    """One of the four calls on a configuration, with some number."""
+    kind = random.choice((drill.LIST, drill.TAKE, drill.RUN, drill.SAVE))
+    value = {
+        drill.LIST: (0, 1, 5),
+        drill.TAKE: (0, 256, 512, 65535),
+        drill.RUN: (0, 1, 40),
+        drill.SAVE: (0, 44, 50, 1068, 1069),
+    }[kind]
+    return request_about(random, kind, configuration, random.choice(value))
+
+
+def damaged_configuration_requests(random, accepted, held):
+    """Calls on damaged configurations, and on one just inside a range."""
+    chosen = [random.choice(damage.CONFIGURATION_DAMAGES) for _ in range(3)]
+    chosen.append(random.choice(damage.CONFIGURATION_RANGES))
+    made = []
+    for one in chosen:
+        configuration = one.change(random, accepted, random.choice(held))
+        if configuration is not None:
+            made.append(call_on(random, configuration))
+    return made
+
+
+def place_description(configuration):
+    """The place of a configuration, described."""
+    return cards.PlaceDescription(
+        plan=configuration.plan[:configuration.length],
+        phase=configuration.phase,
+        beliefs=configuration.beliefs,
+        goals=configuration.goals,
+    )
+
+
+def damaged_place_requests(random, accepted, held):
+    """Restores of damaged places, of one damaged twice, of one just inside."""
+    chosen = [
+        (random.choice(damage.PLACE_DAMAGES),),
+        (random.choice(damage.PLACE_DAMAGES),),
+        damage.pair_of_place_damages(random, *random.choice(damage.PLACE_PAIRS)),
+        (random.choice(damage.PLACE_RANGES),),
+    ]
+    made = []
+    for some in chosen:
+        described = place_description(random.choice(held))
+        place = damage.damaged_place(random, accepted, described, *some)
+        if place is not None:
+            made.append(request_restore(place))
+    return made
+
+
+def good_requests(random, card):
+    """The requests about a good card, 40 at most."""
+    _, accepted = guide.judge(card)
+    made = [request_plain(kind) for kind in (drill.CHECK, drill.LOAD, drill.GRADE)]
+    held = some_configurations(random, card, accepted)
+    made += full_requests(random, accepted)
+    made += damaged_configuration_requests(random, accepted, held)
+    made += damaged_place_requests(random, accepted, held)
+    for configuration in held:
+        about = requests_on(random, card, accepted, configuration, 6)
+        if len(made) + len(about) <= REQUEST_LIMIT:
+            made += about
+    return made
+
+
+# --- requests about a damaged card ------------------------------------------
+
+
+def damaged_requests(random, base):
+    """Check and one of each other call about a damaged card, on configurations
+    and places of the card before the damage, themselves now and then damaged."""
+    _, accepted = guide.judge(base)
+    _, loaded = guide.load(base)
+    made = [request_plain(kind) for kind in (drill.CHECK, drill.LOAD, drill.GRADE)]
+    for kind in (drill.LIST, drill.TAKE, drill.RUN, drill.SAVE):
+        held = random.choice((guide.EMPTY, loaded, random_configuration(random, accepted)))
+        if random.random() < 0.4:
+            one = random.choice(damage.CONFIGURATION_DAMAGES)
+            held = one.change(random, accepted, held) or held
+        made.append(request_about(random, kind, held, random.choice((0, 1, 50, 1000))))
+    place = cards.place(place_description(random_configuration(random, accepted)))
+    if random.random() < 0.5:
+        one = random.choice(damage.PLACE_DAMAGES)
+        described = place_description(loaded)
+        place = damage.damaged_place(random, accepted, described, one) or place
+    made.append(request_restore(place))
+    return made
+
+
+# --- cases ------------------------------------------------------------------
+
+NAMED_CARDS = (
+    ("the stripe card", cards.stripe_card),
+    ("the smallest card", cards.smallest_card),
+    ("the shared-nodes card", cards.shared_nodes_card),
+    ("the maximal card", cards.maximal_card),
+)
+
+
+def good_case(random, largest):
+    """A case of a good card."""
+    card = cards.card(cards.good_card(random, largest))
+    return Case("good card of %d bytes" % len(card), card, good_requests(random, card))
+
+
+def named_case(random, at, largest):
+    """A case of a card that the document or the drill names, if it is small
+    enough; a good card otherwise."""
+    name, describe = NAMED_CARDS[at]
+    card = cards.card(describe())
+    if len(card) > largest:
+        return good_case(random, largest)
+    return Case(name, card, good_requests(random, card))
+
+
+def damage_order(seed):
+    """All damages and ranges of a card alone, and every pair of rows, in an
+    order of the seed's."""
+    order = [(one,) for one in damage.CARD_DAMAGES + damage.CARD_RANGES]
+    order += damage.CARD_PAIRS
+    Random("%s order" % seed).shuffle(order)
+    return order
+
+
+def damages_named(random, item):
+    """The damages of an item of the order: one, or two of different rows."""
+    if isinstance(item[0], damage.Damage):
+        return item
+    return damage.pair_of_damages(random, *item)
+
+
+def damaged_case(random, item, largest):
+    """A case of a damaged card, or None if it is too large."""
+    damages = damages_named(random, item)
+    description = cards.roomy_card(random, largest)
+    base, card = cards.card(description), damage.damaged_card(random, description, *damages)
+    if len(card) > largest:
+        return None
+    name = " and ".join(one.name for one in damages)
+    if damages[0].number == guide.DONE:
+        return Case(name, card, good_requests(random, card))
+    return Case(name, card, damaged_requests(random, base))
+
+
+def next_damaged_case(random, items, largest):
+    """A case of the next damages whose card is small enough; a good card, if
+    none of the next twenty is."""
+    for item in itertools.islice(items, 20):
+        case = damaged_case(random, item, largest)
+        if case is not None:
+            return case
+    return good_case(random, largest)
+
+
+def generate(seed, cards, largest=24128):
+    """So many cases, by seed: good cards and damaged ones in turn, none of more
+    than `largest` bytes."""
+    items = itertools.cycle(damage_order(seed))
+    for index in range(cards):
+        random = Random("%s %d" % (seed, index))
+        if index % 2 == 1:
+            yield next_damaged_case(random, items, largest)
+        elif index // 2 < len(NAMED_CARDS):
+            yield named_case(random, index // 2, largest)
+        else:
+            yield good_case(random, largest)
+
+
+# --- the command ------------------------------------------------------------
+
+
+def count_answers(cases, requests, answers):
+    """Writes requests and answers; how often each number was met for each call,
+    and how many requests there were."""
+    met = [[0] * len(ANSWER_NUMBERS) for _ in CALL_NAMES]
+    for case in cases:
+        requests.write(request_card(case.card))
+        for request in case.requests:
+            answer = drill.answer(case.card, request)
+            requests.write(request)
+            answers.write(answer)
+            met[request[0] - 1][guide.number(answer, 0)] += 1
+    return met
+
+
+def table(met):
+    """The table of the answers met: a line a number, a column a call."""
+    lines = ["answer" + "".join("%9s" % name for name in CALL_NAMES) + "%9s" % "all"]
+    for number in ANSWER_NUMBERS:
+        counts = [column[number] for column in met]
+        lines.append("%6d" % number + "".join("%9d" % count for count in counts + [sum(counts)]))
+    totals = [sum(column) for column in met]
+    lines.append("   all" + "".join("%9d" % count for count in totals + [sum(totals)]))
+    return "\n".join(lines)
+
+
+def main():
+    """Writes the stream of requests and the answers, and prints the table."""
+    parser = argparse.ArgumentParser(description="cases by seed, with the oracle's answers")
+    parser.add_argument("--seed", required=True)
+    parser.add_argument("--cards", type=int, required=True)
+    parser.add_argument("--largest", type=int, default=24128)
+    parser.add_argument("--requests", required=True)
+    parser.add_argument("--answers", required=True)
+    asked = parser.parse_args()
+    cases = generate(asked.seed, asked.cards, asked.largest)
+    with open(asked.requests, "wb") as requests, open(asked.answers, "wb") as answers:
+        met = count_answers(cases, requests, answers)
+    sys.stdout.write(table(met) + "\n")
+
+
+if __name__ == "__main__":
+    main()

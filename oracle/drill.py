@@ -1,0 +1,192 @@
+"""The drill: requests on standard input, an answer for each on standard output.
+
+The requests and answers are those of drill.md; numbers of two bytes are low
+byte first.
+"""
+
+import struct
+import sys
+
+import guide
+
+CARD, CHECK, LOAD, GRADE, LIST, TAKE, RUN, SAVE, RESTORE = range(9)
+
+IMAGE_LIMIT = 1024
+LIST_LIMIT = 1024
+SAVE_LIMIT = 2048
+PLACE_LIMIT = 4096
+
+# "It is lent filled with EEEE hex", "lent filled with EE hex".
+LENT = 0xEE
+
+
+class BrokenRequest(Exception):
+    """ "A request that breaks these rules ends the program." """
+
+
+class Reader:
+    """The bytes of the requests, read from the front."""
+
+    def __init__(self, data):
+        self.data = data
+        self.at = 0
+
+    def at_end(self):
+        """Whether the input has ended."""
+        return self.at == len(self.data)
+
+    def next_bytes(self, count):
+        """The next `count` bytes."""
+        if self.at + count > len(self.data):
+            raise BrokenRequest("the input ends inside a request")
+        self.at += count
+        return self.data[self.at - count:self.at]
+
+    def byte(self):
+        """The next byte."""
+        return self.next_bytes(1)[0]
+
+    def number(self, most=65535):
+        """The next number of two bytes, `most` at most."""
+        value = guide.number(self.next_bytes(2), 0)
+        if value > most:
+            raise BrokenRequest("%d is more than %d" % (value, most))
+        return value
+
+    def image(self):
+        """An image: "beliefs (16 bytes), goals (16), plan length (2), phase (1),
+        m (2, at most 1,024), and the first m bytes of the plan's array; the rest
+        of the array is zero"."""
+        beliefs, goals = self.next_bytes(16), self.next_bytes(16)
+        length, phase = self.number(), self.byte()
+        plan = self.next_bytes(self.number(IMAGE_LIMIT)).ljust(guide.PLAN_LIMIT, b"\0")
+        return guide.Configuration(beliefs, goals, plan, length, phase)
+
+
+def two(value):
+    """A number as two bytes, low byte first."""
+    return struct.pack("<H", value)
+
+
+def image(configuration, m=0):
+    """The image of a configuration. "In an answer m is the least that serves";
+    a request may say a greater one."""
+    beliefs, goals, plan, length, phase = configuration
+    m = max(m, len(plan.rstrip(b"\0")))
+    return beliefs + goals + two(length) + bytes([phase]) + two(m) + plan[:m]
+
+
+def answer_check(card, reader):
+    """1 check: number (2)."""
+    return two(guide.check(card))
+
+
+def answer_load(card, reader):
+    """2 load: number (2), image."""
+    number, configuration = guide.load(card)
+    return two(number) + image(configuration)
+
+
+def answer_grade(card, reader):
+    """3 grade: number (2), verdict (1), offender (1), its number (2)."""
+    number, verdict, offender, n = guide.grade(card)
+    return two(number) + bytes([verdict, offender]) + two(n)
+
+
+def answer_list(card, reader):
+    """4 list: number (2), count (2), then the whole lent list."""
+    configuration, room = reader.image(), reader.number(LIST_LIMIT)
+    number, count, codes = guide.list_choices(card, configuration, room)
+    written = b"".join(two(code) for code in codes)
+    return two(number) + two(count) + lent(written, 2 * room)
+
+
+def answer_take(card, reader):
+    """5 take: number (2), image."""
+    configuration, choice = reader.image(), reader.number()
+    number, configuration = guide.take(card, configuration, choice)
+    return two(number) + image(configuration)
+
+
+def answer_run(card, reader):
+    """6 run: number (2), image, count (2), ending (1)."""
+    configuration, budget = reader.image(), reader.number()
+    number, configuration, count, ending = guide.run(card, configuration, budget)
+    return two(number) + image(configuration) + two(count) + bytes([ending])
+
+
+def answer_save(card, reader):
+    """7 save: number (2), then the whole lent buffer."""
+    configuration, room = reader.image(), reader.number(SAVE_LIMIT)
+    number, written = guide.save(card, configuration, room)
+    return two(number) + lent(written, room)
+
+
+def answer_restore(card, reader):
+    """8 restore: number (2), image."""
+    place = reader.next_bytes(reader.number(PLACE_LIMIT))
+    number, configuration = guide.restore(card, place)
+    return two(number) + image(configuration)
+
+
+def lent(written, size):
+    """A lent buffer of `size` bytes afterwards: "what lies after them stays"."""
+    return written + bytes([LENT]) * (size - len(written))
+
+
+ANSWERS = {
+    CHECK: answer_check,
+    LOAD: answer_load,
+    GRADE: answer_grade,
+    LIST: answer_list,
+    TAKE: answer_take,
+    RUN: answer_run,
+    SAVE: answer_save,
+    RESTORE: answer_restore,
+}
+
+
+def answer_next(card, reader):
+    """Reads one request; the card of the requests that follow, and the answer."""
+    kind = reader.byte()
+    if kind == CARD:
+        return reader.next_bytes(reader.number()), b""
+    if kind not in ANSWERS:
+        raise BrokenRequest("no request %d" % kind)
+    return card, ANSWERS[kind](card, reader)
+
+
+def each_answer(requests):
+    """The answers, one after the other, until the input ends or a request
+    breaks the rules. "At first the card of no bytes." """
+    card, reader = b"", Reader(requests)
+    while not reader.at_end():
+        try:
+            card, found = answer_next(card, reader)
+        except BrokenRequest:
+            return
+        yield found
+
+
+def answers(requests):
+    """All the answers to a stream of requests."""
+    return b"".join(each_answer(requests))
+
+
+def answer(card, request):
+    """The answer to one request about a card."""
+    reader = Reader(request)
+    _, found = answer_next(card, reader)
+    if not reader.at_end():
+        raise BrokenRequest("bytes after the request")
+    return found
+
+
+def main():
+    """Reads requests on standard input and writes their answers."""
+    for found in each_answer(sys.stdin.buffer.read()):
+        sys.stdout.buffer.write(found)
+
+
+if __name__ == "__main__":
+    main()

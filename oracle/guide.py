@@ -1,0 +1,787 @@
+"""The eight calls of document 01 over plain values.
+
+Written from document 01 alone. Every function says which sentence of the
+document it stands for.
+"""
+
+import struct
+from dataclasses import dataclass
+from functools import lru_cache
+from typing import NamedTuple
+
+# "Numbers the guide may answer."
+DONE = 0
+SHORT = 1
+MARK = 2
+COUNT = 3
+OFFSETS = 4
+WEIGHT = 5
+NODE = 6
+RULE = 7
+ACTION_BYTE = 8
+ATOM = 9
+NOT_ENABLED = 10
+PLAN_FULL = 11
+NO_ROOM = 12
+CONFIGURATION = 13
+
+# "A choice is coded as 256 times the kind (0 selection, 1 action, 2 revision)
+# plus the number of the rule or specification, from 0."
+SELECTION, ACTION, REVISION = 0, 1, 2
+KINDS = (SELECTION, ACTION, REVISION)
+
+# The endings of a run, the verdicts and the offenders, by the drill's codes.
+SPENT, REST, FULL = 0, 1, 2
+BOUNDED, OPEN = 0, 1
+NO_OFFENDER, INITIAL_PLAN, SELECTION_RULE, REVISION_RULE = 0, 1, 2, 3
+
+# "A plan (0 to 1,024 action numbers)", "each action weighs 1 to 1,024".
+PLAN_LIMIT = 1024
+WEIGHT_LIMIT = 1024
+
+CARD_HEADER = 64
+PLACE_HEADER = 44
+CARD_MARK = b"\x33\x41"
+PLACE_MARK = b"\x33\x50"
+EDITION = 1
+
+# Where the card's header holds the number of a section's entries; the
+# section's offset stands two bytes later.
+NODES, SPECIFICATIONS, SELECTIONS, REVISIONS, POOL = 8, 12, 16, 20, 24
+
+# "The sections follow the weights in the header's order": where the count
+# stands, and the bytes of one entry.
+SECTIONS = ((NODES, 4), (SPECIFICATIONS, 36), (SELECTIONS, 8), (REVISIONS, 12), (POOL, 1))
+WIDTH = dict(SECTIONS)
+
+# The table's ranges: where the number stands, the least and the most.
+COUNT_RANGES = (
+    (4, 1, 128),
+    (6, 1, 256),
+    (NODES, 1, 256),
+    (SPECIFICATIONS, 0, 256),
+    (SELECTIONS, 0, 256),
+    (REVISIONS, 0, 256),
+    (POOL, 0, 8192),
+)
+
+
+class Configuration(NamedTuple):
+    """ "A configuration is a set of believed atoms, a set of goal atoms, a plan
+    (0 to 1,024 action numbers) and a phase 0, 1 or 2." The plan is the whole
+    array of 1,024 bytes; its first `length` bytes are the plan."""
+
+    beliefs: bytes
+    goals: bytes
+    plan: bytes
+    length: int
+    phase: int
+
+
+# "The empty one (no atoms, empty plan, phase 0)."
+EMPTY = Configuration(bytes(16), bytes(16), bytes(PLAN_LIMIT), 0, 0)
+
+
+class Node(NamedTuple):
+    """ "Node, 4 bytes: kind, a, b, 0." """
+
+    kind: int
+    a: int
+    b: int
+    zero: int
+
+
+class Specification(NamedTuple):
+    """ "Specification, 36 bytes: action, node, 0, 0, Add, Del." """
+
+    action: int
+    node: int
+    zero_2: int
+    zero_3: int
+    add: bytes
+    delete: bytes
+
+
+class SelectionEntry(NamedTuple):
+    """ "Selection rule, 8 bytes: belief node, goal node, start, length
+    (1..1,024), zero number." """
+
+    belief_node: int
+    goal_node: int
+    start: int
+    length: int
+    zero: int
+
+
+class RevisionEntry(NamedTuple):
+    """ "Revision rule, 12 bytes: node, 0, head start, head length (1..1,024),
+    body start, body length (0..1,024), zero number." """
+
+    node: int
+    zero_1: int
+    head_start: int
+    head_length: int
+    body_start: int
+    body_length: int
+    zero: int
+
+
+# --- reading a card's bytes -------------------------------------------------
+
+
+def number(data, at):
+    """ "Numbers are two bytes, low byte first." """
+    return data[at] + 256 * data[at + 1]
+
+
+def atoms_of(card):
+    """The number of atoms, at 4 of the card."""
+    return number(card, 4)
+
+
+def actions_of(card):
+    """The number of actions, at 6 of the card."""
+    return number(card, 6)
+
+
+def section(card, at):
+    """The bytes of the section whose count stands at `at` of the header."""
+    offset = number(card, at + 2)
+    return card[offset:offset + number(card, at) * WIDTH[at]]
+
+
+def weights_of(card):
+    """ "64: weights, one for each action." """
+    return struct.unpack_from("<%dH" % actions_of(card), card, CARD_HEADER)
+
+
+def nodes_of(card):
+    """The nodes of the card, from 0."""
+    return [Node(*fields) for fields in struct.iter_unpack("<BBBB", section(card, NODES))]
+
+
+def specifications_of(card):
+    """The specifications of the card, from 0."""
+    entries = struct.iter_unpack("<BBBB16s16s", section(card, SPECIFICATIONS))
+    return [Specification(*fields) for fields in entries]
+
+
+def selections_of(card):
+    """The selection rules of the card, from 0."""
+    entries = struct.iter_unpack("<BBHHH", section(card, SELECTIONS))
+    return [SelectionEntry(*fields) for fields in entries]
+
+
+def revisions_of(card):
+    """The revision rules of the card, from 0."""
+    entries = struct.iter_unpack("<BBHHHHH", section(card, REVISIONS))
+    return [RevisionEntry(*fields) for fields in entries]
+
+
+def members(atoms):
+    """ "A set of atoms is 16 bytes; atom k is bit (k modulo 8) of byte (k
+    divided by 8)": the set as one number whose bit k is atom k."""
+    return int.from_bytes(atoms, "little")
+
+
+def has_unknown_atom(atoms, count):
+    """ "A set has a bit at or above the number of atoms." """
+    return members(atoms) >> count != 0
+
+
+def has_unknown_action(plan, count):
+    """ "A pool or plan byte is not below the number of actions." """
+    return max(plan, default=-1) >= count
+
+
+# --- conditions -------------------------------------------------------------
+
+
+def contained_atoms(nodes):
+    """ "A belief condition contains no goal atom, and a goal condition no
+    belief atom": for each node, whether it contains a belief atom and whether
+    it contains a goal atom. Each node is visited once, the lowest first."""
+    belief, goal = [], []
+    for kind, a, b, _ in nodes:
+        if kind <= 2:
+            belief.append(kind == 1)
+            goal.append(kind == 2)
+        elif kind == 3:
+            belief.append(belief[a])
+            goal.append(goal[a])
+        else:
+            belief.append(belief[a] or belief[b])
+            goal.append(goal[a] or goal[b])
+    return belief, goal
+
+
+@lru_cache(maxsize=64)
+def truths(nodes, beliefs, goals):
+    """ "Conditions: true; believes p, true exactly if p is in the beliefs; has
+    goal p, true exactly if p is in the goals; not; and; or": for each node
+    whether it holds. Each node is visited once, the lowest first."""
+    believed, wanted = members(beliefs), members(goals)
+    holds = []
+    for kind, a, b, _ in nodes.entries:
+        if kind == 0:
+            holds.append(True)
+        elif kind == 1:
+            holds.append(believed >> a & 1 == 1)
+        elif kind == 2:
+            holds.append(wanted >> a & 1 == 1)
+        elif kind == 3:
+            holds.append(not holds[a])
+        elif kind == 4:
+            holds.append(holds[a] and holds[b])
+        else:
+            holds.append(holds[a] or holds[b])
+    return holds
+
+
+# --- the refusals of a card, row by row -------------------------------------
+
+
+def card_is_short(card):
+    """1 short: "card under 64 bytes"."""
+    return len(card) < CARD_HEADER
+
+
+def card_mark_differs(card):
+    """2 mark: "first two bytes or edition differ"."""
+    return card[0:2] != CARD_MARK or number(card, 2) != EDITION
+
+
+def card_count_is_out_of_range(card):
+    """3 count: "the number of atoms, of actions or of a section's entries or
+    bytes is out of range"."""
+    return any(not least <= number(card, at) <= most for at, least, most in COUNT_RANGES)
+
+
+def card_offset_differs(card):
+    """4 offsets: "an offset or the total length is not the required one"; "the
+    sections follow the weights in the header's order with no gap; the card
+    ends with the pool"."""
+    required = CARD_HEADER + 2 * actions_of(card)
+    for at, width in SECTIONS:
+        if number(card, at + 2) != required:
+            return True
+        required += number(card, at) * width
+    return len(card) != required
+
+
+def card_weight_is_wrong(card):
+    """5 weight: "a weight is 0 or over 1,024"."""
+    return any(not 1 <= weight <= WEIGHT_LIMIT for weight in weights_of(card))
+
+
+def card_node_is_wrong(card):
+    """6 node: "a node breaks its rule above"."""
+    atoms = atoms_of(card)
+    return any(node_breaks_its_rule(node, own, atoms) for own, node in enumerate(nodes_of(card)))
+
+
+def node_breaks_its_rule(node, own, atoms):
+    """ "Kind 0 true (a = b = 0); 1 believes a; 2 has goal a (in both b = 0 and
+    a is below the number of atoms); 3 not a (b = 0); 4 a and b; 5 a or b. A
+    child's number is lower than the node's own." The fourth byte is a plain 0."""
+    kind, a, b, zero = node
+    if zero != 0:
+        return True
+    if kind == 0:
+        return a != 0 or b != 0
+    if kind in (1, 2):
+        return a >= atoms or b != 0
+    if kind == 3:
+        return a >= own or b != 0
+    if kind in (4, 5):
+        return a >= own or b >= own
+    return True
+
+
+def card_rule_is_wrong(card):
+    """7 rule: "an entry or the initial plan breaks its rule: unknown action or
+    node, condition of the wrong kind, plan outside the pool, length out of
+    range, a zero field not zero"."""
+    conditions = contained_atoms(nodes_of(card))
+    actions, pool = actions_of(card), number(card, POOL)
+    return (
+        plan_is_wrong(number(card, 28), number(card, 30), 0, pool)
+        or any(specification_is_wrong(entry, conditions, actions) for entry in specifications_of(card))
+        or any(selection_is_wrong(entry, conditions, pool) for entry in selections_of(card))
+        or any(revision_is_wrong(entry, conditions, pool) for entry in revisions_of(card))
+    )
+
+
+def plan_is_wrong(start, length, least, pool):
+    """ "A plan is a start and a length in the pool, start plus length at most
+    the pool's bytes"; the length is `least` to 1,024."""
+    return not least <= length <= PLAN_LIMIT or start + length > pool
+
+
+def belief_condition_is_wrong(node, conditions):
+    """Unknown node, or "a belief condition contains no goal atom" broken."""
+    _, goal = conditions
+    return node >= len(goal) or goal[node]
+
+
+def goal_condition_is_wrong(node, conditions):
+    """Unknown node, or "a goal condition no belief atom" broken."""
+    belief, _ = conditions
+    return node >= len(belief) or belief[node]
+
+
+def specification_is_wrong(entry, conditions, actions):
+    """ "Specification, 36 bytes: action, node, 0, 0, Add, Del", the node a
+    belief condition."""
+    return (
+        entry.action >= actions
+        or belief_condition_is_wrong(entry.node, conditions)
+        or entry.zero_2 != 0
+        or entry.zero_3 != 0
+    )
+
+
+def selection_is_wrong(entry, conditions, pool):
+    """ "Selection rule, 8 bytes: belief node, goal node, start, length
+    (1..1,024), zero number." """
+    return (
+        belief_condition_is_wrong(entry.belief_node, conditions)
+        or goal_condition_is_wrong(entry.goal_node, conditions)
+        or plan_is_wrong(entry.start, entry.length, 1, pool)
+        or entry.zero != 0
+    )
+
+
+def revision_is_wrong(entry, conditions, pool):
+    """ "Revision rule, 12 bytes: node, 0, head start, head length (1..1,024),
+    body start, body length (0..1,024), zero number", the node a belief
+    condition."""
+    return (
+        belief_condition_is_wrong(entry.node, conditions)
+        or entry.zero_1 != 0
+        or plan_is_wrong(entry.head_start, entry.head_length, 1, pool)
+        or plan_is_wrong(entry.body_start, entry.body_length, 0, pool)
+        or entry.zero != 0
+    )
+
+
+def card_action_byte_is_wrong(card):
+    """8 action byte: "a pool or plan byte is not below the number of actions"."""
+    return has_unknown_action(section(card, POOL), actions_of(card))
+
+
+def card_atom_is_wrong(card):
+    """9 atom: "a set has a bit at or above the number of atoms": the initial
+    beliefs, the initial goals, each Add and each Del."""
+    sets = [card[32:48], card[48:64]]
+    for entry in specifications_of(card):
+        sets += [entry.add, entry.delete]
+    return any(has_unknown_atom(atoms, atoms_of(card)) for atoms in sets)
+
+
+# "They are tested in the table's order, the card first with 1 to 9."
+CARD_ROWS = (
+    (SHORT, card_is_short),
+    (MARK, card_mark_differs),
+    (COUNT, card_count_is_out_of_range),
+    (OFFSETS, card_offset_differs),
+    (WEIGHT, card_weight_is_wrong),
+    (NODE, card_node_is_wrong),
+    (RULE, card_rule_is_wrong),
+    (ACTION_BYTE, card_action_byte_is_wrong),
+    (ATOM, card_atom_is_wrong),
+)
+
+
+# --- an accepted card -------------------------------------------------------
+
+
+@dataclass(eq=False, frozen=True)
+class Nodes:
+    """The nodes of an accepted card, held as one value."""
+
+    entries: tuple
+
+
+class SelectionRule(NamedTuple):
+    """A selection rule with its plan read from the pool."""
+
+    belief_node: int
+    goal_node: int
+    plan: bytes
+
+
+class RevisionRule(NamedTuple):
+    """A revision rule with its head and body read from the pool."""
+
+    node: int
+    head: bytes
+    body: bytes
+
+
+@dataclass(eq=False, frozen=True)
+class Card:
+    """An accepted card, its plans read from the pool."""
+
+    atoms: int
+    actions: int
+    weights: tuple
+    nodes: Nodes
+    specifications: tuple
+    selections: tuple
+    revisions: tuple
+    beliefs: bytes
+    goals: bytes
+    plan: bytes
+
+
+def read_card(card):
+    """The accepted card's values. "A plan is a start and a length in the pool." """
+    pool = section(card, POOL)
+
+    def plan(start, length):
+        return pool[start:start + length]
+
+    return Card(
+        atoms_of(card),
+        actions_of(card),
+        weights_of(card),
+        Nodes(tuple(nodes_of(card))),
+        tuple(specifications_of(card)),
+        tuple(
+            SelectionRule(entry.belief_node, entry.goal_node, plan(entry.start, entry.length))
+            for entry in selections_of(card)
+        ),
+        tuple(
+            RevisionRule(
+                entry.node,
+                plan(entry.head_start, entry.head_length),
+                plan(entry.body_start, entry.body_length),
+            )
+            for entry in revisions_of(card)
+        ),
+        card[32:48],
+        card[48:64],
+        plan(number(card, 28), number(card, 30)),
+    )
+
+
+@lru_cache(maxsize=16)
+def judge(card):
+    """The card's number and, when it is 0, the card read: the first row of the
+    table that holds answers."""
+    for refusal, holds in CARD_ROWS:
+        if holds(card):
+            return refusal, None
+    return DONE, read_card(card)
+
+
+# --- the refusals of a place, row by row ------------------------------------
+
+
+def place_is_short(place, card):
+    """1 short: "place under 44"."""
+    return len(place) < PLACE_HEADER
+
+
+def place_mark_differs(place, card):
+    """2 mark: "first two bytes or edition differ"."""
+    return place[0:2] != PLACE_MARK or number(place, 2) != EDITION
+
+
+def place_count_is_out_of_range(place, card):
+    """3 count: "in a place L over 1,024, phase over 2, or bytes 10 and 11 not
+    zero"."""
+    return number(place, 4) > PLAN_LIMIT or number(place, 8) > 2 or number(place, 10) != 0
+
+
+def place_offset_differs(place, card):
+    """4 offsets: "plan offset 44 at 6", "exactly 44 + L bytes"."""
+    return number(place, 6) != PLACE_HEADER or len(place) != PLACE_HEADER + number(place, 4)
+
+
+def place_action_byte_is_wrong(place, card):
+    """8 action byte: "a pool or plan byte is not below the number of actions"."""
+    return has_unknown_action(place[PLACE_HEADER:], card.actions)
+
+
+def place_atom_is_wrong(place, card):
+    """9 atom: "a set has a bit at or above the number of atoms"."""
+    return has_unknown_atom(place[12:28], card.atoms) or has_unknown_atom(place[28:44], card.atoms)
+
+
+# "Then a place with 1, 2, 3, 4, 8, 9."
+PLACE_ROWS = (
+    (SHORT, place_is_short),
+    (MARK, place_mark_differs),
+    (COUNT, place_count_is_out_of_range),
+    (OFFSETS, place_offset_differs),
+    (ACTION_BYTE, place_action_byte_is_wrong),
+    (ATOM, place_atom_is_wrong),
+)
+
+
+def judge_place(place, card):
+    """The number of a place, "judged against the card it is given with"."""
+    for refusal, holds in PLACE_ROWS:
+        if holds(place, card):
+            return refusal
+    return DONE
+
+
+# --- the refusal of a configuration -----------------------------------------
+
+
+def configuration_is_wrong(configuration, card):
+    """13 configuration: "the configuration handed in has a plan over 1,024, an
+    action or atom unknown to the card, a phase over 2, or anything but zero
+    after the plan's end"."""
+    beliefs, goals, plan, length, phase = configuration
+    return (
+        length > PLAN_LIMIT
+        or has_unknown_action(plan[:length], card.actions)
+        or has_unknown_atom(beliefs, card.atoms)
+        or has_unknown_atom(goals, card.atoms)
+        or phase > 2
+        or any(plan[length:])
+    )
+
+
+def judge_both(card, configuration):
+    """The number of a card and of the configuration handed in with it: "the
+    card first with 1 to 9, then a configuration with 13"."""
+    refusal, accepted = judge(card)
+    if refusal == DONE and configuration_is_wrong(configuration, accepted):
+        refusal = CONFIGURATION
+    return refusal, accepted
+
+
+# --- transitions ------------------------------------------------------------
+
+
+def selection_is_enabled(card, configuration, n):
+    """Selection: "enabled if the plan is empty and both conditions of the rule
+    hold"."""
+    if configuration.length != 0:
+        return False
+    holds = truths(card.nodes, configuration.beliefs, configuration.goals)
+    rule = card.selections[n]
+    return holds[rule.belief_node] and holds[rule.goal_node]
+
+
+def action_is_enabled(card, configuration, n):
+    """Action: "enabled for a specification if the plan is not empty, its first
+    action is that of the specification, and the precondition holds"."""
+    specification = card.specifications[n]
+    if configuration.length == 0 or configuration.plan[0] != specification.action:
+        return False
+    return truths(card.nodes, configuration.beliefs, configuration.goals)[specification.node]
+
+
+def revision_is_enabled(card, configuration, n):
+    """Revision: "enabled if the head is a prefix of the plan and the condition
+    holds"."""
+    rule = card.revisions[n]
+    if len(rule.head) > configuration.length or not configuration.plan.startswith(rule.head):
+        return False
+    return truths(card.nodes, configuration.beliefs, configuration.goals)[rule.node]
+
+
+ENABLED = (selection_is_enabled, action_is_enabled, revision_is_enabled)
+
+
+def entries_of_kind(card, kind):
+    """The rules or specifications that a kind's numbers name, from 0."""
+    return (card.selections, card.specifications, card.revisions)[kind]
+
+
+def enabled_of_kind(card, configuration, kind):
+    """The enabled numbers of one kind, rising."""
+    is_enabled = ENABLED[kind]
+    for n in range(len(entries_of_kind(card, kind))):
+        if is_enabled(card, configuration, n):
+            yield n
+
+
+def selected(card, configuration, n):
+    """Selection: "the rule's plan becomes the plan"."""
+    return configuration.beliefs, configuration.goals, card.selections[n].plan
+
+
+def acted(card, configuration, n):
+    """Action: "beliefs become (beliefs with Add) without Del. Goals become
+    goals without Add. The first action leaves the plan." """
+    specification = card.specifications[n]
+    add, delete = members(specification.add), members(specification.delete)
+    beliefs = (members(configuration.beliefs) | add) & ~delete
+    goals = members(configuration.goals) & ~add
+    plan = configuration.plan[1:configuration.length]
+    return beliefs.to_bytes(16, "little"), goals.to_bytes(16, "little"), plan
+
+
+def revised(card, configuration, n):
+    """Revision: "the body takes the head's place; the rest stays"."""
+    rule = card.revisions[n]
+    plan = rule.body + configuration.plan[len(rule.head):configuration.length]
+    return configuration.beliefs, configuration.goals, plan
+
+
+TAKEN = (selected, acted, revised)
+
+
+def after(card, configuration, kind, n):
+    """The configuration after an enabled transition, or None when it "would
+    leave more than 1,024 actions". "After any transition the phase is the kind
+    taken plus 1, modulo 3." """
+    beliefs, goals, plan = TAKEN[kind](card, configuration, n)
+    if len(plan) > PLAN_LIMIT:
+        return None
+    array = plan.ljust(PLAN_LIMIT, b"\0")
+    return Configuration(beliefs, goals, array, len(plan), (kind + 1) % 3)
+
+
+def guides_choice(card, configuration):
+    """ "From phase p the kinds p, p+1, p+2 (modulo 3) are tried in turn. In the
+    first kind with an enabled transition, the lowest number is taken." Answers
+    kind and number, or None: "if no kind has one the guide is at rest"."""
+    for step in KINDS:
+        kind = (configuration.phase + step) % 3
+        for n in enabled_of_kind(card, configuration, kind):
+            return kind, n
+    return None
+
+
+def choice_is_enabled(card, configuration, choice):
+    """Whether the code is that of an enabled choice."""
+    kind, n = divmod(choice, 256)
+    if kind not in KINDS or n >= len(entries_of_kind(card, kind)):
+        return False
+    return ENABLED[kind](card, configuration, n)
+
+
+# --- weight and grading -----------------------------------------------------
+
+
+def weigh(card, plan):
+    """ "A plan weighs the sum of its actions, each occurrence counted." """
+    return sum(card.weights[action] for action in plan)
+
+
+def first_offender(card):
+    """ "The first offender: the initial plan, then selection rule n, then
+    revision rule n, in that order"; (0, 0) when "the initial plan and every
+    selection plan weigh at most 1,024 and every revision body weighs less than
+    its head"."""
+    if weigh(card, card.plan) > WEIGHT_LIMIT:
+        return INITIAL_PLAN, 0
+    for n, rule in enumerate(card.selections):
+        if weigh(card, rule.plan) > WEIGHT_LIMIT:
+            return SELECTION_RULE, n
+    for n, rule in enumerate(card.revisions):
+        if weigh(card, rule.body) >= weigh(card, rule.head):
+            return REVISION_RULE, n
+    return NO_OFFENDER, 0
+
+
+# --- the eight calls --------------------------------------------------------
+
+
+def check(card):
+    """Check a card: its number of the table."""
+    return judge(card)[0]
+
+
+def load(card):
+    """ "Loading answers the card's initial beliefs, goals and plan with phase
+    0, and strikes no goal." A refusal answers the empty configuration."""
+    refusal, accepted = judge(card)
+    if refusal != DONE:
+        return refusal, EMPTY
+    plan = accepted.plan
+    array = plan.ljust(PLAN_LIMIT, b"\0")
+    return DONE, Configuration(accepted.beliefs, accepted.goals, array, len(plan), 0)
+
+
+def grade(card):
+    """ "A card is bounded exactly if ... Otherwise it is open, and the verdict
+    carries the first offender." Answers number, verdict, offender, its number."""
+    refusal, accepted = judge(card)
+    if refusal != DONE:
+        return refusal, 0, 0, 0
+    offender, n = first_offender(accepted)
+    return DONE, BOUNDED if offender == NO_OFFENDER else OPEN, offender, n
+
+
+def list_choices(card, configuration, room):
+    """ "The list of enabled choices goes as two-byte numbers, rising, each
+    once, into the lent list; the answer tells how many." Answers number, count
+    and the codes written."""
+    refusal, accepted = judge_both(card, configuration)
+    if refusal != DONE:
+        return refusal, 0, []
+    codes = [256 * kind + n for kind in KINDS for n in enabled_of_kind(accepted, configuration, kind)]
+    if len(codes) > room:
+        return NO_ROOM, 0, []
+    return DONE, len(codes), codes
+
+
+def take(card, configuration, choice):
+    """Take a chosen move: 10 when "the code is no enabled choice", 11 when "the
+    choice is enabled, but leaves more than 1,024 actions"."""
+    refusal, accepted = judge_both(card, configuration)
+    if refusal != DONE:
+        return refusal, configuration
+    if not choice_is_enabled(accepted, configuration, choice):
+        return NOT_ENABLED, configuration
+    moved = after(accepted, configuration, *divmod(choice, 256))
+    if moved is None:
+        return PLAN_FULL, configuration
+    return DONE, moved
+
+
+def run(card, configuration, budget):
+    """ "The budget is looked at first: spent when the count has reached it;
+    rest when no transition exists; full when the transition to be taken would
+    leave more than 1,024 actions, which is then not taken." Answers number,
+    configuration, count and ending."""
+    refusal, accepted = judge_both(card, configuration)
+    if refusal != DONE:
+        return refusal, configuration, 0, 0
+    count = 0
+    while count != budget:
+        choice = guides_choice(accepted, configuration)
+        if choice is None:
+            return DONE, configuration, count, REST
+        moved = after(accepted, configuration, *choice)
+        if moved is None:
+            return DONE, configuration, count, FULL
+        configuration = moved
+        count += 1
+    return DONE, configuration, count, SPENT
+
+
+def save(card, configuration, room):
+    """ "Saving writes 44 + L bytes and no others." The place: "bytes 33 50 hex;
+    edition 1 at 2; plan length L at 4; plan offset 44 at 6; phase at 8; zero at
+    10; beliefs at 12; goals at 28; the plan's L bytes at 44"."""
+    refusal, _ = judge_both(card, configuration)
+    if refusal != DONE:
+        return refusal, b""
+    beliefs, goals, plan, length, phase = configuration
+    if PLACE_HEADER + length > room:
+        return NO_ROOM, b""
+    header = PLACE_MARK + struct.pack("<HHHHH", EDITION, length, PLACE_HEADER, phase, 0)
+    return DONE, header + beliefs + goals + plan[:length]
+
+
+def restore(card, place):
+    """Restore a place: "the card first with 1 to 9, then a place with 1, 2, 3,
+    4, 8, 9". A refusal answers the empty configuration."""
+    refusal, accepted = judge(card)
+    if refusal == DONE:
+        refusal = judge_place(place, accepted)
+    if refusal != DONE:
+        return refusal, EMPTY
+    plan = place[PLACE_HEADER:]
+    array = plan.ljust(PLAN_LIMIT, b"\0")
+    return DONE, Configuration(place[12:28], place[28:44], array, len(plan), number(place, 8))

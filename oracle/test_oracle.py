@@ -1,0 +1,420 @@
+"""Tests of the oracle: document 01's cases P1 to P13, its program's lines, the
+damages' numbers, the drill's bytes, and that a seed gives the same bytes."""
+
+import time
+import unittest
+from random import Random
+
+import cards
+import cases
+import damage
+import drill
+import guide
+import program
+
+STRIPE = cards.card(cards.stripe_card())
+
+# The stripe card written out by hand.
+STRIPE_BYTES = bytes.fromhex(
+    "3341 0100 0400 0500 0600 4A00 0300 6200 0100 CE00 0300 D600 0500 FA00 0000 0000"
+    "09 000000000000000000000000000000  04 000000000000000000000000000000"
+    "0100 0100 0100 0300 0500"
+    "00000000 01010000 01030000 03020000 04010300 02020000"
+    "00040000 04 000000000000000000000000000000 02 000000000000000000000000000000"
+    "01000000 02 000000000000000000000000000000 00 000000000000000000000000000000"
+    "02020000 00 000000000000000000000000000000 08 000000000000000000000000000000"
+    "0005 0000 0100 0000"
+    "0000 0000 0100 0100 0200 0000"
+    "0200 0200 0100 0300 0200 0000"
+    "0300 0200 0100 0400 0100 0000"
+    "04 01 03 02 00"
+)
+
+STRIPE_LINES = [
+    "card 255 bounded",
+    "1 select 0 1 5",
+    "2 revise 0 2 4",
+    "3 act 1 1 3",
+    "4 revise 1 2 2",
+    "5 act 2 1 1",
+    "6 act 0 0 0",
+    "rest 6",
+]
+
+
+def configuration(beliefs=(), goals=(), plan=(), phase=0):
+    """A configuration from atoms and actions."""
+    array = bytes(plan).ljust(guide.PLAN_LIMIT, b"\0")
+    return guide.Configuration(
+        cards.atoms_set(*beliefs), cards.atoms_set(*goals), array, len(plan), phase
+    )
+
+
+def loaded(card):
+    """The configuration that a good card loads to."""
+    return guide.load(card)[1]
+
+
+class MarkedCases(unittest.TestCase):
+    """The cases marked P."""
+
+    def test_p1_the_six_steps(self):
+        """The six steps end with beliefs {0, 2}, no goals, phase 2."""
+        number, reached, count, ending = guide.run(STRIPE, loaded(STRIPE), 1000)
+        self.assertEqual((number, count, ending), (0, 6, guide.REST))
+        self.assertEqual(reached, configuration(beliefs=(0, 2), phase=2))
+
+    def test_p2_budgets_six_and_seven(self):
+        """Budget 6: spent, 6. Budget 7: rest, 6."""
+        self.assertEqual(guide.run(STRIPE, loaded(STRIPE), 6)[2:], (6, guide.SPENT))
+        self.assertEqual(guide.run(STRIPE, loaded(STRIPE), 7)[2:], (6, guide.REST))
+
+    def test_p3_budget_nought_at_rest(self):
+        """Budget 0 at rest: spent, 0."""
+        _, reached, _, _ = guide.run(STRIPE, loaded(STRIPE), 1000)
+        self.assertEqual(guide.run(STRIPE, reached, 0), (0, reached, 0, guide.SPENT))
+
+    def test_p4_add_and_del_overlap(self):
+        """Add {2}, Del {2}, goals {2}: atom 2 is in neither set afterwards."""
+        description = cards.stripe_card()
+        both = cards.Specification(1, 0, add=cards.atoms_set(2), delete=cards.atoms_set(2))
+        description.specifications[1] = both
+        card = cards.card(description)
+        for beliefs in ((), (2,)):
+            held = configuration(beliefs=beliefs, goals=(2,), plan=(1,))
+            self.assertEqual(guide.take(card, held, 257), (0, configuration(phase=2)))
+
+    def test_p5_head_longer_than_the_plan(self):
+        """Plan 3, head 3 0: not enabled."""
+        description = cards.stripe_card()
+        description.pool += bytes([3, 0])
+        description.revisions[0] = cards.Revision(0, 5, 2, 0, 0)
+        card = cards.card(description)
+        held = configuration(beliefs=(3,), plan=(3,))
+        self.assertEqual(guide.take(card, held, 512), (10, held))
+        self.assertNotIn(512, guide.list_choices(card, held, 1024)[2])
+        longer = configuration(beliefs=(3,), plan=(3, 0))
+        self.assertEqual(guide.take(card, longer, 512), (0, configuration(beliefs=(3,))))
+
+    def test_p6_condition_fails(self):
+        """Plan 3, atom 3 not believed, choice 513: refusal 10."""
+        held = configuration(plan=(3,))
+        self.assertEqual(guide.take(STRIPE, held, 513), (10, held))
+
+    def test_p7_the_place_after_step_four(self):
+        """After step 4 the place is 33 50 01 00 02 00 2C 00 ..."""
+        place = bytes.fromhex("3350 0100 0200 2C00 0000 0000")
+        place += b"\x0b" + bytes(15) + b"\x04" + bytes(15) + b"\x02\x00"
+        _, reached, _, _ = guide.run(STRIPE, loaded(STRIPE), 4)
+        self.assertEqual(guide.save(STRIPE, reached, 46), (0, place))
+        self.assertEqual(guide.restore(STRIPE, place), (0, reached))
+        self.assertEqual(guide.save(STRIPE, reached, 45), (12, b""))
+
+    def test_p8_phase_three(self):
+        """The same with phase 3: refusal 3."""
+        _, reached, _, _ = guide.run(STRIPE, loaded(STRIPE), 4)
+        place = bytearray(guide.save(STRIPE, reached, 46)[1])
+        place[8] = 3
+        self.assertEqual(guide.restore(STRIPE, bytes(place)), (3, guide.EMPTY))
+
+    def test_p9_empty_body(self):
+        """Plan 3, a revision of 3 to the empty body: empty plan."""
+        description = cards.stripe_card()
+        description.revisions[0] = cards.Revision(0, 2, 1, 5, 0)
+        found = guide.take(cards.card(description), configuration(plan=(3,)), 512)
+        self.assertEqual(found, (0, configuration()))
+
+    def test_p10_the_offending_revision(self):
+        """Revision 1's body weighing 3: open, revision 1."""
+        self.assertEqual(guide.grade(STRIPE), (0, 0, 0, 0))
+        description = cards.stripe_card()
+        description.weights[2] = 2
+        found = guide.grade(cards.card(description))
+        self.assertEqual(found, (0, guide.OPEN, guide.REVISION_RULE, 1))
+
+    def test_p11_a_plan_of_1024(self):
+        """Plan of 1,024: head 1 and body 2 long, refusal 11; body 1 long, taken."""
+        held = configuration(beliefs=(3,), plan=[3] + [0] * 1023)
+        self.assertEqual(guide.take(STRIPE, held, 513), (11, held))
+        self.assertEqual(guide.run(STRIPE, held._replace(phase=2), 5)[2:], (0, guide.FULL))
+        held = held._replace(beliefs=cards.NO_ATOMS)
+        number, reached = guide.take(STRIPE, held, 514)
+        self.assertEqual((number, reached.length, reached.plan), (0, 1024, bytes(1024)))
+
+    def test_p12_lists(self):
+        """At the start the list is 0 alone; a list buffer of length 0 gives 12.
+        At rest it gives 0 (done) and a count of 0."""
+        start = loaded(STRIPE)
+        self.assertEqual(guide.list_choices(STRIPE, start, 1), (0, 1, [0]))
+        self.assertEqual(guide.list_choices(STRIPE, start, 0), (12, 0, []))
+        _, reached, _, _ = guide.run(STRIPE, start, 1000)
+        self.assertEqual(guide.list_choices(STRIPE, reached, 0), (0, 0, []))
+
+    def test_p13_node_nought_not_itself(self):
+        """Node 0 "not 0": refusal 6."""
+        description = cards.stripe_card()
+        description.nodes[0] = cards.Node(cards.NOT, 0)
+        self.assertEqual(guide.check(cards.card(description)), 6)
+
+
+class NamedCards(unittest.TestCase):
+    """The cards that the document or the drill names, and the program."""
+
+    def test_stripe_card(self):
+        """The card is 255 bytes, and the builder's bytes are those by hand."""
+        self.assertEqual(len(STRIPE), 255)
+        self.assertEqual(STRIPE, STRIPE_BYTES)
+
+    def test_stripe_lines(self):
+        """The program's eight lines."""
+        self.assertEqual(program.lines(STRIPE), STRIPE_LINES)
+
+    def test_refused_lines(self):
+        """A refused card prints only "refused" and its number."""
+        self.assertEqual(program.lines(b""), ["refused 1"])
+        self.assertEqual(program.lines(STRIPE + b"\0"), ["refused 4"])
+
+    def test_sizes(self):
+        """The smallest card has 70 bytes, the maximal one 24,128."""
+        for describe, size in ((cards.smallest_card, 70), (cards.maximal_card, 24128)):
+            card = cards.card(describe())
+            self.assertEqual((len(card), guide.check(card)), (size, 0))
+
+    def test_shared_nodes(self):
+        """256 nodes over the one before twice answer in well under a second."""
+        begun = time.perf_counter()
+        found = program.lines(cards.card(cards.shared_nodes_card()))
+        self.assertLess(time.perf_counter() - begun, 0.5)
+        self.assertEqual(found[-1], "rest 2")
+
+    def test_program_and_run_agree(self):
+        """As many step lines as the run's count."""
+        random = Random("lines")
+        for _ in range(60):
+            found = program.lines(cards.card(cards.good_card(random, 700)))
+            self.assertEqual(len(found) - 2, int(found[-1].split()[1]))
+
+
+class Damages(unittest.TestCase):
+    """Each damage's number, as document 01 gives it."""
+
+    def test_card_damages_alone(self):
+        """Each clause broken alone, each range just inside."""
+        random = Random("alone")
+        for one in (damage.CARD_DAMAGES + damage.CARD_RANGES) * 3:
+            card = damage.damaged_card(random, cards.roomy_card(random), one)
+            self.assertEqual(guide.check(card), one.number, one.name)
+
+    def test_card_damages_in_pairs(self):
+        """Two clauses of different rows: the lower row answers."""
+        random = Random("pairs")
+        for low, high in damage.CARD_PAIRS * 5:
+            pair = damage.pair_of_damages(random, low, high)
+            card = damage.damaged_card(random, cards.roomy_card(random), *pair)
+            self.assertEqual(guide.check(card), low, [one.name for one in pair])
+
+    def test_place_damages(self):
+        """Each clause of a place alone and just inside, and the card first."""
+        random = Random("places")
+        for one in (damage.PLACE_DAMAGES + damage.PLACE_RANGES) * 3:
+            card = cards.card(cards.roomy_card(random))
+            _, accepted = guide.judge(card)
+            held = cases.place_description(cases.random_configuration(random, accepted))
+            place = damage.damaged_place(random, accepted, held, one)
+            self.assertEqual(guide.restore(card, place)[0], one.number, one.name)
+            self.assertEqual(guide.restore(card + b"\0", place), (4, guide.EMPTY))
+
+    def test_place_damages_in_pairs(self):
+        """Two rows of a place at once: the lower answers."""
+        random = Random("place pairs")
+        for low, high in damage.PLACE_PAIRS * 5:
+            card = cards.card(cards.roomy_card(random))
+            _, accepted = guide.judge(card)
+            held = cases.place_description(cases.random_configuration(random, accepted))
+            pair = damage.pair_of_place_damages(random, low, high)
+            place = damage.damaged_place(random, accepted, held, *pair)
+            self.assertEqual(guide.restore(card, place)[0], low, [one.name for one in pair])
+
+    def test_configuration_damages(self):
+        """Each clause of 13 alone and just inside, in each of the four calls."""
+        random = Random("configurations")
+        for one in (damage.CONFIGURATION_DAMAGES + damage.CONFIGURATION_RANGES) * 3:
+            card = cards.card(cards.roomy_card(random))
+            _, accepted = guide.judge(card)
+            held = one.change(random, accepted, cases.random_configuration(random, accepted))
+            if held is None:
+                continue
+            self.assertEqual(guide.list_choices(card, held, 1024)[0], one.number, one.name)
+            self.assertEqual(guide.run(card, held, 0)[:2], (one.number, held), one.name)
+            self.assertEqual(guide.save(card, held, 2048)[0], one.number, one.name)
+            taken = guide.take(card, held, 65535)
+            self.assertEqual(taken, (one.number or 10, held), one.name)
+
+    def test_full_plans(self):
+        """A revision that leaves 1,024 actions is taken, one more is not."""
+        random, met = Random("full"), 0
+        for _ in range(200):
+            card = cards.card(cards.roomy_card(random))
+            _, accepted = guide.judge(card)
+            for over, number in ((0, 0), (1, 11)):
+                found = damage.full_configuration(random, accepted, over)
+                if found is not None:
+                    met += 1
+                    self.assertEqual(guide.take(card, *found)[0], number)
+        self.assertGreater(met, 50)
+
+
+class GoodCards(unittest.TestCase):
+    """The seeded generator of good cards."""
+
+    def test_good_cards(self):
+        """Every card is good, small enough, and comes back the same by place."""
+        random = Random("good")
+        for largest in (70, 255, 700, 24128):
+            for _ in range(60):
+                card = cards.card(cards.good_card(random, largest))
+                self.assertEqual(guide.check(card), 0)
+                self.assertLessEqual(len(card), largest)
+                held = cases.random_configuration(random, guide.judge(card)[1])
+                place = guide.save(card, held, 1068)[1]
+                self.assertEqual(guide.restore(card, place), (0, held))
+
+    def test_bounded_runs(self):
+        """Under a bounded card no run without a selection is longer than the
+        plan weighs."""
+        random = Random("bounded")
+        for _ in range(150):
+            card = cards.card(cards.good_card(random, 700))
+            if guide.grade(card)[1] == guide.BOUNDED:
+                self.run_within_weight(random, card)
+
+    def run_within_weight(self, random, card):
+        """A run with random choices, no selection among them, to its end."""
+        _, accepted = guide.judge(card)
+        held = cases.random_configuration(random, accepted)
+        weight = guide.weigh(accepted, held.plan[:held.length])
+        if weight > guide.WEIGHT_LIMIT:
+            return
+        for _ in range(weight + 1):
+            codes = [code for code in guide.list_choices(card, held, 1024)[2] if code > 255]
+            if not codes:
+                return
+            number, held = guide.take(card, held, random.choice(codes))
+            self.assertEqual(number, 0)
+        self.fail("more transitions than the plan weighs")
+
+
+class Cases(unittest.TestCase):
+    """The cases by seed."""
+
+    def test_same_seed_same_bytes(self):
+        """The same seed gives the same bytes, another seed others."""
+        one = list(cases.generate(7, 60, 700))
+        self.assertEqual(one, list(cases.generate(7, 60, 700)))
+        self.assertEqual(one[:20], list(cases.generate(7, 20, 700)))
+        self.assertNotEqual(one, list(cases.generate(8, 60, 700)))
+
+    def test_no_card_too_large(self):
+        """No card of more than `largest` bytes, no case of more than 40
+        requests."""
+        for largest in (100, 255, 700):
+            for case in cases.generate(3, 40, largest):
+                self.assertLessEqual(len(case.card), largest)
+                self.assertLessEqual(len(case.requests), 40)
+
+    def test_one_stream(self):
+        """The stream's answers are those to the requests one by one."""
+        some = list(cases.generate(5, 30, 700))
+        single = [drill.answer(case.card, request) for case in some for request in case.requests]
+        self.assertEqual(drill.answers(b"".join(cases.stream(some))), b"".join(single))
+
+    def test_every_answer_is_met(self):
+        """Over 500 cards each answer is met at least ten times."""
+        met = [0] * 14
+        for case in cases.generate(1, 500, 700):
+            for request in case.requests:
+                met[guide.number(drill.answer(case.card, request), 0)] += 1
+        self.assertGreaterEqual(min(met), 10, met)
+
+
+class DrillBytes(unittest.TestCase):
+    """The drill's requests and answers, written out by hand."""
+
+    LOADED = b"\x09" + bytes(15) + b"\x04" + bytes(15) + bytes([0, 0, 0, 0, 0])
+    CARD = b"\x00\xff\x00" + STRIPE_BYTES
+
+    def answers(self, *requests):
+        """The answers to requests about the stripe card."""
+        return drill.answers(self.CARD + b"".join(requests))
+
+    def test_no_card(self):
+        """At first the card is that of no bytes."""
+        self.assertEqual(drill.answers(b"\x01"), b"\x01\x00")
+        self.assertEqual(drill.answers(b"\x02"), b"\x01\x00" + bytes(37))
+        self.assertEqual(drill.answers(b"\x03"), b"\x01\x00" + bytes(4))
+
+    def test_check_load_grade(self):
+        """Check, load and grade of the stripe card."""
+        found = self.answers(b"\x01", b"\x02", b"\x03")
+        self.assertEqual(found, b"\0\0" + b"\0\0" + self.LOADED + bytes(6))
+
+    def test_list(self):
+        """The list 0 alone in a room of 2, and in no room."""
+        request = b"\x04" + self.LOADED
+        found = self.answers(request + b"\x02\x00", request + b"\x00\x00")
+        self.assertEqual(found, bytes.fromhex("0000 0100 0000 EEEE 0C00 0000"))
+
+    def test_take(self):
+        """Selection 0, and a code that is none."""
+        request = b"\x05" + self.LOADED
+        after = self.LOADED[:32] + bytes([1, 0, 1, 1, 0, 4])
+        found = self.answers(request + b"\x00\x00", request + b"\x00\x03")
+        self.assertEqual(found, b"\0\0" + after + b"\x0a\0" + self.LOADED)
+
+    def test_run(self):
+        """Budget 4: the plan 2 0 has m 1, as its last byte is zero."""
+        found = self.answers(b"\x06" + self.LOADED + b"\x04\x00")
+        after = b"\x0b" + bytes(15) + b"\x04" + bytes(15) + bytes([2, 0, 0, 1, 0, 2])
+        self.assertEqual(found, b"\0\0" + after + b"\x04\0" + b"\0")
+
+    def test_save_and_restore(self):
+        """A save in a room of 45 and of 43, and the place restored."""
+        place = bytes.fromhex("3350 0100 0000 2C00 0000 0000") + self.LOADED[:32]
+        request = b"\x07" + self.LOADED
+        found = self.answers(request + b"\x2d\0", request + b"\x2b\0", b"\x08\x2c\0" + place)
+        expected = b"\0\0" + place + b"\xee" + b"\x0c\0" + b"\xee" * 43 + b"\0\0" + self.LOADED
+        self.assertEqual(found, expected)
+
+    def test_refused_configuration_comes_back(self):
+        """A byte after the plan's end: 13, and the configuration as it came in,
+        with the least m."""
+        held = self.LOADED[:32] + bytes([0, 0, 0, 3, 0, 0, 7, 0])
+        back = self.LOADED[:32] + bytes([0, 0, 0, 2, 0, 0, 7])
+        found = self.answers(b"\x06" + held + b"\x09\0")
+        self.assertEqual(found, b"\x0d\0" + back + b"\0\0\0")
+
+    def test_broken_requests_end_the_program(self):
+        """A request that breaks the rules ends the program; answers so far are
+        written."""
+        image = self.LOADED
+        broken = [
+            b"\x09",
+            b"\xff",
+            b"\x04" + image + b"\x01\x04",
+            b"\x07" + image + b"\x01\x08",
+            b"\x08\x01\x10" + bytes(4097),
+            b"\x05" + image[:-2] + b"\x01\x04" + bytes(1025) + b"\0\0",
+        ]
+        for request in broken:
+            self.assertEqual(self.answers(b"\x01", request, b"\x01"), b"\0\0")
+
+    def test_input_ending_inside_a_request(self):
+        """The answers so far are written."""
+        whole = b"\x05" + self.LOADED + b"\0\0"
+        for size in range(1, len(whole)):
+            self.assertEqual(self.answers(b"\x01", whole[:size]), b"\0\0")
+        self.assertEqual(self.answers(b"\x01", b"\x00\x05\x00abcd"), b"\0\0")
+
+
+if __name__ == "__main__":
+    unittest.main()

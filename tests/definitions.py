@@ -1,0 +1,339 @@
+#!/usr/bin/env python3
+"""Has the checker compute the definitions and compares them with the independent program.
+
+    python3 tests/definitions.py --seed 1 --cards 500
+
+Cards, places, configurations and choices come from oracle/ by the seed; the answers to them from oracle/ too. Each request
+becomes one equation, "what the definition answers is what the oracle answers", in a temporary crate over the project's own
+definitions, and the checker computes both sides. The last line is 'N passed, M failed': N requests on which both agree.
+Nothing is written into the repository.
+"""
+
+import argparse
+import os
+import shutil
+import subprocess
+import sys
+import tempfile
+from collections import Counter
+from random import Random
+
+TOP = os.path.dirname(os.path.dirname(os.path.abspath(__file__)))
+sys.path.insert(0, os.path.join(TOP, "oracle"))
+sys.dont_write_bytecode = True
+
+import cases  # noqa: E402
+import drill  # noqa: E402
+
+DEFINITIONS = ("paper", "house", "meaning")
+CALLS = ("check", "load", "grade", "list", "take", "run", "save", "restore")
+# The checker computes a run step by step, so longer budgets are cut to this.
+LONGEST_RUN = 200
+PER_CRATE = 50
+
+HEAD = """use mathlib.Core.Path.{_≡_, refl}
+use mathlib.Core.List.{List, [], _∷_, _++_}
+use Prim.Native.Nat.{ℕ, _-_}
+use lib.ListN.{replicate}
+use Rattle.meaning.specs.declared.Configuration.{Configuration}
+use Rattle.meaning.specs.Configurations.{padded}
+use Rattle.meaning.proofs.Computing.{computing}
+use Rattle.CRATE.specs.Drill.{image, checkBytes, loadBytes, gradeBytes, listBytes, takeBytes, runBytes, saveBytes, restoreBytes, all-shown}
+
+"""
+
+DRILL = """-- The answers of the eight calls as the drill writes them.
+use mathlib.Core.List.{List, [], _∷_, _++_, map, flatten}
+use Prim.Native.Nat.{ℕ, zero, suc}
+use lib.ListN.{length, replicate}
+use Rattle.house.specs.declared.Ending.{Ending}
+use Rattle.house.specs.declared.Offender.{Offender}
+use Rattle.house.specs.declared.Verdict.{Verdict}
+use Rattle.meaning.specs.declared.Answer.{Answer}
+use Rattle.meaning.specs.declared.Answer.the-variants.{Done, Refused}
+use Rattle.meaning.specs.declared.Configuration.{Configuration}
+use Rattle.meaning.specs.declared.Checked.{Checked}
+use Rattle.meaning.specs.declared.Reply.{Reply}
+use Rattle.meaning.specs.declared.Graded.{Graded}
+use Rattle.meaning.specs.declared.Written.{Written}
+use Rattle.meaning.specs.declared.Ran.{Ran}
+use Rattle.meaning.specs.Card.{Bytes}
+use Rattle.meaning.specs.Place.{twoBytes}
+use Rattle.meaning.specs.Refusals.{numberOf, answerNumber}
+use Rattle.meaning.specs.Calls.{checks, loads, grades, lists, listLeaves, takes, runs, saves, saveLeaves, restores}
+
+-- a byte before what is left of the bytes after it, once zeros at the end are left off
+abbrev before : ℕ → Bytes → Bytes
+before zero [] = []
+before zero (y ∷ ys) = zero ∷ y ∷ ys
+before (suc n) ys = suc n ∷ ys
+
+abbrev trimmed : Bytes → Bytes
+trimmed [] = []
+trimmed (x ∷ xs) = before x (trimmed xs)
+
+abbrev withPlan : Configuration → Bytes → Bytes
+withPlan c plan = c .beliefs ++ (c .goals ++ (twoBytes (c .length) ++ (c .phase ∷ (twoBytes (length plan) ++ plan))))
+
+unfoldable pub image : Configuration → Bytes
+image c = withPlan c (trimmed (c .plan))
+
+abbrev number : Answer → Bytes
+number a = twoBytes (answerNumber a)
+
+abbrev checkedBytes : Checked → Bytes
+checkedBytes (Checked.Good l) = twoBytes 0
+checkedBytes (Checked.Refused r) = twoBytes (numberOf r)
+
+unfoldable pub checkBytes : Bytes → Bytes
+checkBytes b = checkedBytes (checks b)
+
+abbrev replyBytes : Reply → Bytes
+replyBytes r = number (r .answer) ++ image (r .configuration)
+
+unfoldable pub loadBytes : Bytes → Bytes
+loadBytes b = replyBytes (loads b)
+
+unfoldable pub takeBytes : Bytes → Configuration → ℕ → Bytes
+takeBytes b c k = replyBytes (takes b c k)
+
+unfoldable pub restoreBytes : Bytes → Bytes → Bytes
+restoreBytes b p = replyBytes (restores b p)
+
+abbrev verdictBytes : Answer → Verdict → Bytes
+verdictBytes (Refused r) v = 0 ∷ 0 ∷ 0 ∷ 0 ∷ []
+verdictBytes Done Verdict.Bounded = 0 ∷ 0 ∷ 0 ∷ 0 ∷ []
+verdictBytes Done (Verdict.Open Offender.InitialPlan) = 1 ∷ 1 ∷ 0 ∷ 0 ∷ []
+verdictBytes Done (Verdict.Open (Offender.Selection n)) = 1 ∷ 2 ∷ twoBytes n
+verdictBytes Done (Verdict.Open (Offender.Revision n)) = 1 ∷ 3 ∷ twoBytes n
+
+abbrev gradedBytes : Graded → Bytes
+gradedBytes g = number (g .answer) ++ verdictBytes (g .answer) (g .verdict)
+
+unfoldable pub gradeBytes : Bytes → Bytes
+gradeBytes b = gradedBytes (grades b)
+
+abbrev writtenBytes : Written → Bytes
+writtenBytes w = number (w .answer) ++ twoBytes (w .count)
+
+unfoldable pub listBytes : Bytes → Configuration → ℕ → Bytes
+listBytes b c room = writtenBytes (lists b c (replicate room 0xEEEE)) ++ flatten (map twoBytes (listLeaves b c (replicate room 0xEEEE)))
+
+unfoldable pub saveBytes : Bytes → Configuration → ℕ → Bytes
+saveBytes b c room = number (saves b c (replicate room 0xEE) .answer) ++ saveLeaves b c (replicate room 0xEE)
+
+abbrev endingByte : Ending → ℕ
+endingByte Ending.Spent = 0
+endingByte Ending.Rest = 1
+endingByte Ending.Full = 2
+
+abbrev ranBytes : Ran → Bytes
+ranBytes r = number (r .answer) ++ (image (r .configuration) ++ (twoBytes (r .count) ++ (endingByte (r .ending) ∷ [])))
+
+unfoldable pub runBytes : Bytes → Configuration → ℕ → Bytes
+runBytes b c budget = ranBytes (runs b c budget)
+
+unfoldable pub all-shown : Unit {0}
+unfolding flatten image checkBytes loadBytes gradeBytes listBytes takeBytes runBytes saveBytes restoreBytes
+all-shown = tt
+"""
+
+
+def two(data, at):
+    return data[at] + 256 * data[at + 1]
+
+
+def literal(data):
+    """Bytes as a list of the definitions' language; a run of one value is written as `replicate`."""
+    text, at = [], 0
+    while at < len(data):
+        end = at
+        while end < len(data) and data[end] == data[at]:
+            end += 1
+        if end - at >= 12:
+            text.append(f"replicate {end - at} {data[at]} ++ (")
+        else:
+            end = at + 1
+            text.append(f"{data[at]} ∷ (")
+        at = end
+    return "(" + "".join(text) + "[]" + ")" * len(text) + ")"
+
+
+def cut_budget(request):
+    """A run's budget cut to what the checker computes in a moment."""
+    if request[0] == 6 and two(request, len(request) - 2) > LONGEST_RUN:
+        return request[:-2] + bytes([LONGEST_RUN % 256, LONGEST_RUN // 256])
+    return request
+
+
+def image_term(request):
+    """The configuration of a request's image, which starts at byte 1, and the place after it."""
+    m = two(request, 36)
+    plan = f"({literal(request[38:38 + m])} ++ replicate {1024 - m} 0)"
+    term = (
+        f"(record {{ beliefs = {literal(request[1:17])}; goals = {literal(request[17:33])}; "
+        f"plan = {plan}; length = {two(request, 33)}; phase = {request[35]} }})"
+    )
+    return term, 38 + m
+
+
+def term(card, request):
+    """What the definition answers to a request, as a term."""
+    call = CALLS[request[0] - 1]
+    if call in ("check", "load", "grade"):
+        return f"{call}Bytes {card}"
+    if call == "restore":
+        return f"restoreBytes {card} {literal(request[3:])}"
+    configuration, at = image_term(request)
+    return f"{call}Bytes {card} {configuration} {two(request, at)}"
+
+
+def theorem(name, card, request, answer):
+    return (
+        f"pub {name} : {term(card, request)} ≡ {literal(answer)}\n"
+        f"unfolding computing all-shown {card}\n{name} = refl\n\n"
+    )
+
+
+def write_crate(root, number, chunk):
+    """A crate of equations: a file for each case, with its card once."""
+    crate = f"held{number}"
+    here = os.path.join(root, "crates", crate)
+    for folder in ("src", "specs", "proofs"):
+        os.makedirs(os.path.join(here, folder))
+    write(os.path.join(here, "src", "lib.rt"), "// Equations that the checker computes.\n")
+    write(os.path.join(here, "specs", "Lib.antt"), "pub mod Drill\n")
+    write(os.path.join(here, "specs", "Drill.antt"), DRILL)
+    for index, (case, answered) in enumerate(chunk):
+        text = HEAD.replace("CRATE", crate)
+        text += f"unfoldable pub card : List ℕ\ncard = {literal(case.card)}\n\n"
+        for j, (request, answer) in enumerate(answered):
+            text += theorem(f"r{j}", "card", request, answer)
+        write(os.path.join(here, "proofs", f"C{index}.antt"), text)
+    write(os.path.join(here, "proofs", "Lib.antt"), "".join(f"pub mod C{i}\n" for i in range(len(chunk))))
+    return crate
+
+
+def write(path, text):
+    with open(path, "w", encoding="utf-8") as out:
+        out.write(text)
+
+
+def prepare(root):
+    """A temporary repository with the project's definitions, without their must-fail edits."""
+    for name in DEFINITIONS:
+        shutil.copytree(
+            os.path.join(TOP, "crates", name),
+            os.path.join(root, "crates", name),
+            ignore=shutil.ignore_patterns("must-fail"),
+        )
+
+
+def rt(root, *words):
+    """The kit's command, with everything it prints kept in a file beside the repository."""
+    environment = dict(os.environ, RT_CUT="2000", RT_JOBS="2")
+    environment["PATH"] = environment.get("PATH", "/usr/bin:/bin") + ":/usr/local/bin"
+    done = subprocess.run(["rt", *words], cwd=root, env=environment, capture_output=True, text=True)
+    return done.returncode, done.stdout + done.stderr
+
+
+def disagreements(output, crate, chunk):
+    """The requests whose equation was refused, by the lines of the checker's errors."""
+    found = {}
+    for line in output.split("\n"):
+        marker = f"/crates/{crate}/proofs/C"
+        if marker in line and "error: `r" in line:
+            index = int(line.split(marker)[1].split(".antt")[0])
+            request = int(line.split("error: `r")[1].split("`")[0])
+            found[index, request] = f"{chunk[index][0].name}, request {request}: {line.split('error: ')[1][:200]}"
+    return found
+
+
+def arguments():
+    parser = argparse.ArgumentParser(description=__doc__.split("\n")[0])
+    parser.add_argument("--seed", type=int, default=1)
+    parser.add_argument("--cards", type=int, default=500)
+    parser.add_argument("--largest", type=int, default=700, help="bytes of the largest card")
+    parser.add_argument("--requests", type=int, default=8, help="the most requests of a card")
+    parser.add_argument("--keep", help="a folder for the temporary crates, kept afterwards")
+    return parser.parse_args()
+
+
+def chosen(random, requests, most):
+    """At most so many of a case's requests, in their order."""
+    if len(requests) <= most:
+        return requests
+    return [requests[i] for i in sorted(random.sample(range(len(requests)), most))]
+
+
+def gather(options):
+    """The cases, each with its requests and the oracle's answers; and how often each answer was met for each call."""
+    met, gathered, random = Counter(), [], Random(options.seed)
+    for case in cases.generate(options.seed, options.cards, largest=options.largest):
+        answered = []
+        for request in map(cut_budget, chosen(random, case.requests, options.requests)):
+            answer = drill.answer(case.card, request)
+            met[CALLS[request[0] - 1], two(answer, 0)] += 1
+            answered.append((request, answer))
+        gathered.append((case, answered))
+    return gathered, met
+
+
+def table(met):
+    """How often each answer was met for each call."""
+    lines = ["answer  " + "".join(f"{call:>9}" for call in CALLS) + "      all"]
+    for number in range(14):
+        row = [met[call, number] for call in CALLS]
+        lines.append(f"{number:>6}  " + "".join(f"{n:>9}" for n in row) + f"{sum(row):>9}")
+    return "\n".join(lines)
+
+
+def read_log(root, crate):
+    """What the checker printed of a crate, whole."""
+    path = os.path.join(root, "target", "log", f"{crate}.out")
+    if not os.path.exists(path):
+        return ""
+    with open(path, encoding="utf-8") as log:
+        return log.read()
+
+
+def hold(root, chunks):
+    """Checks the crates of equations; answers the refused requests, and what else went wrong."""
+    names = [f"held{number}" for number in range(len(chunks))]
+    status, output = rt(root, "check", *names)
+    refused = []
+    for name, chunk in zip(names, chunks):
+        refused += disagreements(read_log(root, name), name, chunk).values()
+    return refused, output[-3000:] if status != 0 and not refused else ""
+
+
+def main():
+    options = arguments()
+    gathered, met = gather(options)
+    print(table(met), flush=True)
+    root = options.keep or tempfile.mkdtemp(prefix="definitions-")
+    prepare(root)
+    chunks = [gathered[i : i + PER_CRATE] for i in range(0, len(gathered), PER_CRATE)]
+    names = [write_crate(root, i, chunk) for i, chunk in enumerate(chunks)]
+    listed = ["paper:", "house: paper", "meaning: paper house"]
+    listed += [f"{name}: paper house meaning" for name in names]
+    write(os.path.join(root, "crates.txt"), "\n".join(listed) + "\n")
+    refused, trouble = hold(root, chunks)
+    if not options.keep:
+        shutil.rmtree(root)
+    report(options, met, sum(len(answered) for _, answered in gathered), refused, trouble)
+
+
+def report(options, met, total, refused, trouble):
+    print("\n".join(refused) + trouble)
+    rare = [n for n in range(14) if sum(met[call, n] for call in CALLS) < 10]
+    if rare:
+        print("answers met fewer than ten times:", *rare)
+    failed = total if trouble else len(refused)
+    print(f"{options.cards} cards of at most {options.largest} bytes, {total} requests, by seed {options.seed}")
+    print(f"{total - failed} passed, {failed} failed")
+    sys.exit(1 if failed else 0)
+
+
+if __name__ == "__main__":
+    main()
