@@ -5,11 +5,12 @@ use mathlib.Core.List.{List, [], _∷_, map}
 use Prim.Native.Nat.{ℕ, zero, suc, _+_, _≤_, _<_}
 use native.Mathlib.Omega.{arith}
 use lib.Dec.{leb}
-use lib.ListN.{length, getD, length-map}
+use lib.ListN.{length, getD}
 use borrow.Author.Tests.{leb-true, not-false}
 use Rattle.paper.proofs.Relation.{both}
 use Rattle.house.specs.Order.{numbers}
 use Rattle.house.specs.Theorems.{Numbered}
+use Rattle.house.proofs.Numbers.{length-made}
 use Rattle.house.proofs.Weight.{bounded-law}
 use Rattle.meaning.specs.declared.Answer.the-variants.{Done, Refused}
 use Rattle.meaning.specs.declared.Section.{Section}
@@ -87,13 +88,8 @@ counts l e0 =
 
 -- ---- its agent
 
-pub length-numbers : (k n : ℕ) → length (numbers k n) ≡ n
-unfolding numbers
-length-numbers k zero = refl
-length-numbers k (suc n) = ap suc (length-numbers (suc k) n)
-
 pub length-entries : {R : Type 0} (read : ℕ → R) (size : ℕ) (s : Section) → length (entries read size s) ≡ s .count
-length-entries read size s = length-map (numbers 0 (s .count)) (λ i. read (entryAt size s i)) ∙ length-numbers 0 (s .count)
+length-entries read size s = length-made (λ i. read (entryAt size s i)) 0 (s .count)
 
 numbered : (b : Bytes) → countsGood (layout b) ≡ true → Numbered (agent b)
 unfolding agent agentOf

@@ -1,6 +1,10 @@
 pub mod Cases
 pub mod Computing
+pub mod Every
 pub mod Tables
 pub mod Accepted
 pub mod Configurations
+pub mod Parts
+pub mod Pass
+pub mod Nodes
 pub mod Places

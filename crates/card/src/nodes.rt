@@ -1,0 +1,88 @@
+// The nodes: row 6 of the refusal table, and which nodes contain an atom of a kind, each in one pass.
+ghost use mathlib.Core.Path.{_≡_};
+ghost use mathlib.Core.Bool.{Bool, true, false};
+ghost use Prim.Native.Nat.{ℕ, _+_, _≤_, _<_};
+ghost use lib.ListN.{length, getD, replicate};
+ghost use Rattle.meaning.specs.Refusals.{kindGood, nodesGood, containsOf};
+ghost use Rattle.card.specs.Laid.{Laid, Marks, kindOf, aOf, bOf};
+use meaning::Layout;
+
+// Whether node i, of a card with some atoms, keeps the rule of its kind.
+fn kind_good(kind: u8, a: u8, b: u8, atoms: usize, i: usize) -> bool
+    ensures { λ r. ⌜ r ≡ kindGood atoms i kind a b ⌝ }
+{
+    match kind {
+        0 => (a == 0) & (b == 0),
+        1..=2 => ((a as usize) < atoms) & (b == 0),
+        3 => ((a as usize) < i) & (b == 0),
+        4..=5 => ((a as usize) < i) & ((b as usize) < i),
+        _ => false,
+    }
+}
+
+// Row 6: every node keeps its rule.
+pub fn nodes_good(card: &[u8], l: Layout) -> bool
+    requires { ⌜ Laid l (now card) ⌝ }
+    ensures { λ r. ⌜ r ≡ nodesGood l (now (card .entry)) ⌝ }
+{
+    let nodes = l.nodes;
+    let n = nodes.count;
+    let from = nodes.offset;
+    let atoms = l.atoms;
+    let mut good = true;
+    let mut i: usize = 0;
+    while i < n {
+        let at = from + 4 * i;
+        let kept = kind_good(card[at], card[at + 1], card[at + 2], atoms, i);
+        good = good & (kept & (card[at + 3] == 0));
+        i += 1;
+    }
+    good
+}
+
+// Whether an atom of a kind stands in a condition of the kind k with the parts a and b, by the marks of the lower nodes.
+fn contains(kind: u8, k: u8, a: u8, b: u8, marks: &[bool; 256]) -> bool
+    ensures { λ r. ⌜ r ≡ containsOf kind k a b (λ j. getD (now (marks .entry)) j false) ⌝ }
+{
+    match k {
+        0 => false,
+        1 => kind == 1,
+        2 => kind == 2,
+        3 => marks[a as usize],
+        _ => marks[a as usize] | marks[b as usize],
+    }
+}
+
+// The same of node i.
+fn contains_at(card: &[u8], l: Layout, kind: u8, i: usize, marks: &[bool; 256]) -> bool
+    requires { ⌜ Laid l (now card) × (i < l .nodes .count) ⌝ }
+    ensures { λ r. ⌜ r ≡ containsOf kind (kindOf l (now (card .entry)) i) (aOf l (now (card .entry)) i) (bOf l (now (card .entry)) i) (λ j. getD (now (marks .entry)) j false) ⌝ }
+{
+    let nodes = l.nodes;
+    let at = nodes.offset + 4 * i;
+    contains(kind, card[at], card[at + 1], card[at + 2], marks)
+}
+
+// No node is marked.
+pub fn no_marks() -> [bool; 256]
+    ensures { λ r. ⌜ r ≡ replicate 256 false ⌝ }
+{
+    [false; 256]
+}
+
+// For each node, whether an atom of a kind stands in its condition.
+pub fn marks_of(card: &[u8], l: Layout, kind: u8) -> [bool; 256]
+    requires { ⌜ Laid l (now card) × (nodesGood l (now card) ≡ true) ⌝ }
+    ensures { λ r. ⌜ Marks kind l (now (card .entry)) r ⌝ }
+{
+    let nodes = l.nodes;
+    let n = nodes.count;
+    let mut marks = no_marks();
+    let mut i: usize = 0;
+    while i < n {
+        let mark = contains_at(card, l, kind, i, &marks);
+        marks[i] = mark;
+        i += 1;
+    }
+    marks
+}
