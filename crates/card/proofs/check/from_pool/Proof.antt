@@ -1,0 +1,66 @@
+use Rattle.card.proofs.Stair.{stops, goes-on}
+use Rattle.card.specs.Stair.{rowsFrom}
+use Rattle.meaning.specs.Refusals.{cardTable, actionsGood, pool}
+use Rattle.meaning.specs.Card.{layout}
+use mathlib.Core.Bool.{not}
+use mathlib.Core.Path.{_≡_, refl, sym, ap, _∙_}
+use mathlib.Core.List.{List, [], _∷_, _++_, append-nil, append-assoc}
+use Prim.Native.Nat.{ℕ, suc, _+_, _-_, _*_, _≤_, _<_}
+use native.Mathlib.Omega.{arith}
+use borrow.Author.Needs.{needs}
+use denote.Ref.{now}
+use lib.ListN.{length, getD, set, take, drop, replicate}
+use Rattle.card.proofs.check.from_pool.Statement.{statement}
+use Rattle.card.proofs.check.from_pool.Tie as tie
+use Rattle.card.proofs.check.from_pool.Reads as reads
+use Rattle.card.proofs.check.from_pool.Lts as lts
+use Rattle.card.proofs.check.from_sets.Reads as from-sets-reads
+use Rattle.card.proofs.check.row.Reads as row-reads
+use Rattle.card.proofs.contents.pool_good.Reads as pool-good-reads
+
+-- src/check.rt:48:17
+pool-good-requires : tie.Need-pool-good-requires
+pool-good-requires c κs = search needs
+
+-- src/check.rt:48:9
+row-requires : tie.Need-row-requires
+row-requires c κs = search needs
+
+enum-told : tie.Need-enum-told
+enum-told c = search needs
+
+-- src/check.rt:50:9
+enum-told-2 : tie.Need-enum-told-2
+enum-told-2 c = search needs
+
+-- src/check.rt:50:9
+returns : tie.Need-returns
+unfolding rowsFrom cardTable
+returns c =
+    let b = now (c .before .before .before .before .before .args .card) in
+    let e : c .before .before .before .pool-good .result ≡ actionsGood (layout b .actions) (pool (layout b) b) = c .before .before .before .pool-good .ensures ∙ ap (λ l. actionsGood (l .actions) (pool l b)) (c .before .before .before .before .before .pre .says) in
+    stops _ _ b (c .before .before .before .pool-good .result) (ap not (sym e)) (c .before .before .row .result) (c .before .before .row .ensures) _ (c .enum-told2 .given .1)
+
+-- src/check.rt:52:5
+from-sets-requires : tie.Need-from-sets-requires
+from-sets-requires c κs = search needs
+
+-- src/check.rt:44:1
+returns-2 : tie.Need-returns-2
+unfolding rowsFrom cardTable
+returns-2 c =
+    let b = now (c .before .before .before .before .before .before .args .card) in
+    let e : c .before .before .before .before .pool-good .result ≡ actionsGood (layout b .actions) (pool (layout b) b) = c .before .before .before .before .pool-good .ensures ∙ ap (λ l. actionsGood (l .actions) (pool l b)) (c .before .before .before .before .before .before .pre .says) in
+    c .from-sets .ensures ∙ sym (goes-on _ _ b (c .before .before .before .before .pool-good .result) (ap not (sym e)) (c .before .before .before .row .result) (c .before .before .before .row .ensures) (c .before .enum-told .given .1))
+
+pub from-pool-spec : {M : Type 1} → statement M
+from-pool-spec =
+    tie.close
+    (tie.spec
+    pool-good-requires
+    row-requires
+    enum-told
+    enum-told-2
+    returns
+    from-sets-requires
+    returns-2)

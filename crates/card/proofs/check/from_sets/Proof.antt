@@ -1,0 +1,37 @@
+use Rattle.card.proofs.Stair.{last-row, no-row}
+use Rattle.card.specs.Stair.{rowsFrom}
+use Rattle.meaning.specs.Refusals.{firstGiven, cardTable, setsGood}
+use Rattle.meaning.specs.Card.{layout}
+use mathlib.Core.Bool.{not}
+use mathlib.Core.Path.{_≡_, refl, sym, ap, _∙_}
+use mathlib.Core.List.{List, [], _∷_, _++_, append-nil, append-assoc}
+use Prim.Native.Nat.{ℕ, suc, _+_, _-_, _*_, _≤_, _<_}
+use native.Mathlib.Omega.{arith}
+use borrow.Author.Needs.{needs}
+use denote.Ref.{now}
+use lib.ListN.{length, getD, set, take, drop, replicate}
+use Rattle.card.proofs.check.from_sets.Statement.{statement}
+use Rattle.card.proofs.check.from_sets.Tie as tie
+use Rattle.card.proofs.check.from_sets.Reads as reads
+use Rattle.card.proofs.check.from_sets.Lts as lts
+use Rattle.card.proofs.check.row.Reads as row-reads
+use Rattle.card.proofs.contents.sets_good.Reads as sets-good-reads
+
+-- src/check.rt:41:9
+sets-good-requires : tie.Need-sets-good-requires
+sets-good-requires c κs = search needs
+
+-- src/check.rt:41:5
+row-requires : tie.Need-row-requires
+row-requires c κs = search needs
+
+-- src/check.rt:37:1
+returns : tie.Need-returns
+unfolding rowsFrom cardTable
+returns c =
+    let b = now (c .before .before .before .args .card) in
+    let e : c .before .sets-good .result ≡ setsGood (layout b) b = c .before .sets-good .ensures ∙ ap (λ l. setsGood l b) (c .before .before .before .pre .says) in
+    last-row _ _ b (c .before .sets-good .result) (ap not (sym e)) (c .row .result) (c .row .ensures) (no-row b)
+
+pub from-sets-spec : {M : Type 1} → statement M
+from-sets-spec = tie.close (tie.spec sets-good-requires row-requires returns)

@@ -1,0 +1,52 @@
+use Rattle.card.proofs.Stair.{stops, goes-on, ltb-not, row-done}
+use Rattle.card.specs.Stair.{rowsFrom}
+use Rattle.meaning.specs.Refusals.{cardTable, cardAnswer, cardShort}
+use borrow.Author.Tests.{leb-true}
+use lib.Dec.{leb}
+use mathlib.Core.Path.{_≡_, refl, sym, ap, _∙_}
+use mathlib.Core.List.{List, [], _∷_, _++_, append-nil, append-assoc}
+use Prim.Native.Nat.{ℕ, suc, _+_, _-_, _*_, _≤_, _<_}
+use native.Mathlib.Omega.{arith}
+use borrow.Author.Needs.{needs}
+use denote.Ref.{now}
+use lib.ListN.{length, getD, set, take, drop, replicate}
+use Rattle.card.proofs.check.judge.Statement.{statement}
+use Rattle.card.proofs.check.judge.Tie as tie
+use Rattle.card.proofs.check.judge.Reads as reads
+use Rattle.card.proofs.check.judge.Lts as lts
+use Rattle.card.proofs.check.from_mark.Reads as from-mark-reads
+use Rattle.card.proofs.check.row.Reads as row-reads
+
+-- src/check.rt:134:9
+row-requires : tie.Need-row-requires
+row-requires c κs = search needs
+
+enum-told : tie.Need-enum-told
+enum-told c = search needs
+
+-- src/check.rt:136:9
+enum-told-2 : tie.Need-enum-told-2
+enum-told-2 c = search needs
+
+-- src/check.rt:136:9
+returns : tie.Need-returns
+unfolding cardAnswer cardTable cardShort
+returns c =
+    let b = now (c .before .before .before .before .args .card) in
+    stops _ _ b (leb 64 (length b)) (ltb-not (length b) 64) (c .before .before .row .result) (c .before .before .row .ensures) _ (c .enum-told2 .given .1)
+
+-- src/check.rt:138:5
+from-mark-requires : tie.Need-from-mark-requires
+from-mark-requires c κs =
+    leb-true 64 _ (row-done _ _ (sym (c .before .before .row .ensures) ∙ c .enum-told .given .1))
+
+-- src/check.rt:131:1
+returns-2 : tie.Need-returns-2
+unfolding cardAnswer rowsFrom cardTable cardShort
+returns-2 c =
+    let b = now (c .before .before .before .before .before .args .card) in
+    c .from-mark .ensures ∙ sym (goes-on _ _ b (leb 64 (length b)) (ltb-not (length b) 64) (c .before .before .before .row .result) (c .before .before .before .row .ensures) (c .before .enum-told .given .1))
+
+pub judge-spec : {M : Type 1} → statement M
+judge-spec =
+    tie.close (tie.spec row-requires enum-told enum-told-2 returns from-mark-requires returns-2)

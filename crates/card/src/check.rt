@@ -1,0 +1,150 @@
+// The check: rows 1 to 9 of the refusal table in their order, for every byte string. Each function asks one row and, where it
+// is passed, calls the next.
+ghost use mathlib.Core.Path.{_≡_};
+ghost use mathlib.Core.Bool.{true, not};
+ghost use Prim.Native.Nat.{_≤_};
+ghost use lib.ListN.{length};
+ghost use Rattle.meaning.specs.Card.{layout};
+ghost use Rattle.meaning.specs.Refusals.{cardMark, countsGood, nodesGood, cardAnswer};
+ghost use Rattle.meaning.specs.Calls.{checks};
+ghost use Rattle.card.specs.Laid.{Narrow, NarrowSpan, Laid};
+ghost use Rattle.card.specs.Stair.{rowAnswer, rowsFrom};
+use crate::contents::pool_good;
+use crate::contents::sets_good;
+use crate::contents::weights_good;
+use crate::header::counts_good;
+use crate::header::offsets_good;
+use crate::header::read_layout;
+use crate::nodes::nodes_good;
+use crate::readers::number_at;
+use crate::rules::rules_good;
+use meaning::Answer;
+use meaning::Checked;
+use meaning::Layout;
+use meaning::Refusal;
+
+// The answer of one row.
+fn row(good: bool, refusal: Refusal) -> Answer
+    ensures { λ r. ⌜ r ≡ rowAnswer good refusal ⌝ }
+{
+    if good {
+        Answer::Done
+    } else {
+        Answer::Refused(refusal)
+    }
+}
+
+fn from_sets(card: &[u8], l: Layout) -> Answer
+    requires { ⌜ Laid l (now card) ⌝ }
+    ensures { λ r. ⌜ r ≡ rowsFrom 8 (now (card .entry)) ⌝ }
+{
+    row(sets_good(card, l), Refusal::Atom)
+}
+
+fn from_pool(card: &[u8], l: Layout) -> Answer
+    requires { ⌜ Laid l (now card) ⌝ }
+    ensures { λ r. ⌜ r ≡ rowsFrom 7 (now (card .entry)) ⌝ }
+{
+    let a = row(pool_good(card, l), Refusal::ActionByte);
+    let Answer::Done = a else {
+        return a;
+    };
+    from_sets(card, l)
+}
+
+fn from_rules(card: &[u8], l: Layout) -> Answer
+    requires { ⌜ Laid l (now card) × (nodesGood l (now card) ≡ true) × NarrowSpan (l .initial) ⌝ }
+    ensures { λ r. ⌜ r ≡ rowsFrom 6 (now (card .entry)) ⌝ }
+{
+    let a = row(rules_good(card, l), Refusal::Rule);
+    let Answer::Done = a else {
+        return a;
+    };
+    from_pool(card, l)
+}
+
+fn from_nodes(card: &[u8], l: Layout) -> Answer
+    requires { ⌜ Laid l (now card) × NarrowSpan (l .initial) ⌝ }
+    ensures { λ r. ⌜ r ≡ rowsFrom 5 (now (card .entry)) ⌝ }
+{
+    let a = row(nodes_good(card, l), Refusal::Node);
+    let Answer::Done = a else {
+        return a;
+    };
+    from_rules(card, l)
+}
+
+fn from_weights(card: &[u8], l: Layout) -> Answer
+    requires { ⌜ Laid l (now card) × NarrowSpan (l .initial) ⌝ }
+    ensures { λ r. ⌜ r ≡ rowsFrom 4 (now (card .entry)) ⌝ }
+{
+    let a = row(weights_good(card, l), Refusal::Weight);
+    let Answer::Done = a else {
+        return a;
+    };
+    from_nodes(card, l)
+}
+
+fn from_offsets(card: &[u8], l: Layout) -> Answer
+    requires { ⌜ (l ≡ layout (now card)) × Narrow l × (countsGood l ≡ true) ⌝ }
+    ensures { λ r. ⌜ r ≡ rowsFrom 3 (now (card .entry)) ⌝ }
+{
+    let a = row(offsets_good(l, card.len()), Refusal::Offsets);
+    let Answer::Done = a else {
+        return a;
+    };
+    from_weights(card, l)
+}
+
+fn from_counts(card: &[u8], l: Layout) -> Answer
+    requires { ⌜ (l ≡ layout (now card)) × Narrow l ⌝ }
+    ensures { λ r. ⌜ r ≡ rowsFrom 2 (now (card .entry)) ⌝ }
+{
+    let a = row(counts_good(l), Refusal::Count);
+    let Answer::Done = a else {
+        return a;
+    };
+    from_offsets(card, l)
+}
+
+// Row 2: the first two bytes and the edition.
+fn marked(card: &[u8]) -> bool
+    requires { ⌜ 64 ≤ length (now card) ⌝ }
+    ensures { λ r. ⌜ cardMark (now (card .entry)) ≡ not r ⌝ }
+{
+    let edition = number_at(card, 2);
+    (card[0] == 0x33) & ((card[1] == 0x41) & (edition == 1))
+}
+
+fn from_mark(card: &[u8]) -> Answer
+    requires { ⌜ 64 ≤ length (now card) ⌝ }
+    ensures { λ r. ⌜ r ≡ rowsFrom 1 (now (card .entry)) ⌝ }
+{
+    let a = row(marked(card), Refusal::Mark);
+    let Answer::Done = a else {
+        return a;
+    };
+    from_counts(card, read_layout(card))
+}
+
+// The number that a card is answered with.
+pub fn judge(card: &[u8]) -> Answer
+    ensures { λ r. ⌜ r ≡ cardAnswer (now (card .entry)) ⌝ }
+{
+    let a = row(64 <= card.len(), Refusal::Short);
+    let Answer::Done = a else {
+        return a;
+    };
+    from_mark(card)
+}
+
+// A card's layout, or the refusal.
+pub fn check(card: &[u8]) -> Checked
+    ensures { λ r. ⌜ r ≡ checks (now (card .entry)) ⌝ }
+{
+    let a = judge(card);
+    let Answer::Refused(refusal) = a else {
+        return Checked::Good(read_layout(card));
+    };
+    Checked::Refused(refusal)
+}
