@@ -15,7 +15,7 @@ use Rattle.house.proofs.Weight.{bounded-law}
 use Rattle.meaning.specs.declared.Answer.the-variants.{Done, Refused}
 use Rattle.meaning.specs.declared.Section.{Section}
 use Rattle.meaning.specs.declared.Layout.{Layout}
-use Rattle.meaning.specs.Card.{Bytes, layout, entryAt, entries, weightAt, weights, weight, agentOf, agent, initialPlan}
+use Rattle.meaning.specs.Card.{Bytes, layout, entryAt, entries, weightAt, weights, weight, agentOf, agentFor, agent, initialPlan}
 use Rattle.meaning.specs.Refusals.{all, within, countsGood, weightsGood, cardTable, cardAnswer}
 use Rattle.meaning.specs.Theorems.{Accepted, CardLaws}
 use Rattle.meaning.proofs.Tables.{passes}
@@ -92,7 +92,7 @@ pub length-entries : {R : Type 0} (read : ℕ → R) (size : ℕ) (s : Section) 
 length-entries read size s = length-made (λ i. read (entryAt size s i)) 0 (s .count)
 
 numbered : (b : Bytes) → countsGood (layout b) ≡ true → Numbered (agent b)
-unfolding agent agentOf
+unfolding agent agentFor agentOf
 numbered b e =
     let c = counts (layout b) e in
     record {

@@ -1,9 +1,11 @@
 -- What each call answers once the card is judged.
-use mathlib.Core.Path.{_≡_, refl}
+use mathlib.Core.Path.{_≡_, refl, sym, subst}
 use Rattle.house.specs.declared.Verdict.{Verdict}
 use Rattle.house.specs.declared.Offender.{Offender}
 use Rattle.house.specs.Weight.{verdict}
 use Rattle.meaning.specs.declared.Refusal.{Refusal}
+use Rattle.meaning.specs.declared.Layout.{Layout}
+use Rattle.meaning.specs.declared.Answer.{Answer}
 use Rattle.meaning.specs.declared.Answer.the-variants.{Done, Refused}
 use Rattle.meaning.specs.declared.Checked.{Checked}
 use Rattle.meaning.specs.Card.{Bytes, layout, weight, agent, initialPlan, start}
@@ -35,3 +37,21 @@ module _ (b : Bytes) where
   pub grades-refused : (r : Refusal) → cardAnswer b ≡ Refused r → grades b ≡ graded (Refused r) (Verdict.Open Offender.InitialPlan)
   unfolding grades
   grades-refused r e = rw (e, grades)
+
+  -- and back: what a checked card was answered with
+  abbrev Judged : Checked → Type 0
+  Judged (Checked.Good l) = (cardAnswer b ≡ Done) × (l ≡ layout b)
+  Judged (Checked.Refused r) = cardAnswer b ≡ Refused r
+
+  judged : Judged (checks b)
+  judged = go (cardAnswer b) refl
+    where
+      go : (a : Answer) → cardAnswer b ≡ a → Judged (checks b)
+      go Done e = subst Judged (sym (checks-good e)) (e, refl)
+      go (Refused r) e = subst Judged (sym (checks-refused r e)) e
+
+  pub good-judged : (l : Layout) → checks b ≡ Checked.Good l → (cardAnswer b ≡ Done) × (l ≡ layout b)
+  good-judged l e = subst Judged e judged
+
+  pub refused-judged : (r : Refusal) → checks b ≡ Checked.Refused r → cardAnswer b ≡ Refused r
+  refused-judged r e = subst Judged e judged

@@ -122,9 +122,12 @@ agentOf βs κs l b = record {
   AS = entries (specificationAt βs b) 36 (l .specifications);
 }
 
+unfoldable pub agentFor : Layout → Bytes → Agent
+agentFor l b = agentOf (conditions 𝐁 l b) (conditions 𝐆 l b) l b
+
 -- "A card is an agent in 3APL" (the letter).
 unfoldable pub agent : Bytes → Agent
-agent b = agentOf (conditions 𝐁 (layout b) b) (conditions 𝐆 (layout b) b) (layout b) b
+agent b = agentFor (layout b) b
 
 unfoldable pub weight : Bytes → ℕ → ℕ
 weight b a = getD (weights (layout b) b) a 1

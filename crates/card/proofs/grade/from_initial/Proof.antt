@@ -1,0 +1,62 @@
+use Rattle.card.proofs.Offenders.{verdict-light, verdict-heavy}
+use Rattle.meaning.specs.Card.{weight, plan, agentFor, agent, layout, initialPlan}
+use Rattle.meaning.specs.declared.Layout.{Layout}
+use Rattle.house.specs.Weight.{weigh, light, lowers, firstOffender, verdict}
+use Rattle.house.specs.declared.Verdict.{Verdict}
+use Rattle.house.specs.declared.Offender.{Offender}
+use Rattle.paper.specs.Language.{Agent}
+use lib.Dec.{leb}
+use borrow.Author.Tests.{le-leb, lt-leb}
+use mathlib.Core.Bool.{true, false}
+use mathlib.Core.Path.{_≡_, refl, sym, ap, _∙_}
+use mathlib.Core.List.{List, [], _∷_, _++_, append-nil, append-assoc}
+use Prim.Native.Nat.{ℕ, suc, _+_, _-_, _*_, _≤_, _<_}
+use native.Mathlib.Omega.{arith}
+use borrow.Author.Needs.{needs}
+use denote.Ref.{now}
+use lib.ListN.{length, getD, set, take, drop, replicate}
+use Rattle.card.proofs.grade.from_initial.Statement.{statement}
+use Rattle.card.proofs.grade.from_initial.Tie as tie
+use Rattle.card.proofs.grade.from_initial.Reads as reads
+use Rattle.card.proofs.grade.from_initial.Lts as lts
+use Rattle.card.proofs.grade.from_selections.Reads as from-selections-reads
+use Rattle.card.proofs.grade.plan_weight.Reads as plan-weight-reads
+
+-- src/grade.rt:113:8
+plan-weight-requires : tie.Need-plan-weight-requires
+plan-weight-requires c κs = search needs
+
+-- src/grade.rt:114:9
+from-selections-requires : tie.Need-from-selections-requires
+from-selections-requires c κs = search needs
+
+-- src/grade.rt:108:1
+returns : tie.Need-returns
+unfolding agent initialPlan
+returns c =
+    let a = c .before .before .before .before .before .args in
+    let b = now (a .card) in
+    let w = weight b in
+    let says : a .l ≡ layout b = c .before .before .before .before .before .pre .laid .says in
+    let π : plan (a .l) b (a .l .initial) ≡ initialPlan b = ap (λ (x : Layout). plan x b (x .initial)) says in
+    let e : weigh w (initialPlan b) ≤ 1024 = rw (← π, ← c .before .before .plan-weight .ensures) (omega arith) in
+    let A : agentFor (a .l) b ≡ agent b = ap (λ (x : Layout). agentFor x b) says in
+    c .from-selections .ensures
+    ∙ ap (λ (x : Agent). firstOffender (λ r. light w (r .π)) Offender.Selection 0 (x .PS) (firstOffender (lowers w) Offender.Revision 0 (x .PR) Verdict.Bounded)) A
+    ∙ sym (verdict-light w (agent b) (initialPlan b) e)
+
+-- src/grade.rt:108:1
+returns-2 : tie.Need-returns-2
+unfolding agent initialPlan
+returns-2 c =
+    let a = c .before .before .before .before .args in
+    let b = now (a .card) in
+    let w = weight b in
+    let says : a .l ≡ layout b = c .before .before .before .before .pre .laid .says in
+    let π : plan (a .l) b (a .l .initial) ≡ initialPlan b = ap (λ (x : Layout). plan x b (x .initial)) says in
+    let e : 1024 < weigh w (initialPlan b) = rw (← π, ← c .before .plan-weight .ensures) (omega arith) in
+    sym (verdict-heavy w (agent b) (initialPlan b) e)
+
+pub from-initial-spec : {M : Type 1} → statement M
+from-initial-spec =
+    tie.close (tie.spec plan-weight-requires from-selections-requires returns returns-2)

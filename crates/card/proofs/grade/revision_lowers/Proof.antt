@@ -1,0 +1,71 @@
+use Rattle.card.proofs.GoodCard.{good-as}
+use Rattle.meaning.specs.Card.{span, plan, weight, entryAt}
+use mathlib.Core.Path.{_≡_, refl, sym, ap, _∙_}
+use mathlib.Core.List.{List, [], _∷_, _++_, append-nil, append-assoc}
+use Prim.Native.Nat.{ℕ, suc, _+_, _-_, _*_, _≤_, _<_}
+use native.Mathlib.Omega.{arith}
+use borrow.Author.Needs.{needs}
+use denote.Ref.{now}
+use lib.ListN.{length, getD, set, take, drop, replicate}
+use Rattle.card.proofs.grade.revision_lowers.Statement.{statement}
+use Rattle.card.proofs.grade.revision_lowers.Tie as tie
+use Rattle.card.proofs.grade.revision_lowers.Reads as reads
+use Rattle.card.proofs.grade.revision_lowers.Lts as lts
+use Rattle.card.proofs.grade.plan_weight.Reads as plan-weight-reads
+use Rattle.card.proofs.header.read_span.Reads as read-span-reads
+
+-- src/grade.rt:67:31
+mul-at : tie.Need-mul-at
+mul-at c = search needs
+
+-- src/grade.rt:67:14
+add-at : tie.Need-add-at
+add-at c = search needs
+
+-- src/grade.rt:68:53
+add-read-span : tie.Need-add-read-span
+add-read-span c = search needs
+
+-- src/grade.rt:68:37
+read-span-requires : tie.Need-read-span-requires
+read-span-requires c κs = search needs
+
+-- src/grade.rt:68:9
+plan-weight-requires : tie.Need-plan-weight-requires
+plan-weight-requires c κs =
+    let a = c .before .before .before .before .args in
+    let p = c .before .before .before .before .pre in
+    (p .0, good-as (a .l) 1 _ _ (c .read-span .ensures .0) (p .0 .revisions (a .i) (p .1) .head))
+
+-- src/grade.rt:69:53
+add-read-span-2 : tie.Need-add-read-span-2
+add-read-span-2 c = search needs
+
+-- src/grade.rt:69:37
+read-span-requires-2 : tie.Need-read-span-requires-2
+read-span-requires-2 c κs = search needs
+
+-- src/grade.rt:69:9
+plan-weight-requires-2 : tie.Need-plan-weight-requires-2
+plan-weight-requires-2 c κs =
+    let a = c .before .before .before .before .before .before .args in
+    let p = c .before .before .before .before .before .before .pre in
+    (p .0, good-as (a .l) 0 _ _ (c .read-span2 .ensures .0) (p .0 .revisions (a .i) (p .1) .body))
+
+-- src/grade.rt:62:1
+returns : tie.Need-returns
+returns c = rw (c .plan-weight2 .ensures, c .before .before .plan-weight .ensures, c .before .read-span2 .ensures .0, c .before .before .before .read-span .ensures .0)
+
+pub revision-lowers-spec : {M : Type 1} → statement M
+revision-lowers-spec =
+    tie.close
+    (tie.spec
+    mul-at
+    add-at
+    add-read-span
+    read-span-requires
+    plan-weight-requires
+    add-read-span-2
+    read-span-requires-2
+    plan-weight-requires-2
+    returns)

@@ -1,0 +1,51 @@
+use Rattle.card.proofs.GoodCard.{good-as}
+use Rattle.meaning.specs.Card.{span, plan, weight, entryAt}
+use Rattle.house.specs.Weight.{light}
+use mathlib.Core.Path.{_≡_, refl, sym, ap, _∙_}
+use mathlib.Core.List.{List, [], _∷_, _++_, append-nil, append-assoc}
+use Prim.Native.Nat.{ℕ, suc, _+_, _-_, _*_, _≤_, _<_}
+use native.Mathlib.Omega.{arith}
+use borrow.Author.Needs.{needs}
+use denote.Ref.{now}
+use lib.ListN.{length, getD, set, take, drop, replicate}
+use Rattle.card.proofs.grade.selection_light.Statement.{statement}
+use Rattle.card.proofs.grade.selection_light.Tie as tie
+use Rattle.card.proofs.grade.selection_light.Reads as reads
+use Rattle.card.proofs.grade.selection_light.Lts as lts
+use Rattle.card.proofs.grade.plan_weight.Reads as plan-weight-reads
+use Rattle.card.proofs.header.read_span.Reads as read-span-reads
+
+-- src/grade.rt:57:31
+mul-at : tie.Need-mul-at
+mul-at c = search needs
+
+-- src/grade.rt:57:14
+add-at : tie.Need-add-at
+add-at c = search needs
+
+-- src/grade.rt:58:42
+add-read-span : tie.Need-add-read-span
+add-read-span c = search needs
+
+-- src/grade.rt:58:26
+read-span-requires : tie.Need-read-span-requires
+read-span-requires c κs = search needs
+
+-- src/grade.rt:58:5
+plan-weight-requires : tie.Need-plan-weight-requires
+plan-weight-requires c κs =
+    let a = c .before .before .before .before .args in
+    let p = c .before .before .before .before .pre in
+    (p .0, good-as (a .l) 1 _ _ (c .read-span .ensures .0) (p .0 .selections (a .i) (p .1) .plan))
+
+-- src/grade.rt:52:1
+returns : tie.Need-returns
+returns c =
+    let a = c .before .before .before .before .before .args in
+    let b = now (a .card) in
+    rw (c .plan-weight .ensures, c .before .read-span .ensures .0)
+
+pub selection-light-spec : {M : Type 1} → statement M
+selection-light-spec =
+    tie.close
+    (tie.spec mul-at add-at add-read-span read-span-requires plan-weight-requires returns)
