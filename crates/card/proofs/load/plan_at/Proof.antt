@@ -1,4 +1,5 @@
-use Rattle.card.proofs.Plans.{length-padded, padded-at, filled-padded}
+use Rattle.plans.proofs.Laws.{length-padded, padded-at}
+use Rattle.card.proofs.Plans.{filled-padded}
 use Rattle.sets.proofs.Loops.{filled, filled-turn}
 use Rattle.meaning.proofs.Parts.{length-part, part-at}
 use Rattle.meaning.specs.Configurations.{padded}

@@ -1,0 +1,247 @@
+-- The laws of bytes that move in place, and of plans with zeros after their end.
+use mathlib.Core.Path.{_≡_, refl, sym, ap, ap₂, _∙_}
+use mathlib.Core.Bool.{Bool, true, false, _&&_, and-true, and-false, and-assoc}
+use mathlib.Core.List.{List, [], _∷_, _++_, append-assoc, append-nil}
+use Prim.Native.Nat.{ℕ, zero, suc, _+_, _-_, _≤_, _<_}
+use native.Mathlib.Nat.{sub-zero, zero-sub, suc-sub-suc, zero-add}
+use native.Mathlib.Omega.{arith}
+use native.Mathlib.Numerals.{add-one}
+use lib.Dec.{eqb}
+use lib.ListN.{drop-of-length-le, length, getD, set, take, drop, replicate, length-append, length-take, length-drop, length-replicate, getD-replicate, List·getD-append, replicate-append-replicate}
+use lib.Seq.{getD-take, take-nil, set-at, append-snoc, take-suc, drop-cons, getD-drop, take-at, drop-at, getD-append-add, length-take-le, paste, paste-suc, take-paste, drop-paste, length-paste-head, length-paste, drop-drop, take-all}
+use Rattle.paper.specs.Next.{isPrefix}
+use Rattle.meaning.specs.Card.{part}
+use Rattle.meaning.specs.Configurations.{padded}
+use Rattle.meaning.proofs.Parts.{length-part}
+
+-- ---- bytes that are copied over others
+
+-- what stands behind the copy is as it was
+pub getD-after : (d : List ℕ) (at : ℕ) (s : List ℕ) (n k : ℕ) → at + n ≤ k → at ≤ length d → n ≤ length s → getD (paste d at s n) k 0 ≡ getD d k 0
+getD-after d at s n k h hd hs =
+    let p : List ℕ = take at d ++ take n s in
+    let lp : length p ≡ at + n = length-paste-head d at s n hd hs in
+    let e : k ≡ length p + (k - (at + n)) = omega arith in
+    let f : at + n + (k - (at + n)) ≡ k = omega arith in
+    ap (λ (x : ℕ). getD (p ++ drop (at + n) d) x 0) e
+    ∙ getD-append-add p (drop (at + n) d) (k - (at + n)) 0
+    ∙ getD-drop (at + n) d (k - (at + n)) 0
+    ∙ ap (λ (x : ℕ). getD d x 0) f
+
+-- and so is what stands before it
+pub getD-before : (d : List ℕ) (at : ℕ) (s : List ℕ) (n k : ℕ) → k < at → at ≤ length d → getD (paste d at s n) k 0 ≡ getD d k 0
+getD-before d at s n k h hd =
+    let l : length (take at d) ≡ at = length-take-le at d hd in
+    List·getD-append (take at d ++ take n s) (drop (at + n) d) 0 k (omega (arith, length-append (take at d) (take n s)))
+    ∙ List·getD-append (take at d) (take n s) 0 k (omega arith)
+    ∙ getD-take at d k 0 h
+
+pub drop-after : (d : List ℕ) (at : ℕ) (s : List ℕ) (n k : ℕ) → at + n ≤ k → at ≤ length d → n ≤ length s → drop k (paste d at s n) ≡ drop k d
+drop-after d at s n k h hd hs =
+    let e : at + n + (k - (at + n)) ≡ k = omega arith in
+    ap (λ (x : ℕ). drop x (paste d at s n)) (sym e)
+    ∙ sym (drop-drop (k - (at + n)) (at + n) (paste d at s n))
+    ∙ ap (drop (k - (at + n))) (drop-paste d at s n hd hs)
+    ∙ drop-drop (k - (at + n)) (at + n) d
+    ∙ ap (λ (x : ℕ). drop x d) e
+
+-- a turn of a copy from another list
+pub copy-more : (d : List ℕ) (at : ℕ) (s : List ℕ) (from n : ℕ) → at + n < length d → from + n < length s
+    → set (paste d at (drop from s) n) (at + n) (getD s (from + n) 0) ≡ paste d at (drop from s) (n + 1)
+copy-more d at s from n hd hs =
+    let l : n < length (drop from s) = rw (length-drop from s) (omega arith) in
+    ap (set (paste d at (drop from s) n) (at + n)) (sym (getD-drop from s n 0))
+    ∙ paste-suc d at (drop from s) n 0 hd l
+    ∙ ap (paste d at (drop from s)) (sym (add-one n))
+
+-- a turn of a move down
+pub down-more : (d : List ℕ) (to from n : ℕ) → to ≤ from → from + n < length d
+    → set (paste d to (drop from d) n) (to + n) (getD (paste d to (drop from d) n) (from + n) 0) ≡ paste d to (drop from d) (n + 1)
+down-more d to from n h hd =
+    ap (set (paste d to (drop from d) n) (to + n)) (getD-after d to (drop from d) n (from + n) (omega arith) (omega arith) (rw (length-drop from d) (omega arith)))
+    ∙ copy-more d to d from n (omega arith) hd
+
+-- a turn of a move up: j + 1 are left, and then j
+up-suc : (d : List ℕ) (to from n j : ℕ) → from ≤ to → to + n ≤ length d → j < n
+    → set (paste d (to + suc j) (drop (from + suc j) d) (n - suc j)) (to + j) (getD d (from + j) 0) ≡ paste d (to + j) (drop (from + j) d) (n - j)
+up-suc d to from n j h hd hj =
+    let v = getD d (from + j) 0 in
+    let a = take (to + j) d in
+    let b = take (n - suc j) (drop (suc (from + j)) d) in
+    let r = drop (to + n) d in
+    let e₁ : to + suc j ≡ suc (to + j) = omega arith in
+    let e₂ : from + suc j ≡ suc (from + j) = omega arith in
+    let e₃ : suc (to + j) + (n - suc j) ≡ to + n = omega arith in
+    let e₄ : to + j + (n - j) ≡ to + n = omega arith in
+    let e₅ : n - j ≡ suc (n - suc j) = omega arith in
+    let l : length a ≡ to + j = length-take-le (to + j) d (omega arith) in
+    let x = getD d (to + j) 0 in
+    let t : take (suc (to + j)) d ≡ a ++ (x ∷ []) = take-suc d (to + j) 0 (omega arith) in
+    let left : paste d (to + suc j) (drop (from + suc j) d) (n - suc j) ≡ a ++ x ∷ (b ++ r) = rw (e₁, e₂, e₃, t, append-snoc a x b) (append-assoc a (x ∷ b) r) in
+    let right : paste d (to + j) (drop (from + j) d) (n - j) ≡ a ++ v ∷ (b ++ r) = rw (e₄, e₅, drop-cons d (from + j) 0 (omega arith)) (append-assoc a (v ∷ b) r) in
+    ap (λ (y : List ℕ). set y (to + j) v) left ∙ set-at a x (b ++ r) v (to + j) l ∙ sym right
+
+pub up-more : (d : List ℕ) (to from n i : ℕ) → from ≤ to → to + n ≤ length d → 0 < i → i ≤ n
+    → set (paste d (to + i) (drop (from + i) d) (n - i)) (to + (i - 1)) (getD (paste d (to + i) (drop (from + i) d) (n - i)) (from + (i - 1)) 0)
+    ≡ paste d (to + (i - 1)) (drop (from + (i - 1)) d) (n - (i - 1))
+up-more d to from n zero h hd h0 hi = absurd (omega arith)
+up-more d to from n (suc j) h hd h0 hi =
+    let e : suc j - 1 ≡ j = omega arith in
+    rw e
+    (ap (set (paste d (to + suc j) (drop (from + suc j) d) (n - suc j)) (to + j)) (getD-before d (to + suc j) (drop (from + suc j) d) (n - suc j) (from + j) (omega arith) (omega arith))
+    ∙ up-suc d to from n j h hd (omega arith))
+
+-- a turn of a loop that clears
+pub clear-more : (d : List ℕ) (from to i : ℕ) → from ≤ i → i < to → to ≤ length d
+    → set (paste d from (replicate (to - from) 0) (i - from)) i 0 ≡ paste d from (replicate (to - from) 0) (i + 1 - from)
+clear-more d from to i h ht hd =
+    let z : List ℕ = replicate (to - from) 0 in
+    let e : i ≡ from + (i - from) = omega arith in
+    let f : suc (i - from) ≡ i + 1 - from = omega arith in
+    let l : i - from < length z = rw (length-replicate {A = ℕ} (to - from) 0) (omega arith) in
+    ap (λ (k : ℕ). set (paste d from z (i - from)) k 0) e
+    ∙ ap (set (paste d from z (i - from)) (from + (i - from))) (sym (getD-replicate (to - from) (i - from) 0 0 (omega arith)))
+    ∙ paste-suc d from z (i - from) 0 (omega arith) l
+    ∙ ap (paste d from z) f
+
+-- ---- zeros after the end
+
+pub drop-replicate : (m n a : ℕ) → drop m (replicate n a) ≡ replicate (n - m) a
+drop-replicate zero n a = rw sub-zero
+drop-replicate (suc m) zero a = rw zero-sub
+drop-replicate (suc m) (suc n) a = rw (suc-sub-suc n m) (drop-replicate m n a)
+
+pub drop-zeros : (d : List ℕ) (len k : ℕ) → length d ≡ 1024 → d ≡ padded (take len d) → len ≤ k → len ≤ 1024 → drop k d ≡ replicate (1024 - k) 0
+unfolding padded
+drop-zeros d len k ld z h hl =
+    let l : length (take len d) ≡ len = length-take-le len d (omega arith) in
+    let p = take len d in
+    let e : k ≡ len + (k - len) = omega arith in
+    let f : 1024 - length p - (k - len) ≡ 1024 - k = omega arith in
+    ap (drop k) z
+    ∙ ap (λ (x : ℕ). drop x (padded p)) e
+    ∙ sym (drop-drop (k - len) len (padded p))
+    ∙ ap (drop (k - len)) (drop-at p (replicate (1024 - length p) 0) len l)
+    ∙ drop-replicate (k - len) (1024 - length p) 0
+    ∙ ap (λ (x : ℕ). replicate x 0) f
+
+pub length-padded : (p : List ℕ) → length p ≤ 1024 → length (padded p) ≡ 1024
+unfolding padded
+length-padded p h = simp (length-append, length-replicate) (omega arith)
+
+-- the plan is what stands before the end
+pub take-padded : (p : List ℕ) (n : ℕ) → length p ≡ n → take n (padded p) ≡ p
+unfolding padded
+take-padded p n e = take-at p (replicate (1024 - length p) 0) n e
+
+pub padded-at : (p : List ℕ) (i : ℕ) → i < length p → getD (padded p) i 0 ≡ getD p i 0
+unfolding padded
+padded-at p i h = List·getD-append p (replicate (1024 - length p) 0) 0 i h
+
+pub drop-take : (m n : ℕ) (l : List ℕ) → drop m (take n l) ≡ take (n - m) (drop m l)
+drop-take zero n l = rw sub-zero
+drop-take (suc m) zero l = rw zero-sub
+drop-take (suc m) (suc n) [] = sym (take-nil (suc n - suc m))
+drop-take (suc m) (suc n) (x ∷ l) = rw (suc-sub-suc n m) (drop-take m n l)
+
+-- a plan that has zeros after its end fills its room
+pub length-zeroed : (d : List ℕ) (len : ℕ) → len ≤ 1024 → d ≡ padded (take len d) → length d ≡ 1024
+length-zeroed d len h z =
+    let l : length (take len d) ≤ 1024 = rw (length-take len d) (omega arith) in
+    ap length z ∙ length-padded (take len d) l
+
+-- ---- what stands after the first h actions, moved to b
+module _ (d : List ℕ) (len h b : ℕ) (hl : h ≤ len) (hr : len ≤ 1024) (room : b + (len - h) ≤ 1024) (z : d ≡ padded (take len d)) where
+  ld : length d ≡ 1024
+  ld = length-zeroed d len hr z
+
+  pub length-shift : (s : List ℕ) → s ≡ paste d b (drop h d) (len - h) → length s ≡ 1024
+  length-shift s q = let l : len - h ≤ length (drop h d) = rw (length-drop h d) (omega (arith, ld)) in ap length q ∙ length-paste d b (drop h d) (len - h) (omega (arith, ld)) l ∙ ld
+
+  pub shifted-up : h < b → paste d b (drop h d) (len - h) ≡ take b d ++ part d h (len - h) ++ replicate (1024 - (b + (len - h))) 0
+  unfolding part
+  shifted-up lt = ap (λ (x : List ℕ). take b d ++ part d h (len - h) ++ x) (drop-zeros d len (b + (len - h)) ld z (omega (arith, ld)) hr)
+
+  pub shifted-down : b ≤ h → (e : List ℕ) → e ≡ paste d b (drop h d) (len - h)
+      → take (b + (len - h)) e ++ replicate (len - (b + (len - h))) 0 ++ drop len e ≡ take b d ++ part d h (len - h) ++ replicate (1024 - (b + (len - h))) 0
+  unfolding part
+  shifted-down le e q =
+      let n = len - h in
+      let t : n ≤ length (drop h d) = rw (length-drop h d) (omega (arith, ld)) in
+      let u : len - (b + n) + (1024 - len) ≡ 1024 - (b + n) = omega arith in
+      let x = take b d ++ part d h n in
+      rw (
+        q,
+        take-paste d b (drop h d) n (omega (arith, ld)) t,
+        drop-after d b (drop h d) n len (omega (arith, ld)) (omega (arith, ld)) t,
+        drop-zeros d len len ld z (omega (arith, ld)) hr,
+        append-assoc x (replicate (len - (b + n)) 0) (replicate (1024 - len) 0),
+        replicate-append-replicate {A = ℕ} (len - (b + n)) (1024 - len) 0,
+        u,
+      )
+
+  -- with the body put before it
+  pub replaced : (s : List ℕ) (start : ℕ) → start + b ≤ length s → (e : List ℕ) → e ≡ take b d ++ part d h (len - h) ++ replicate (1024 - (b + (len - h))) 0
+      → paste e 0 (drop start s) b ≡ padded (part s start b ++ drop h (take len d))
+  unfolding part padded
+  replaced s start hs e q =
+      let n = len - h in
+      let r : List ℕ = replicate (1024 - (b + n)) 0 in
+      let body = part s start b in
+      let lb : length body ≡ b = length-part s start b hs in
+      let lt : length (part d h n) ≡ n = length-part d h n (omega (arith, ld)) in
+      let l : length (body ++ part d h n) ≡ b + n = length-append body (part d h n) ∙ ap₂ _+_ lb lt in
+      let k : drop (0 + b) e ≡ part d h n ++ r =
+      rw (zero-add b, q, append-assoc (take b d) (part d h n) r) (drop-at (take b d) (part d h n ++ r) b (length-take-le b d (omega (arith, ld)))) in
+      ap (λ (y : List ℕ). body ++ y) k
+      ∙ sym (append-assoc body (part d h n) r)
+      ∙ ap (λ (y : ℕ). body ++ part d h n ++ replicate (1024 - y) 0) (sym l)
+      ∙ ap (λ (y : List ℕ). padded (body ++ y)) (sym (drop-take h len d))
+
+  pub length-shifted : (e : List ℕ) → e ≡ take b d ++ part d h (len - h) ++ replicate (1024 - (b + (len - h))) 0 → length e ≡ 1024
+  unfolding part
+  length-shifted e q =
+      let n = len - h in
+      let lt : length (part d h n) ≡ n = length-part d h n (omega (arith, ld)) in
+      let lb : length (take b d) ≡ b = length-take-le b d (omega (arith, ld)) in
+      ap length q
+      ∙ length-append (take b d ++ part d h n) (replicate (1024 - (b + n)) 0)
+      ∙ omega (arith, length-append (take b d) (part d h n), length-replicate {A = ℕ} (1024 - (b + n)) 0)
+
+pub dropped : (d : List ℕ) (len k : ℕ) → k ≤ len → len ≤ 1024 → d ≡ padded (take len d)
+    → take 0 d ++ part d k (len - k) ++ replicate (1024 - (0 + (len - k))) 0 ≡ padded (drop k (take len d))
+unfolding part padded
+dropped d len k h hr z =
+    let ld : length d ≡ 1024 = length-zeroed d len hr z in
+    let l : length (part d k (len - k)) ≡ 0 + (len - k) = length-part d k (len - k) (omega arith) ∙ sym (zero-add (len - k)) in
+    ap (λ (y : ℕ). part d k (len - k) ++ replicate (1024 - y) 0) (sym l) ∙ ap (padded) (sym (drop-take k len d))
+
+-- ---- a head compared with a plan's front
+
+-- what was found of the first i actions, and what is left to compare
+abbrev pub Same : List ℕ → List ℕ → Bool → ℕ → Type 0
+Same h π same i = same && isPrefix (drop i h) (drop i π) ≡ isPrefix h π
+
+module _ (h π : List ℕ) (long : length h ≤ length π) where
+  prefix-next : (i : ℕ) → i < length h → isPrefix (drop i h) (drop i π) ≡ eqb (getD h i 0) (getD π i 0) && isPrefix (drop (i + 1) h) (drop (i + 1) π)
+  prefix-next i l = rw (add-one, drop-cons h i 0 l, drop-cons π i 0 (omega arith))
+
+  pub same-turn : (same : Bool) (i : ℕ) → i < length h → Same h π same i → Same h π (same && eqb (getD h i 0) (getD π i 0)) (i + 1)
+  same-turn same i l e = and-assoc same (eqb (getD h i 0) (getD π i 0)) _ ∙ ap (λ b. same && b) (sym (prefix-next i l)) ∙ e
+
+  pub same-all : (same : Bool) (i : ℕ) → length h ≤ i → Same h π same i → same ≡ isPrefix h π
+  same-all same i l e =
+      let s : isPrefix (drop i h) (drop i π) ≡ true = rw (drop-of-length-le h l) in
+      sym (ap (λ b. same && b) s ∙ and-true same) ∙ e
+
+-- the first action alone
+pub first-differs : (h π : List ℕ) → 1 ≤ length h → 1 ≤ length π → eqb (getD h 0 0) (getD π 0 0) ≡ false → isPrefix h π ≡ false
+first-differs [] π l m e = absurd (omega arith)
+first-differs (a ∷ h) [] l m e = absurd (omega arith)
+first-differs (a ∷ h) (b ∷ π) l m e = rw e
+
+-- a head longer than the plan
+pub too-long : (h π : List ℕ) → length π < length h → isPrefix h π ≡ false
+too-long [] π l = absurd (omega arith)
+too-long (a ∷ h) [] l = refl
+too-long (a ∷ h) (b ∷ π) l = ap (λ x. eqb a b && x) (too-long h π (omega arith)) ∙ and-false (eqb a b)

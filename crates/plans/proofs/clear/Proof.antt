@@ -1,0 +1,71 @@
+use lib.ListN.{length-replicate}
+use lib.Seq.{take-all}
+use lib.Seq.{paste, paste-zero}
+use Rattle.plans.proofs.Laws.{clear-more}
+use mathlib.Core.Path.{_≡_, refl, sym, ap, _∙_}
+use mathlib.Core.List.{List, [], _∷_, _++_, append-nil, append-assoc}
+use Prim.Native.Nat.{ℕ, suc, _+_, _-_, _*_, _≤_, _<_}
+use native.Mathlib.Omega.{arith}
+use borrow.Author.Needs.{needs}
+use denote.Ref.{now}
+use lib.ListN.{length, getD, set, take, drop, replicate}
+use Rattle.plans.proofs.clear.Statement.{statement}
+use Rattle.plans.proofs.clear.Tie as tie
+use Rattle.plans.proofs.clear.Reads as reads
+use Rattle.plans.proofs.clear.Lts as lts
+
+abbrev Inv-loop : tie.InvT-loop
+Inv-loop s₀ from to i₀ s i = (from ≤ i) × (i ≤ to) × (s ≡ paste s₀ from (replicate (to - from) 0) (i - from))
+
+abbrev μ-loop : tie.MeasureT-loop
+μ-loop s₀ from to i₀ s i = to - i
+
+-- src/lib.rt:51:5
+loop-holds : tie.Need-loop-holds Inv-loop μ-loop
+loop-holds c =
+    let a = c .args in
+    let d : List ℕ = now (a .s) in
+    let e : 0 ≡ a .from - a .from = omega arith in
+    let z : List ℕ = replicate (a .to - a .from) 0 in
+    (omega arith, omega arith, paste-zero d (a .from) z ∙ ap (paste d (a .from) z) e)
+
+-- src/lib.rt:52:9
+element-write-s : tie.Need-element-write-s Inv-loop μ-loop
+element-write-s c = search needs
+
+-- src/lib.rt:53:9
+add-i : tie.Need-add-i Inv-loop μ-loop
+add-i c = search needs
+
+-- src/lib.rt:51:5
+loop-less : tie.Need-loop-less Inv-loop μ-loop
+loop-less c = search needs
+
+-- src/lib.rt:51:5
+loop-again : tie.Need-loop-again Inv-loop μ-loop
+loop-again c =
+    let a = c .before .before .args in
+    let l = c .before .loop in
+    let d : length (now (a .s)) ≡ 1024 = omega arith in (
+      omega arith,
+      omega arith,
+      ap (λ (x : List ℕ). set x (l .i) 0) (l .inv .2) ∙ clear-more (now (a .s)) (a .from) (a .to) (l .i) (omega arith) (omega arith) (omega arith),
+    )
+
+-- src/lib.rt:46:1
+returns : tie.Need-returns Inv-loop μ-loop
+returns c =
+    let a = c .before .before .args in
+    let l = c .before .loop in
+    let d : List ℕ = now (a .s) in
+    let z : List ℕ = replicate (a .to - a .from) 0 in
+    let e : l .i ≡ a .to = omega arith in
+    let f : a .from + (a .to - a .from) ≡ a .to = omega arith in
+    l .inv .2
+    ∙ ap (λ (k : ℕ). paste d (a .from) z (k - a .from)) e
+    ∙ rw (f, take-all (a .to - a .from) z (omega (arith, length-replicate {A = ℕ} (a .to - a .from) 0)))
+
+pub clear-spec : {M : Type 1} → statement M
+clear-spec =
+    tie.close
+    (tie.spec Inv-loop μ-loop loop-holds element-write-s add-i loop-less loop-again returns)

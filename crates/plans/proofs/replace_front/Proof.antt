@@ -1,0 +1,37 @@
+use Rattle.plans.proofs.Laws.{length-shifted}
+use Rattle.plans.proofs.Laws.{replaced}
+use mathlib.Core.Path.{_≡_, refl, sym, ap, _∙_}
+use mathlib.Core.List.{List, [], _∷_, _++_, append-nil, append-assoc}
+use Prim.Native.Nat.{ℕ, suc, _+_, _-_, _*_, _≤_, _<_}
+use native.Mathlib.Omega.{arith}
+use borrow.Author.Needs.{needs}
+use denote.Ref.{now}
+use lib.ListN.{length, getD, set, take, drop, replicate}
+use Rattle.plans.proofs.replace_front.Statement.{statement}
+use Rattle.plans.proofs.replace_front.Tie as tie
+use Rattle.plans.proofs.replace_front.Reads as reads
+use Rattle.plans.proofs.replace_front.Lts as lts
+use Rattle.plans.proofs.put.Reads as put-reads
+use Rattle.plans.proofs.shift.Reads as shift-reads
+
+-- src/lib.rt:84:5
+shift-requires : tie.Need-shift-requires
+shift-requires c κs = search needs
+
+-- src/lib.rt:85:5
+put-requires : tie.Need-put-requires
+put-requires c κs =
+    let a = c .before .before .before .before .args in
+    let p = c .before .before .before .before .pre in
+    (omega arith, length-shifted (now (a .plan)) (a .len) (a .hlen) (a .blen) (p .0) (p .1) (p .2) (p .4) (c .before .shift .last .0) (c .before .shift .ensures), omega arith)
+
+-- src/lib.rt:80:1
+returns : tie.Need-returns
+returns c =
+    let a = c .before .before .before .before .before .args in
+    let p = c .before .before .before .before .before .pre in
+    c .put .ensures
+    ∙ replaced (now (a .plan)) (a .len) (a .hlen) (a .blen) (p .0) (p .1) (p .2) (p .4) (now (a .card)) (a .bstart) (p .3) (c .before .before .shift .last .0) (c .before .before .shift .ensures)
+
+pub replace-front-spec : {M : Type 1} → statement M
+replace-front-spec = tie.close (tie.spec shift-requires put-requires returns)

@@ -1,0 +1,91 @@
+use native.Mathlib.Nat.{add-zero, sub-zero}
+use lib.Seq.{paste-zero}
+use lib.Seq.{paste}
+use Rattle.plans.proofs.Laws.{up-more}
+use mathlib.Core.Path.{_≡_, refl, sym, ap, _∙_}
+use mathlib.Core.List.{List, [], _∷_, _++_, append-nil, append-assoc}
+use Prim.Native.Nat.{ℕ, suc, _+_, _-_, _*_, _≤_, _<_}
+use native.Mathlib.Omega.{arith}
+use borrow.Author.Needs.{needs}
+use denote.Ref.{now}
+use lib.ListN.{length, getD, set, take, drop, replicate}
+use Rattle.plans.proofs.up.Statement.{statement}
+use Rattle.plans.proofs.up.Tie as tie
+use Rattle.plans.proofs.up.Reads as reads
+use Rattle.plans.proofs.up.Lts as lts
+
+abbrev Inv-loop : tie.InvT-loop
+Inv-loop s₀ to from n i₀ s i = (i ≤ n) × (s ≡ paste s₀ (to + i) (drop (from + i) s₀) (n - i))
+
+abbrev μ-loop : tie.MeasureT-loop
+μ-loop s₀ to from n i₀ s i = i
+
+-- src/lib.rt:27:5
+loop-holds : tie.Need-loop-holds Inv-loop μ-loop
+loop-holds c =
+    let a = c .args in
+    let d : List ℕ = now (a .s) in
+    let e : 0 ≡ a .n - a .n = omega arith in
+    (omega arith, paste-zero d (a .to + a .n) (drop (a .from + a .n) d) ∙ ap (paste d (a .to + a .n) (drop (a .from + a .n) d)) e)
+
+-- src/lib.rt:28:9
+sub-i : tie.Need-sub-i Inv-loop μ-loop
+sub-i c = search needs
+
+-- src/lib.rt:29:23
+add-s : tie.Need-add-s Inv-loop μ-loop
+add-s c = search needs
+
+-- src/lib.rt:29:21
+element-copy-out-s : tie.Need-element-copy-out-s Inv-loop μ-loop
+element-copy-out-s c = search needs
+
+-- src/lib.rt:29:11
+add-s-2 : tie.Need-add-s-2 Inv-loop μ-loop
+add-s-2 c = search needs
+
+-- src/lib.rt:29:9
+element-write-s : tie.Need-element-write-s Inv-loop μ-loop
+element-write-s c = search needs
+
+-- src/lib.rt:27:5
+loop-less : tie.Need-loop-less Inv-loop μ-loop
+loop-less c = search needs
+
+-- src/lib.rt:27:5
+loop-again : tie.Need-loop-again Inv-loop μ-loop
+loop-again c =
+    let a = c .before .before .before .args in
+    let l = c .before .before .loop in
+    let d : length (now (a .s)) ≡ 1024 = omega arith in (
+      omega arith,
+      ap (λ (x : List ℕ). set x (a .to + (l .i - 1)) (getD x (a .from + (l .i - 1)) 0)) (l .inv .1)
+          ∙ up-more (now (a .s)) (a .to) (a .from) (a .n) (l .i) (omega arith) (omega arith) (omega arith) (omega arith),
+    )
+
+-- src/lib.rt:22:1
+returns : tie.Need-returns Inv-loop μ-loop
+returns c =
+    let a = c .before .before .args in
+    let l = c .before .loop in
+    let d : List ℕ = now (a .s) in
+    let e : l .i ≡ 0 = omega arith in
+    l .inv .1
+    ∙ ap (λ (k : ℕ). paste d (a .to + k) (drop (a .from + k) d) (a .n - k)) e
+    ∙ rw (add-zero (a .to), add-zero (a .from), sub-zero (a .n)) refl
+
+pub up-spec : {M : Type 1} → statement M
+up-spec =
+    tie.close
+    (tie.spec
+    Inv-loop
+    μ-loop
+    loop-holds
+    sub-i
+    add-s
+    element-copy-out-s
+    add-s-2
+    element-write-s
+    loop-less
+    loop-again
+    returns)

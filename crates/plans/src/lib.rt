@@ -1,0 +1,116 @@
+// Plans, changed in place in their 1,024 bytes: the first len are the actions, and zeros stand after their end.
+ghost use mathlib.Core.Path.{_≡_};
+ghost use mathlib.Core.List.{_++_};
+ghost use Prim.Native.Nat.{ℕ, _+_, _-_, _≤_, _<_};
+ghost use lib.ListN.{length, take, drop, replicate};
+ghost use lib.Seq.{paste};
+ghost use Rattle.paper.specs.Next.{isPrefix};
+ghost use Rattle.meaning.specs.Card.{part};
+ghost use Rattle.meaning.specs.Configurations.{padded};
+
+// n bytes move down in place.
+fn down(s: &mut [u8; 1024], to: usize, from: usize, n: usize)
+    requires { ⌜ (to ≤ from) × (from + n ≤ 1024) × (length (now s) ≡ 1024) ⌝ }
+    ensures { λ r. ⌜ now (s .exit) ≡ paste (now (s .entry)) to (drop from (now (s .entry))) n ⌝ }
+{
+    let mut i: usize = 0;
+    while i < n {
+        s[to + i] = s[from + i];
+        i += 1;
+    }
+}
+
+// n bytes move up in place, the last one first.
+fn up(s: &mut [u8; 1024], to: usize, from: usize, n: usize)
+    requires { ⌜ (from ≤ to) × (to + n ≤ 1024) × (length (now s) ≡ 1024) ⌝ }
+    ensures { λ r. ⌜ now (s .exit) ≡ paste (now (s .entry)) to (drop from (now (s .entry))) n ⌝ }
+{
+    let mut i: usize = n;
+    while 0 < i {
+        i -= 1;
+        s[to + i] = s[from + i];
+    }
+}
+
+// n bytes of the card take the place of the first n.
+fn put(s: &mut [u8; 1024], card: &[u8], start: usize, n: usize)
+    requires { ⌜ (n ≤ 1024) × (length (now s) ≡ 1024) × (start + n ≤ length (now card)) ⌝ }
+    ensures { λ r. ⌜ now (s .exit) ≡ paste (now (s .entry)) 0 (drop start (now (card .entry))) n ⌝ }
+{
+    let mut i: usize = 0;
+    while i < n {
+        s[i] = card[start + i];
+        i += 1;
+    }
+}
+
+// Zeros from `from` to `to`.
+fn clear(s: &mut [u8; 1024], from: usize, to: usize)
+    requires { ⌜ (from ≤ to) × (to ≤ 1024) × (length (now s) ≡ 1024) ⌝ }
+    ensures { λ r. ⌜ now (s .exit) ≡ take from (now (s .entry)) ++ replicate (to - from) 0 ++ drop to (now (s .entry)) ⌝ }
+{
+    let mut i: usize = from;
+    while i < to {
+        s[i] = 0;
+        i += 1;
+    }
+}
+
+// What stands after the first hlen actions moves to blen, and zeros stand after its end.
+fn shift(plan: &mut [u8; 1024], len: usize, hlen: usize, blen: usize)
+    requires { ⌜ (hlen ≤ len) × (len ≤ 1024) × (blen + (len - hlen) ≤ 1024) × (now plan ≡ padded (take len (now plan))) ⌝ }
+    ensures { λ r. ⌜ now (plan .exit) ≡ take blen (now (plan .entry)) ++ part (now (plan .entry)) hlen (len - hlen) ++ replicate (1024 - (blen + (len - hlen))) 0 ⌝ }
+{
+    let tail = len - hlen;
+    if blen <= hlen {
+        down(plan, blen, hlen, tail);
+        clear(plan, blen + tail, len);
+    } else {
+        up(plan, blen, hlen, tail);
+    }
+}
+
+// The first k actions leave.
+pub fn drop_front(plan: &mut [u8; 1024], len: usize, k: usize)
+    requires { ⌜ (k ≤ len) × (len ≤ 1024) × (now plan ≡ padded (take len (now plan))) ⌝ }
+    ensures { λ r. ⌜ now (plan .exit) ≡ padded (drop k (take len (now (plan .entry)))) ⌝ }
+{
+    shift(plan, len, k, 0);
+}
+
+// The body, blen bytes of the card from bstart, takes the place of the first hlen actions.
+pub fn replace_front(
+    plan: &mut [u8; 1024],
+    len: usize,
+    hlen: usize,
+    card: &[u8],
+    bstart: usize,
+    blen: usize,
+)
+    requires { ⌜ (hlen ≤ len) × (len ≤ 1024) × (blen + (len - hlen) ≤ 1024) × (bstart + blen ≤ length (now card)) × (now plan ≡ padded (take len (now plan))) ⌝ }
+    ensures { λ r. ⌜ now (plan .exit) ≡ padded (part (now (card .entry)) bstart blen ++ drop hlen (take len (now (plan .entry)))) ⌝ }
+{
+    shift(plan, len, hlen, blen);
+    put(plan, card, bstart, blen);
+}
+
+// Whether the head, hlen bytes of the card from hstart, is a prefix of the plan. The first byte alone settles most heads; the
+// rest is compared without an exit.
+pub fn starts_with(card: &[u8], hstart: usize, hlen: usize, plan: &[u8; 1024], len: usize) -> bool
+    requires { ⌜ (1 ≤ hlen) × (hstart + hlen ≤ length (now card)) × (len ≤ 1024) × (length (now plan) ≡ 1024) ⌝ }
+    ensures { λ r. ⌜ r ≡ isPrefix (part (now (card .entry)) hstart hlen) (take len (now (plan .entry))) ⌝ }
+{
+    if len < hlen {
+        return false;
+    }
+    if card[hstart] != plan[0] {
+        return false;
+    }
+    let mut same = true;
+    let mut i: usize = 1;
+    while i < hlen {
+        same = same & (card[hstart + i] == plan[i]);
+        i += 1;
+    }
+    same
+}
