@@ -1,0 +1,115 @@
+-- The first enabled choice, found by asking one number after the other and one kind after the other.
+use mathlib.Core.Path.{_≡_, refl, ap, _∙_, sym}
+use mathlib.Core.Bool.{Bool, true, false}
+use mathlib.Core.List.{List, [], _∷_, _++_, map}
+use Prim.Native.Nat.{ℕ, zero, suc, _+_, _-_, _%_, _≤_, _<_}
+use native.Mathlib.Nat.{sub-zero}
+use native.Mathlib.Numerals.{add-one}
+use native.Mathlib.Omega.{arith}
+use lib.ListN.{length}
+use Rattle.paper.specs.Language.{𝐁, 𝐆, Agent, Config}
+use Rattle.paper.specs.Transitions.{Choice, select, act, revise}
+use Rattle.paper.specs.Next.{enabled}
+use Rattle.house.specs.Order.{numbers, ofKind, inTurn}
+use Rattle.meaning.specs.declared.Layout.{Layout}
+use Rattle.meaning.specs.Card.{Bytes, conditions, specificationAt, selectionAt, revisionAt, agentOf, agentFor}
+use Rattle.meaning.proofs.Accepted.{length-entries}
+use Rattle.moves.specs.declared.mind.Chosen.{Chosen}
+use Rattle.moves.specs.Choosing.{chosen, firstEnabled}
+
+abbrev pub orElse : Chosen → Chosen → Chosen
+orElse (Chosen.At k n) b = Chosen.At k n
+orElse Chosen.Nothing b = b
+
+module _ (A : Agent) (c : Config) where
+  first-yes : (k : Choice) (ks : List Choice) → enabled A c k ≡ true → firstEnabled A c (k ∷ ks) ≡ chosen k
+  unfolding firstEnabled
+  first-yes k ks e = rw (e, firstEnabled)
+
+  first-no : (k : Choice) (ks : List Choice) → enabled A c k ≡ false → firstEnabled A c (k ∷ ks) ≡ firstEnabled A c ks
+  unfolding firstEnabled
+  first-no k ks e = rw (e, firstEnabled)
+
+  -- ---- one number after the other
+
+  module _ (f : ℕ → Choice) (n : ℕ) where
+    abbrev pub Left : ℕ → Type 0
+    Left i = firstEnabled A c (map f (numbers i (n - i))) ≡ firstEnabled A c (map f (numbers 0 n))
+
+    pub left-start : Left 0
+    left-start = rw sub-zero
+
+    next : (i : ℕ) → i < n → map f (numbers i (n - i)) ≡ f i ∷ map f (numbers (i + 1) (n - (i + 1)))
+    unfolding numbers
+    next i h = let e : n - i ≡ suc (n - (i + 1)) = omega arith in rw (e, add-one i)
+
+    pub left-turn : (i : ℕ) → i < n → enabled A c (f i) ≡ false → Left i → Left (i + 1)
+    left-turn i h g e = sym (ap (firstEnabled A c) (next i h) ∙ first-no (f i) _ g) ∙ e
+
+    pub left-found : (i : ℕ) → i < n → enabled A c (f i) ≡ true → Left i → chosen (f i) ≡ firstEnabled A c (map f (numbers 0 n))
+    left-found i h g e = sym (ap (firstEnabled A c) (next i h) ∙ first-yes (f i) _ g) ∙ e
+
+    pub left-none : (i : ℕ) → n ≤ i → Left i → Chosen.Nothing ≡ firstEnabled A c (map f (numbers 0 n))
+    unfolding numbers firstEnabled
+    left-none i h e = let z : n - i ≡ 0 = omega arith in sym (rw z) ∙ e
+
+  -- ---- one kind after the other
+
+  chosen-first : (k : Choice) (b : Chosen) → orElse (chosen k) b ≡ chosen k
+  chosen-first (select n) b = refl
+  chosen-first (act n) b = refl
+  chosen-first (revise n) b = refl
+
+  pub first-append : (ks hs : List Choice) → firstEnabled A c (ks ++ hs) ≡ orElse (firstEnabled A c ks) (firstEnabled A c hs)
+  unfolding firstEnabled
+  first-append [] hs = refl
+  first-append (k ∷ ks) hs = go (enabled A c k) refl (first-append ks hs)
+    where
+      go : (t : Bool) → enabled A c k ≡ t → firstEnabled A c (ks ++ hs) ≡ orElse (firstEnabled A c ks) (firstEnabled A c hs)
+          → firstEnabled A c (k ∷ (ks ++ hs)) ≡ orElse (firstEnabled A c (k ∷ ks)) (firstEnabled A c hs)
+      go true e ih = first-yes k (ks ++ hs) e ∙ sym (ap (λ x. orElse x (firstEnabled A c hs)) (first-yes k ks e) ∙ chosen-first k _)
+      go false e ih = first-no k (ks ++ hs) e ∙ ih ∙ ap (λ x. orElse x (firstEnabled A c hs)) (sym (first-no k ks e))
+
+-- ---- the choices of a card's agent
+
+module _ (l : Layout) (b : Bytes) where
+  pub selections-of : ofKind (agentFor l b) 0 ≡ map select (numbers 0 (l .selections .count))
+  unfolding ofKind agentFor agentOf
+  selections-of = ap (λ n. map select (numbers 0 n)) (length-entries (selectionAt (conditions 𝐁 l b) (conditions 𝐆 l b) l b) 8 (l .selections))
+
+  pub actions-of : ofKind (agentFor l b) 1 ≡ map act (numbers 0 (l .specifications .count))
+  unfolding ofKind agentFor agentOf
+  actions-of = ap (λ n. map act (numbers 0 n)) (length-entries (specificationAt (conditions 𝐁 l b) b) 36 (l .specifications))
+
+  pub revisions-of : ofKind (agentFor l b) 2 ≡ map revise (numbers 0 (l .revisions .count))
+  unfolding ofKind agentFor agentOf
+  revisions-of = ap (λ n. map revise (numbers 0 n)) (length-entries (revisionAt (conditions 𝐁 l b) l b) 12 (l .revisions))
+
+-- ---- the three kinds in turn
+
+module _ (A : Agent) (c : Config) (p : ℕ) where
+  -- what each of the three kinds has first
+  abbrev first : Chosen
+  first = firstEnabled A c (ofKind A (p % 3))
+
+  abbrev second : Chosen
+  second = firstEnabled A c (ofKind A ((p + 1) % 3))
+
+  abbrev third : Chosen
+  third = firstEnabled A c (ofKind A ((p + 2) % 3))
+
+  in-turn : firstEnabled A c (inTurn A p) ≡ orElse first (orElse second third)
+  unfolding inTurn
+  in-turn = first-append A c (ofKind A (p % 3)) _ ∙ ap (orElse first) (first-append A c (ofKind A ((p + 1) % 3)) (ofKind A ((p + 2) % 3)))
+
+  pub in-first : (a : Chosen) → a ≡ first → (k n : ℕ) → a ≡ Chosen.At k n → a ≡ firstEnabled A c (inTurn A p)
+  in-first a e k n f = f ∙ ap (λ x. orElse x (orElse second third)) (sym f ∙ e) ∙ sym in-turn
+
+  past-first : (a : Chosen) → a ≡ first → a ≡ Chosen.Nothing → orElse second third ≡ firstEnabled A c (inTurn A p)
+  past-first a e f = ap (λ x. orElse x (orElse second third)) (sym f ∙ e) ∙ sym in-turn
+
+  pub in-second : (a : Chosen) → a ≡ first → a ≡ Chosen.Nothing → (b : Chosen) → b ≡ second → (k n : ℕ) → b ≡ Chosen.At k n → b ≡ firstEnabled A c (inTurn A p)
+  in-second a e f b g k n h = h ∙ ap (λ x. orElse x third) (sym h ∙ g) ∙ past-first a e f
+
+  pub in-third : (a : Chosen) → a ≡ first → a ≡ Chosen.Nothing → (b : Chosen) → b ≡ second → b ≡ Chosen.Nothing → third ≡ firstEnabled A c (inTurn A p)
+  in-third a e f b g h = ap (λ x. orElse x third) (sym h ∙ g) ∙ past-first a e f

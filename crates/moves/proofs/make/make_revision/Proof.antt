@@ -1,0 +1,117 @@
+use Rattle.moves.proofs.Making.{head-fits, revised-length, revises-to, revises-full}
+use Rattle.moves.specs.Choosing.{Reached, told, left}
+use Rattle.moves.specs.declared.mind.Next.{Next}
+use Rattle.card.proofs.GoodCard.{good-as}
+use Rattle.meaning.specs.Configurations.{padded}
+use Rattle.meaning.specs.Card.{part, span, plan, entryAt}
+use Rattle.meaning.specs.declared.Span.{Span}
+use mathlib.Core.Path.{ap₂}
+use mathlib.Core.Path.{_≡_, refl, sym, ap, _∙_}
+use mathlib.Core.List.{List, [], _∷_, _++_, append-nil, append-assoc}
+use Prim.Native.Nat.{ℕ, suc, _+_, _-_, _*_, _≤_, _<_}
+use native.Mathlib.Omega.{arith}
+use borrow.Author.Needs.{needs}
+use denote.Ref.{now}
+use lib.ListN.{length, getD, set, take, drop, replicate}
+use Rattle.moves.proofs.make.make_revision.Statement.{statement}
+use Rattle.moves.proofs.make.make_revision.Tie as tie
+use Rattle.moves.proofs.make.make_revision.Reads as reads
+use Rattle.moves.proofs.make.make_revision.Lts as lts
+use Rattle.card.proofs.header.read_span.Reads as read-span-reads
+use Rattle.plans.proofs.replace_front.Reads as replace-front-reads
+
+-- src/make.rt:76:31
+mul-at : tie.Need-mul-at
+mul-at c = search needs
+
+-- src/make.rt:76:14
+add-at : tie.Need-add-at
+add-at c = search needs
+
+-- src/make.rt:77:32
+add-read-span : tie.Need-add-read-span
+add-read-span c = search needs
+
+-- src/make.rt:77:9
+read-span-requires : tie.Need-read-span-requires
+read-span-requires c κs = search needs
+
+-- src/make.rt:78:32
+add-read-span-2 : tie.Need-add-read-span-2
+add-read-span-2 c = search needs
+
+-- src/make.rt:78:9
+read-span-requires-2 : tie.Need-read-span-requires-2
+read-span-requires-2 c κs = search needs
+
+-- src/make.rt:79:16
+sub-rest : tie.Need-sub-rest
+sub-rest c =
+    let a = c .before .before .before .before .before .before .before .before .args in
+    let p = c .before .before .before .before .before .before .before .before .pre in
+    rw (c .before .before .before .read-span .ensures .0) (head-fits (a .l) (now (a .card)) (p .0) (a .m) (now (a .plan)) (p .1) (a .i) (p .2) (p .3))
+
+-- src/make.rt:80:13
+add-n : tie.Need-add-n
+add-n c = search needs
+
+-- src/make.rt:82:9
+returns : tie.Need-returns
+returns c =
+    let a = c .before .before .before .before .before .before .before .before .before .before .args in
+    let p = c .before .before .before .before .before .before .before .before .before .before .pre in
+    let b = now (a .card) in
+    let d = now (a .plan) in
+    let long : 1024 < c .before .before .before .before .read-span2 .result .length + (a .m .length - c .before .before .before .before .before .read-span .result .length) = omega arith in
+    let t = revises-full (a .l) b (p .0) (a .m) d (p .1) (a .i) (p .2) (p .3) (rw (c .before .before .before .before .read-span2 .ensures .0, c .before .before .before .before .before .read-span .ensures .0) at long) in
+    (ap (λ (x : Reached). told x (a .m)) (sym t), ap (λ (x : Reached). left x d) (sym t))
+
+-- src/make.rt:89:61
+add-replace-front : tie.Need-add-replace-front
+add-replace-front c = search needs
+
+-- src/make.rt:89:5
+replace-front-requires : tie.Need-replace-front-requires
+replace-front-requires c κs =
+    let a = c .before .before .before .before .before .before .before .before .before .before .before .before .before .before .before .args in
+    let p = c .before .before .before .before .before .before .before .before .before .before .before .before .before .before .before .pre in
+    let h : c .before .before .before .before .before .before .before .before .before .before .read-span .result .length ≤ a .m .length = rw (c .before .before .before .before .before .before .before .before .before .before .read-span .ensures .0) (head-fits (a .l) (now (a .card)) (p .0) (a .m) (now (a .plan)) (p .1) (a .i) (p .2) (p .3)) in
+    let s = good-as (a .l) 0 _ _ (c .before .before .before .before .before .before .before .before .before .read-span2 .ensures .0) (p .0 .revisions (a .i) (p .2) .body) in
+    let x = s .inside in
+    let w = p .0 .laid .ends in
+    let f = p .1 .fits in
+    (h, f, omega arith, omega arith, p .1 .zeros)
+
+-- src/make.rt:70:1
+returns-2 : tie.Need-returns-2
+unfolding plan
+returns-2 c =
+    let a = c .before .before .before .before .before .before .before .before .before .before .before .before .before .before .before .before .args in
+    let p = c .before .before .before .before .before .before .before .before .before .before .before .before .before .before .before .before .pre in
+    let b = now (a .card) in
+    let d = now (a .plan) in
+    let e1 = c .before .before .before .before .before .before .before .before .before .before .before .read-span .ensures .0 in
+    let e2 = c .before .before .before .before .before .before .before .before .before .before .read-span2 .ensures .0 in
+    let short : c .before .before .before .before .before .before .before .before .before .before .read-span2 .result .length + (a .m .length - c .before .before .before .before .before .before .before .before .before .before .before .read-span .result .length) ≤ 1024 = omega arith in
+    let t = revises-to (a .l) b (p .0) (a .m) d (p .1) (a .i) (p .2) (p .3) (rw (e2, e1) at short) in
+    let n = ap₂ (λ (s s′ : Span). s .length + (a .m .length - s′ .length)) e2 e1 ∙ sym (revised-length (a .l) b (p .0) (a .m) d (p .1) (a .i) (p .2) (p .3)) in (
+      (λ j. record { next = Next.Moved; mind = record { beliefs = a .m .beliefs; goals = a .m .goals; length = n j; phase = 0 } }) ∙ ap (λ (x : Reached). told x (a .m)) (sym t),
+      c .replace-front .ensures ∙ ap₂ (λ (s s′ : Span). padded (plan (a .l) b s ++ drop (s′ .length) (take (a .m .length) d))) e2 e1 ∙ ap (λ (x : Reached). left x d) (sym t),
+    )
+
+pub make-revision-spec : {M : Type 1} → statement M
+make-revision-spec =
+    tie.close
+    (tie.spec
+    mul-at
+    add-at
+    add-read-span
+    read-span-requires
+    add-read-span-2
+    read-span-requires-2
+    sub-rest
+    add-n
+    returns
+    add-replace-front
+    replace-front-requires
+    returns-2)

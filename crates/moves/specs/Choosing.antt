@@ -1,0 +1,53 @@
+-- The first enabled choice among some, and what a move comes to.
+use mathlib.Core.Bool.{Bool, true, false}
+use mathlib.Core.List.{List, [], _∷_}
+use mathlib.Core.Option.{Option, none, some}
+use Prim.Native.Nat.{ℕ}
+use Rattle.paper.specs.Language.{Agent, Config}
+use Rattle.paper.specs.Transitions.{Choice, select, act, revise}
+use Rattle.paper.specs.Next.{next, enabled}
+use Rattle.house.specs.Order.{State, after}
+use Rattle.house.specs.Run.{fits}
+use Rattle.meaning.specs.Card.{Bytes}
+use Rattle.meaning.specs.Configurations.{padded}
+use Rattle.moves.specs.declared.mind.Mind.{Mind}
+use Rattle.moves.specs.declared.mind.Chosen.{Chosen}
+use Rattle.moves.specs.declared.mind.Next.{Next}
+use Rattle.moves.specs.declared.mind.Stepped.{Stepped}
+use Rattle.moves.specs.Minds.{mindOf}
+
+abbrev pub chosen : Choice → Chosen
+chosen (select n) = Chosen.At 0 n
+chosen (act n) = Chosen.At 1 n
+chosen (revise n) = Chosen.At 2 n
+
+unfoldable pub firstEnabled : Agent → Config → List Choice → Chosen
+firstEnabled A c [] = Chosen.Nothing
+firstEnabled A c (k ∷ ks) = elim (enabled A c k) [ true ↦ chosen k | false ↦ firstEnabled A c ks ]
+
+-- what a move comes to: there is none, its plan is too long, or it leads to a state
+pub data Reached : Type 0 where
+  nothing full : Reached
+  to : State → Reached
+
+unfoldable pub fitting : State → Reached
+fitting s = elim (fits s) [ true ↦ to s | false ↦ full ]
+
+abbrev pub leading : Option State → Reached
+leading none = nothing
+leading (some s) = fitting s
+
+-- the move that a choice makes
+unfoldable pub moveBy : Agent → State → Choice → Reached
+moveBy A s k = elim (next A (s .mental) k) [ none ↦ nothing | some c ↦ fitting (after k c) ]
+
+-- what the code tells, and what it leaves in the plan's bytes
+abbrev pub told : Reached → Mind → Stepped
+told nothing m = record { next = Next.Nothing; mind = m }
+told full m = record { next = Next.Full; mind = m }
+told (to s) m = record { next = Next.Moved; mind = mindOf s }
+
+abbrev pub left : Reached → Bytes → Bytes
+left nothing d = d
+left full d = d
+left (to s) d = padded (s .mental .π)

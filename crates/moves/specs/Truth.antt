@@ -1,0 +1,25 @@
+-- The truth of each node, made in one pass over the nodes: what the engine marks.
+use mathlib.Core.Path.{_≡_}
+use mathlib.Core.Bool.{Bool, true, false, not, _&&_, _||_}
+use mathlib.Core.List.{List}
+use Prim.Native.Nat.{ℕ, zero, suc, _<_}
+use lib.ListN.{getD}
+use Rattle.paper.specs.Atoms.{Atoms, _∈_}
+use Rattle.meaning.specs.declared.Layout.{Layout}
+use Rattle.meaning.specs.Card.{Bytes, nodes, pass}
+
+-- "Kind 0 true; 1 believes a; 2 has goal a; 3 not a; 4 a and b; 5 a or b", by the truth of the children
+abbrev pub truthOf : ℕ → ℕ → ℕ → Atoms → Atoms → (ℕ → Bool) → Bool
+truthOf zero a b σ γ truth = true
+truthOf (suc zero) a b σ γ truth = a ∈ σ
+truthOf (suc (suc zero)) a b σ γ truth = a ∈ γ
+truthOf (suc (suc (suc zero))) a b σ γ truth = not (truth a)
+truthOf (suc (suc (suc (suc zero)))) a b σ γ truth = truth a && truth b
+truthOf (suc (suc (suc (suc (suc k))))) a b σ γ truth = truth a || truth b
+
+unfoldable pub truths : Layout → Bytes → Atoms → Atoms → List Bool
+truths l b σ γ = pass (λ i n truth. truthOf (n .kind) (n .a) (n .b) σ γ truth) false (nodes l b)
+
+-- marks that tell the truth of every node under some beliefs and goals
+abbrev pub Judged : Layout → Bytes → Atoms → Atoms → List Bool → Type 0
+Judged l b σ γ marks = (n : ℕ) → n < l .nodes .count → getD marks n false ≡ getD (truths l b σ γ) n false

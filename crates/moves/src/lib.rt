@@ -1,0 +1,5 @@
+// Moves: judged, listed, taken, run.
+pub mod enabled;
+pub mod make;
+pub mod mind;
+pub mod truth;
