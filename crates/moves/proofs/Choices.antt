@@ -22,11 +22,11 @@ orElse (Chosen.At k n) b = Chosen.At k n
 orElse Chosen.Nothing b = b
 
 module _ (A : Agent) (c : Config) where
-  first-yes : (k : Choice) (ks : List Choice) → enabled A c k ≡ true → firstEnabled A c (k ∷ ks) ≡ chosen k
+  pub first-yes : (k : Choice) (ks : List Choice) → enabled A c k ≡ true → firstEnabled A c (k ∷ ks) ≡ chosen k
   unfolding firstEnabled
   first-yes k ks e = rw (e, firstEnabled)
 
-  first-no : (k : Choice) (ks : List Choice) → enabled A c k ≡ false → firstEnabled A c (k ∷ ks) ≡ firstEnabled A c ks
+  pub first-no : (k : Choice) (ks : List Choice) → enabled A c k ≡ false → firstEnabled A c (k ∷ ks) ≡ firstEnabled A c ks
   unfolding firstEnabled
   first-no k ks e = rw (e, firstEnabled)
 

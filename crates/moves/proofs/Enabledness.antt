@@ -5,6 +5,7 @@ use mathlib.Core.List.{List, [], _∷_}
 use mathlib.Core.Option.{Option, none, some}
 use Prim.Native.Nat.{ℕ, zero, suc, _+_, _≤_, _<_}
 use native.Mathlib.Nat.{zero-add}
+use native.Mathlib.Decide.{decLt}
 use native.Mathlib.Omega.{arith}
 use borrow.Author.Tests.{ne-eqb}
 use lib.Dec.{eqb, eqb·suc-zero}
@@ -12,7 +13,7 @@ use lib.ListN.{length, take, getD, getElem?}
 use Rattle.paper.specs.Language.{Letter, 𝐁, 𝐆, Specification, Selection, Revision, Agent, Config}
 use Rattle.paper.specs.Transitions.{_⊨_, Choice, select, act, revise}
 use Rattle.paper.specs.Next.{isEmpty, startsWith, isPrefix, canSelect, selected, canAct, acted, canRevise, revised, outcome, next, isSome, enabled}
-use Rattle.paper.proofs.Relation.{outcome-yes, outcome-no}
+use Rattle.paper.proofs.Relation.{outcome-yes, outcome-no, false≢true}
 use Rattle.house.proofs.Numbers.{made-entry, made-none}
 use Rattle.meaning.specs.declared.Layout.{Layout}
 use Rattle.meaning.specs.Card.{Bytes, byte, span, plan, condition, conditions, entryAt, specificationAt, selectionAt, revisionAt, agentOf, agentFor}
@@ -144,3 +145,27 @@ module _ (l : Layout) (b : Bytes) (g : GoodCard l b) (m : Mind) (d : Bytes) (hel
   by-prefix i h e =
       let p = isPrefix (plan l b (span b (entryAt 12 (l .revisions) i + 2))) (take (m .length) d) in
       sym (and-true p) ∙ ap (λ x. p && x) (sym e) ∙ revises i h
+
+-- ---- no rule or specification past the last is enabled
+
+module _ (l : Layout) (b : Bytes) (c : Config) (i : ℕ) where
+  pub select-past : l .selections .count ≤ i → enabled (agentFor l b) c (select i) ≡ false
+  unfolding enabled next agentFor agentOf outcome
+  select-past h = ap (λ o. isSome (outcome canSelect selected c o)) (made-none (λ i. selectionAt (conditions 𝐁 l b) (conditions 𝐆 l b) l b (entryAt 8 (l .selections) i)) 0 (l .selections .count) i h)
+
+  pub act-past : l .specifications .count ≤ i → enabled (agentFor l b) c (act i) ≡ false
+  unfolding enabled next agentFor agentOf outcome
+  act-past h = ap (λ o. isSome (outcome canAct acted c o)) (made-none (λ i. specificationAt (conditions 𝐁 l b) b (entryAt 36 (l .specifications) i)) 0 (l .specifications .count) i h)
+
+  pub revise-past : l .revisions .count ≤ i → enabled (agentFor l b) c (revise i) ≡ false
+  unfolding enabled next agentFor agentOf outcome
+  revise-past h = ap (λ o. isSome (outcome canRevise revised c o)) (made-none (λ i. revisionAt (conditions 𝐁 l b) l b (entryAt 12 (l .revisions) i)) 0 (l .revisions .count) i h)
+
+  pub known-select : enabled (agentFor l b) c (select i) ≡ true → i < l .selections .count
+  known-select e = elim (decLt i (l .selections .count)) [ yes h ↦ h | no h ↦ absurd (false≢true (sym (select-past (omega arith)) ∙ e)) ]
+
+  pub known-act : enabled (agentFor l b) c (act i) ≡ true → i < l .specifications .count
+  known-act e = elim (decLt i (l .specifications .count)) [ yes h ↦ h | no h ↦ absurd (false≢true (sym (act-past (omega arith)) ∙ e)) ]
+
+  pub known-revise : enabled (agentFor l b) c (revise i) ≡ true → i < l .revisions .count
+  known-revise e = elim (decLt i (l .revisions .count)) [ yes h ↦ h | no h ↦ absurd (false≢true (sym (revise-past (omega arith)) ∙ e)) ]

@@ -2,3 +2,4 @@ pub mod Truths
 pub mod Enabledness
 pub mod Choices
 pub mod Making
+pub mod Turning

@@ -2,18 +2,19 @@
 use mathlib.Core.Bool.{Bool, true, false}
 use mathlib.Core.List.{List, [], _∷_}
 use mathlib.Core.Option.{Option, none, some}
-use Prim.Native.Nat.{ℕ}
+use Prim.Native.Nat.{ℕ, zero, suc}
 use Rattle.paper.specs.Language.{Agent, Config}
 use Rattle.paper.specs.Transitions.{Choice, select, act, revise}
 use Rattle.paper.specs.Next.{next, enabled}
-use Rattle.house.specs.Order.{State, after}
-use Rattle.house.specs.Run.{fits}
+use Rattle.house.specs.Order.{State, after, guide}
+use Rattle.house.specs.Run.{fits, Outcome}
 use Rattle.meaning.specs.Card.{Bytes}
 use Rattle.meaning.specs.Configurations.{padded}
 use Rattle.moves.specs.declared.mind.Mind.{Mind}
 use Rattle.moves.specs.declared.mind.Chosen.{Chosen}
 use Rattle.moves.specs.declared.mind.Next.{Next}
 use Rattle.moves.specs.declared.mind.Stepped.{Stepped}
+use Rattle.moves.specs.declared.mind.Turned.{Turned}
 use Rattle.moves.specs.Minds.{mindOf}
 
 abbrev pub chosen : Choice → Chosen
@@ -51,3 +52,16 @@ abbrev pub left : Reached → Bytes → Bytes
 left nothing d = d
 left full d = d
 left (to s) d = padded (s .mental .π)
+
+-- the choice of a kind and a number
+abbrev pub choiceAt : ℕ → ℕ → Choice
+choiceAt zero n = select n
+choiceAt (suc zero) n = act n
+choiceAt (suc (suc k)) n = revise n
+
+-- the guide's own move
+unfoldable pub stepOf : Agent → State → Reached
+stepOf A s = elim (guide A s) [ none ↦ nothing | some m ↦ fitting (m .to) ]
+
+abbrev pub ranTo : Outcome → Turned
+ranTo o = record { mind = mindOf (o .state); count = o .count; ending = o .ending }

@@ -3,3 +3,4 @@ pub mod enabled;
 pub mod make;
 pub mod mind;
 pub mod truth;
+pub mod turn;

@@ -1,5 +1,7 @@
 // A configuration as the engine holds it: a mind by value, and the plan's 1,024 bytes beside it.
 
+use house::Ending;
+
 // The believed atoms, the goal atoms, how long the plan is, and the phase.
 pub struct Mind {
     pub beliefs: [u8; 16],
@@ -25,4 +27,11 @@ pub enum Next {
 pub struct Stepped {
     pub next: Next,
     pub mind: Mind,
+}
+
+// Where a run ends: the mind, how many transitions were taken, and why it ended.
+pub struct Turned {
+    pub mind: Mind,
+    pub count: u16,
+    pub ending: Ending,
 }
