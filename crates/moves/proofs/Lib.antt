@@ -3,3 +3,4 @@ pub mod Enabledness
 pub mod Choices
 pub mod Making
 pub mod Turning
+pub mod Zeros

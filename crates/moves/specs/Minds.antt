@@ -7,6 +7,7 @@ use Rattle.paper.specs.Language.{Config, ⟨_/_/_⟩}
 use Rattle.house.specs.Order.{State}
 use Rattle.meaning.specs.Card.{Bytes}
 use Rattle.meaning.specs.Configurations.{padded}
+use Rattle.meaning.specs.declared.Configuration.{Configuration}
 use Rattle.moves.specs.declared.mind.Mind.{Mind}
 
 abbrev pub mentalOf : Mind → Bytes → Config
@@ -23,3 +24,10 @@ pub record Held (m : Mind) (d : Bytes) : Type 0 where
   pub fits : m .length ≤ 1024
   pub zeros : d ≡ padded (take (m .length) d)
   pub room : length d ≡ 1024
+
+-- a configuration's mind, and a configuration with another mind
+abbrev pub mindIn : Configuration → Mind
+mindIn c = record { beliefs = c .beliefs; goals = c .goals; length = c .length; phase = c .phase }
+
+abbrev pub withMind : Configuration → Mind → Configuration
+withMind c m = record { beliefs = m .beliefs; goals = m .goals; plan = c .plan; length = m .length; phase = m .phase }

@@ -1,4 +1,5 @@
 // Moves: judged, listed, taken, run.
+pub mod configuration;
 pub mod enabled;
 pub mod make;
 pub mod mind;

@@ -1,0 +1,102 @@
+// A configuration handed in: judged by row 13, and taken apart for the engine.
+ghost use mathlib.Core.Path.{_≡_};
+ghost use mathlib.Core.Bool.{_&&_};
+ghost use Prim.Native.Nat.{ℕ, _≤_};
+ghost use lib.Dec.{eqb};
+ghost use lib.ListN.{length, take, drop};
+ghost use Rattle.meaning.specs.Refusals.{all, actionsGood, setGood, configurationGood};
+ghost use Rattle.sets.specs.Sets.{below};
+ghost use Rattle.moves.specs.Minds.{mindIn, withMind};
+use crate::mind::Mind;
+use card::contents::actions_good;
+use meaning::Configuration;
+use meaning::Layout;
+
+// Whether zeros stand after a plan's end.
+fn zeros_after(plan: &[u8; 1024], n: usize) -> bool
+    requires { ⌜ (n ≤ 1024) × (length (now plan) ≡ 1024) ⌝ }
+    ensures { λ r. ⌜ r ≡ all (λ x. eqb x 0) (drop n (now (plan .entry))) ⌝ }
+{
+    let mut zeros = true;
+    let mut i: usize = n;
+    while i < 1024 {
+        zeros = zeros & (plan[i] == 0);
+        i += 1;
+    }
+    zeros
+}
+
+// How many bytes a slice has.
+fn size(s: &[u8]) -> usize
+    ensures { λ r. ⌜ r ≡ length (now (s .entry)) ⌝ }
+{
+    s.len()
+}
+
+// Whether a plan of n actions knows only so many, and zeros stand after its end.
+fn plan_good(plan: &[u8; 1024], n: usize, actions: usize) -> bool
+    requires { ⌜ n ≤ 1024 ⌝ }
+    ensures { λ r. ⌜ r ≡ (actionsGood actions (take n (now (plan .entry))) && all (λ x. eqb x 0) (drop n (now (plan .entry)))) ⌝ }
+{
+    let room = size(plan);
+    let known = actions_good(plan, 0, n, actions);
+    known & zeros_after(plan, n)
+}
+
+// Whether a set has only atoms below a number, of which it is given the set.
+fn set_known(s: [u8; 16], atoms: usize, known: [u8; 16]) -> bool
+    requires { ⌜ (atoms ≤ 128) × (known ≡ below atoms) ⌝ }
+    ensures { λ r. ⌜ r ≡ setGood atoms s ⌝ }
+{
+    sets::only(s, known)
+}
+
+// Row 13.
+pub fn configuration_good(l: Layout, c: Configuration) -> bool
+    requires { ⌜ l .atoms ≤ 128 ⌝ }
+    ensures { λ r. ⌜ r ≡ configurationGood l c ⌝ }
+{
+    let n = c.length as usize;
+    if 1024 < n {
+        return false;
+    }
+    let atoms = l.atoms;
+    let b = c.beliefs;
+    let g = c.goals;
+    let known = sets::below_number(atoms);
+    let plan = plan_good(&c.plan, n, l.actions);
+    let beliefs = set_known(b, atoms, known);
+    let goals = set_known(g, atoms, known);
+    plan & (beliefs & (goals & (c.phase <= 2)))
+}
+
+// The mind of a configuration.
+pub fn mind_of(c: Configuration) -> Mind
+    ensures { λ r. ⌜ r ≡ mindIn c ⌝ }
+{
+    let b = c.beliefs;
+    let g = c.goals;
+    Mind {
+        beliefs: b,
+        goals: g,
+        length: c.length as usize,
+        phase: c.phase,
+    }
+}
+
+// A configuration with another mind.
+pub fn with_mind(c: Configuration, m: Mind) -> Configuration
+    requires { ⌜ m .length ≤ 1024 ⌝ }
+    ensures { λ r. ⌜ r ≡ withMind c m ⌝ }
+{
+    let b = m.beliefs;
+    let g = m.goals;
+    let p = c.plan;
+    Configuration {
+        beliefs: b,
+        goals: g,
+        plan: p,
+        length: m.length as u16,
+        phase: m.phase,
+    }
+}
