@@ -1,5 +1,11 @@
 -- What each call answers once the card is judged.
-use mathlib.Core.Path.{_≡_, refl, sym, subst}
+use mathlib.Core.Path.{_≡_, refl, sym, ap, _∙_, subst}
+use mathlib.Core.Bool.{true, false, not}
+use mathlib.Core.List.{List, []}
+use mathlib.Core.Option.{none, some}
+use Prim.Native.Nat.{ℕ}
+use lib.Dec.{leb}
+use lib.ListN.{length}
 use Rattle.house.specs.declared.Verdict.{Verdict}
 use Rattle.house.specs.declared.Offender.{Offender}
 use Rattle.house.specs.Weight.{verdict}
@@ -9,9 +15,14 @@ use Rattle.meaning.specs.declared.Answer.{Answer}
 use Rattle.meaning.specs.declared.Answer.the-variants.{Done, Refused}
 use Rattle.meaning.specs.declared.Checked.{Checked}
 use Rattle.meaning.specs.Card.{Bytes, layout, weight, agent, initialPlan, start}
-use Rattle.meaning.specs.Configurations.{configurationOf, empty}
-use Rattle.meaning.specs.Refusals.{cardAnswer}
-use Rattle.meaning.specs.Calls.{checks, reply, loads, graded, grades}
+use Rattle.house.specs.declared.Ending.{Ending}
+use Rattle.house.specs.Order.{State, enabledCodes}
+use Rattle.house.specs.Run.{fits, run}
+use Rattle.meaning.specs.declared.Configuration.{Configuration}
+use Rattle.meaning.specs.Configurations.{stateOf, configurationOf, empty}
+use Rattle.meaning.specs.Refusals.{cardAnswer, _given-when_, andThen, firstGiven, configurationGood, configurationTable, configurationAnswer}
+use Rattle.meaning.specs.Calls.{checks, reply, loads, graded, grades, written, over, lists, listLeaves, leadsTo, takes, ran, runs}
+use Rattle.meaning.proofs.Tables.{given, not-given}
 
 module _ (b : Bytes) where
   pub checks-good : cardAnswer b ≡ Done → checks b ≡ Checked.Good (layout b)
@@ -55,3 +66,55 @@ module _ (b : Bytes) where
 
   pub refused-judged : (r : Refusal) → checks b ≡ Checked.Refused r → cardAnswer b ≡ Refused r
   refused-judged r e = subst Judged e judged
+
+-- ---- the calls that are handed a configuration, on a good card
+
+module _ (b : Bytes) (c : Configuration) (card : cardAnswer b ≡ Done) where
+  pub configuration-refused : configurationGood (layout b) c ≡ false → configurationAnswer b c ≡ Refused Refusal.Configuration
+  unfolding configurationAnswer configurationTable
+  configuration-refused e = ap (λ a. andThen a (firstGiven (configurationTable (layout b)) c)) card ∙ given (Refusal.Configuration given-when (λ (x : Configuration). not (configurationGood (layout b) x))) [] c (ap not e)
+
+  pub configuration-good : configurationGood (layout b) c ≡ true → configurationAnswer b c ≡ Done
+  unfolding configurationAnswer configurationTable firstGiven
+  configuration-good e = ap (λ a. andThen a (firstGiven (configurationTable (layout b)) c)) card ∙ not-given (Refusal.Configuration given-when (λ (x : Configuration). not (configurationGood (layout b) x))) [] c (ap not e)
+
+module _ (b : Bytes) (c : Configuration) where
+  pub takes-refused : (code : ℕ) (r : Refusal) → configurationAnswer b c ≡ Refused r → takes b c code ≡ reply (Refused r) c
+  unfolding takes
+  takes-refused code r e = rw (e, takes)
+
+  pub runs-refused : (budget : ℕ) (r : Refusal) → configurationAnswer b c ≡ Refused r → runs b c budget ≡ record { answer = Refused r; count = 0; ending = Ending.Spent; configuration = c }
+  unfolding runs
+  runs-refused budget r e = rw (e, runs)
+
+  pub lists-refused : (out : List ℕ) (r : Refusal) → configurationAnswer b c ≡ Refused r → (lists b c out ≡ written (Refused r) 0 c) × (listLeaves b c out ≡ out)
+  unfolding lists listLeaves
+  lists-refused out r e = (rw (e, lists), rw (e, listLeaves))
+
+module _ (b : Bytes) (c : Configuration) (good : configurationAnswer b c ≡ Done) where
+  pub takes-nothing : (code : ℕ) → leadsTo (agent b) (stateOf c) code ≡ none → takes b c code ≡ reply (Refused Refusal.NotEnabled) c
+  unfolding takes
+  takes-nothing code e = rw (good, takes, e)
+
+  pub takes-full : (code : ℕ) (s : State) → leadsTo (agent b) (stateOf c) code ≡ some s → fits s ≡ false → takes b c code ≡ reply (Refused Refusal.PlanFull) c
+  unfolding takes
+  takes-full code s e f = rw (good, takes, e, f)
+
+  pub takes-move : (code : ℕ) (s : State) → leadsTo (agent b) (stateOf c) code ≡ some s → fits s ≡ true → takes b c code ≡ reply Done (configurationOf s)
+  unfolding takes
+  takes-move code s e f = rw (good, takes, e, f)
+
+  pub runs-good : (budget : ℕ) → runs b c budget ≡ ran (run (agent b) budget (stateOf c))
+  unfolding runs
+  runs-good budget = rw (good, runs)
+
+  module _ (out : List ℕ) where
+    pub lists-room : leb (length (enabledCodes (agent b) (stateOf c .mental))) (length out) ≡ true
+        → (lists b c out ≡ written Done (length (enabledCodes (agent b) (stateOf c .mental))) c) × (listLeaves b c out ≡ over (enabledCodes (agent b) (stateOf c .mental)) out)
+    unfolding lists listLeaves
+    lists-room e = (rw (good, lists, e), rw (good, listLeaves, e))
+
+    pub lists-no-room : leb (length (enabledCodes (agent b) (stateOf c .mental))) (length out) ≡ false
+        → (lists b c out ≡ written (Refused Refusal.NoRoom) 0 c) × (listLeaves b c out ≡ out)
+    unfolding lists listLeaves
+    lists-no-room e = (rw (good, lists, e), rw (good, listLeaves, e))

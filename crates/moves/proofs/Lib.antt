@@ -4,3 +4,5 @@ pub mod Choices
 pub mod Making
 pub mod Turning
 pub mod Zeros
+pub mod Taking
+pub mod Ending

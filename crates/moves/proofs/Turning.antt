@@ -65,7 +65,7 @@ module _ (A : Agent) (s : State) where
   is-some : (k : Choice) → enabled A (s .mental) k ≡ true → (c : Config) × (next A (s .mental) k ≡ some c)
   is-some k e = let (c, x) = enabled-exactly A (s .mental) k .0 e in (c, sound x)
 
-  is-none : (k : Choice) → enabled A (s .mental) k ≡ false → next A (s .mental) k ≡ none
+  pub is-none : (k : Choice) → enabled A (s .mental) k ≡ false → next A (s .mental) k ≡ none
   unfolding enabled
   is-none k e = go (next A (s .mental) k) refl
     where
@@ -162,11 +162,11 @@ made-fits A s s′ k e = go (next A (s .mental) k) refl
 
 -- ---- a run, by what a step comes to
 
-fitting-yes : (s : State) → fits s ≡ true → fitting s ≡ to s
+pub fitting-yes : (s : State) → fits s ≡ true → fitting s ≡ to s
 unfolding fitting
 fitting-yes s e = rw (e, fitting)
 
-fitting-no : (s : State) → fits s ≡ false → fitting s ≡ full
+pub fitting-no : (s : State) → fits s ≡ false → fitting s ≡ full
 unfolding fitting
 fitting-no s e = rw (e, fitting)
 
@@ -192,6 +192,17 @@ module _ (A : Agent) (b : ℕ) (s : State) where
       go : (o : Option Move) → guide A s ≡ o → Went (stepOf A s)
       go none e = went-nowhere (step-is A s none e) (run-rests A b s e)
       go (some v) e = fit v e (fits (v .to)) refl
+
+-- a run from a plan that fits ends with one
+pub run-fits : (A : Agent) (b : ℕ) (s : State) → length (s .mental .π) ≤ 1024 → length (run A b s .state .mental .π) ≤ 1024
+unfolding run
+run-fits A zero s h = h
+run-fits A (suc b) s h = go (went A b s) (λ s′. run-fits A b s′)
+  where
+    go : Went A b s (stepOf A s) → ((s′ : State) → length (s′ .mental .π) ≤ 1024 → length (run A b s′ .state .mental .π) ≤ 1024) → length (run A (suc b) s .state .mental .π) ≤ 1024
+    go (went-nowhere q f) ih = subst (λ o. length (o .state .mental .π) ≤ 1024) (sym f) h
+    go (went-full q f) ih = subst (λ o. length (o .state .mental .π) ≤ 1024) (sym f) h
+    go (went-to s′ q l p f) ih = subst (λ o. length (o .state .mental .π) ≤ 1024) (sym f) (ih s′ l)
 
 -- ---- the run so far
 

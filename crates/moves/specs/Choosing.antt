@@ -9,7 +9,12 @@ use Rattle.paper.specs.Next.{next, enabled}
 use Rattle.house.specs.Order.{State, after, guide}
 use Rattle.house.specs.Run.{fits, Outcome}
 use Rattle.meaning.specs.Card.{Bytes}
-use Rattle.meaning.specs.Configurations.{padded}
+use Rattle.meaning.specs.Configurations.{padded, configurationOf}
+use Rattle.meaning.specs.Calls.{reply}
+use Rattle.meaning.specs.declared.Refusal.{Refusal}
+use Rattle.meaning.specs.declared.Answer.{Answer}
+use Rattle.meaning.specs.declared.Configuration.{Configuration}
+use Rattle.meaning.specs.declared.Reply.{Reply}
 use Rattle.moves.specs.declared.mind.Mind.{Mind}
 use Rattle.moves.specs.declared.mind.Chosen.{Chosen}
 use Rattle.moves.specs.declared.mind.Next.{Next}
@@ -65,3 +70,9 @@ stepOf A s = elim (guide A s) [ none ↦ nothing | some m ↦ fitting (m .to) ]
 
 abbrev pub ranTo : Outcome → Turned
 ranTo o = record { mind = mindOf (o .state); count = o .count; ending = o .ending }
+
+-- what taking a choice answers, by what its move comes to
+abbrev pub taking : Reached → Configuration → Reply
+taking nothing c = reply (Answer.Refused Refusal.NotEnabled) c
+taking full c = reply (Answer.Refused Refusal.PlanFull) c
+taking (to s) c = reply Answer.Done (configurationOf s)

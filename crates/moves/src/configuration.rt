@@ -70,10 +70,11 @@ pub fn configuration_good(l: Layout, c: Configuration) -> bool
     plan & (beliefs & (goals & (c.phase <= 2)))
 }
 
-// The mind of a configuration.
+// The mind of a configuration, whose plan has its 1,024 bytes.
 pub fn mind_of(c: Configuration) -> Mind
-    ensures { λ r. ⌜ r ≡ mindIn c ⌝ }
+    ensures { λ r. ⌜ (r ≡ mindIn c) × (length (c .plan) ≡ 1024) ⌝ }
 {
+    let room = size(&c.plan);
     let b = c.beliefs;
     let g = c.goals;
     Mind {

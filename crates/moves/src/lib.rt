@@ -3,5 +3,7 @@ pub mod configuration;
 pub mod enabled;
 pub mod make;
 pub mod mind;
+pub mod run;
+pub mod take;
 pub mod truth;
 pub mod turn;

@@ -1,0 +1,165 @@
+-- What taking a choice answers, and where a run leads.
+use mathlib.Core.Path.{_≡_, refl, ap, _∙_, sym, subst}
+use mathlib.Core.Bool.{Bool, true, false, not}
+use mathlib.Core.Option.{Option, none, some}
+use Prim.Native.Nat.{ℕ, zero, suc, _+_, _/_, _%_, _≤_, _<_}
+use native.Mathlib.Omega.{arith}
+use borrow.Author.Tests.{not-true, not-false}
+use lib.ListN.{length}
+use Rattle.paper.specs.Language.{Agent, Config}
+use Rattle.paper.specs.Transitions.{Choice}
+use Rattle.paper.specs.Next.{next}
+use Rattle.house.specs.Order.{State, after}
+use Rattle.house.specs.Run.{fits, run}
+use Rattle.meaning.specs.declared.Answer.the-variants.{Done, Refused}
+use Rattle.meaning.specs.declared.Refusal.{Refusal}
+use Rattle.meaning.specs.declared.Configuration.{Configuration}
+use Rattle.meaning.specs.declared.Layout.{Layout}
+use Rattle.meaning.specs.Card.{Bytes, layout, agent}
+use Rattle.meaning.specs.Configurations.{padded, stateOf, configurationOf}
+use Rattle.meaning.specs.Refusals.{cardAnswer, configurationGood, configurationAnswer}
+use Rattle.meaning.specs.Calls.{choiceOf, choice, leadsTo, takes, reply}
+use Rattle.meaning.proofs.Calls.{configuration-refused, configuration-good, takes-nothing, takes-full, takes-move}
+use Rattle.meaning.proofs.Configurations.{good, padded-take}
+use Rattle.moves.specs.declared.mind.Mind.{Mind}
+use Rattle.moves.specs.declared.mind.Next.{Next}
+use Rattle.moves.specs.declared.mind.Stepped.{Stepped}
+use Rattle.moves.specs.Minds.{stateIn, mindOf, mindIn, Held}
+use Rattle.moves.specs.Choosing.{Reached, nothing, full, to, fitting, moveBy, choiceAt, taking, told, left}
+use Rattle.moves.proofs.Making.{leads-to, leads-nowhere}
+use Rattle.moves.proofs.Turning.{fitting-yes, fitting-no, made-fits}
+
+-- a known kind is a choice, and another is none
+choice-known : (k n : ℕ) → k < 3 → choiceOf k n ≡ some (choiceAt k n)
+choice-known zero n h = refl
+choice-known (suc zero) n h = refl
+choice-known (suc (suc zero)) n h = refl
+choice-known (suc (suc (suc k))) n h = absurd (omega arith)
+
+choice-unknown : (k n : ℕ) → 2 < k → choiceOf k n ≡ none
+choice-unknown zero n h = absurd (omega arith)
+choice-unknown (suc zero) n h = absurd (omega arith)
+choice-unknown (suc (suc zero)) n h = absurd (omega arith)
+choice-unknown (suc (suc (suc k))) n h = refl
+
+module _ (A : Agent) (s : State) (code : ℕ) where
+  leads-unknown : choice code ≡ none → leadsTo A s code ≡ none
+  unfolding leadsTo
+  leads-unknown e = rw (e, leadsTo)
+
+  module _ (k : Choice) (e : choice code ≡ some k) where
+    leads-none : next A (s .mental) k ≡ none → leadsTo A s code ≡ none
+    unfolding leadsTo
+    leads-none f = rw (e, leadsTo, f)
+
+    leads-some : (c : Config) → next A (s .mental) k ≡ some c → leadsTo A s code ≡ some (after k c)
+    unfolding leadsTo
+    leads-some c f = rw (e, leadsTo, f)
+
+module _ (b : Bytes) (c : Configuration) (good : configurationAnswer b c ≡ Done) (code : ℕ) where
+  pub takes-unknown : 2 < code / 256 → reply (Refused Refusal.NotEnabled) c ≡ takes b c code
+  unfolding choice
+  takes-unknown h = sym (takes-nothing b c good code (leads-unknown (agent b) (stateOf c) code (choice-unknown (code / 256) (code % 256) h)))
+
+  takes-by : (k : Choice) → choice code ≡ some k → taking (moveBy (agent b) (stateOf c) k) c ≡ takes b c code
+  takes-by k e = go (next (agent b) (stateOf c .mental) k) refl
+    where
+      fit : (d : Config) → next (agent b) (stateOf c .mental) k ≡ some d → (t : Bool) → fits (after k d) ≡ t → taking (moveBy (agent b) (stateOf c) k) c ≡ takes b c code
+      fit d f true h =
+          ap (λ o. taking o c) (leads-to (agent b) (stateOf c) k d f ∙ fitting-yes (after k d) h)
+          ∙ sym (takes-move b c good code (after k d) (leads-some (agent b) (stateOf c) code k e d f) h)
+      fit d f false h =
+          ap (λ o. taking o c) (leads-to (agent b) (stateOf c) k d f ∙ fitting-no (after k d) h)
+          ∙ sym (takes-full b c good code (after k d) (leads-some (agent b) (stateOf c) code k e d f) h)
+
+      go : (o : Option Config) → next (agent b) (stateOf c .mental) k ≡ o → taking (moveBy (agent b) (stateOf c) k) c ≡ takes b c code
+      go none f =
+          ap (λ o. taking o c) (leads-nowhere (agent b) (stateOf c) k f)
+          ∙ sym (takes-nothing b c good code (leads-none (agent b) (stateOf c) code k e f))
+      go (some d) f = fit d f (fits (after k d)) refl
+
+  pub takes-known : code / 256 < 3 → taking (moveBy (agent b) (stateOf c) (choiceAt (code / 256) (code % 256))) c ≡ takes b c code
+  unfolding choice
+  takes-known h = takes-by (choiceAt (code / 256) (code % 256)) (choice-known (code / 256) (code % 256) h)
+
+-- ---- a good configuration is held, and what its move comes to is what is answered
+
+pub held-configuration : (l : Layout) (c : Configuration) → length (c .plan) ≡ 1024 → configurationGood l c ≡ true → Held (mindIn c) (c .plan)
+held-configuration l c r e =
+    let g = good l c e in
+    record { fits = g .fits; zeros = sym (padded-take (c .plan) (c .length) r (g .fits) (g .zeros)); room = r }
+
+-- a mind that is the configuration's, and the plan's bytes beside it
+pub in-state : (A : Agent) (c : Configuration) (k : Choice) (m : Mind) → m ≡ mindIn c → (s : Stepped) (p : Bytes)
+    → (s ≡ told (moveBy A (stateIn m (c .plan)) k) m) × (p ≡ left (moveBy A (stateIn m (c .plan)) k) (c .plan))
+    → (s ≡ told (moveBy A (stateOf c) k) (mindIn c)) × (p ≡ left (moveBy A (stateOf c) k) (c .plan))
+unfolding stateOf
+in-state A c k m e s p h = subst (λ (x : Mind). (s ≡ told (moveBy A (stateIn x (c .plan)) k) x) × (p ≡ left (moveBy A (stateIn x (c .plan)) k) (c .plan))) e h
+
+module _ (A : Agent) (c : Configuration) (k : Choice) (s : Stepped) (e : s ≡ told (moveBy A (stateOf c) k) (mindIn c)) where
+  data Came (o : Reached) : Type 0 where
+    came-nowhere : o ≡ nothing → Came o
+    came-full : o ≡ full → Came o
+    came-to : (s′ : State) → o ≡ to s′ → Came o
+
+  came : (o : Reached) → Came o
+  came nothing = came-nowhere refl
+  came full = came-full refl
+  came (to s′) = came-to s′ refl
+
+  tells : (o : Reached) → moveBy A (stateOf c) k ≡ o → s .next ≡ told o (mindIn c) .next
+  tells o q = ap (λ (x : Stepped). x .next) e ∙ ap (λ r. told r (mindIn c) .next) q
+
+  pub told-nothing : s .next ≡ Next.Nothing → reply (Refused Refusal.NotEnabled) c ≡ taking (moveBy A (stateOf c) k) c
+  told-nothing f = go (came (moveBy A (stateOf c) k))
+    where
+      go : Came (moveBy A (stateOf c) k) → reply (Refused Refusal.NotEnabled) c ≡ taking (moveBy A (stateOf c) k) c
+      go (came-nowhere q) = ap (λ o. taking o c) (sym q)
+      go (came-full q) = absurd (let y : Next.Full ≡ Next.Nothing = sym (tells full q) ∙ f in let z : _≡_ {A = ℕ} 0 1 = cc in omega arith)
+      go (came-to s′ q) = absurd (let y : Next.Moved ≡ Next.Nothing = sym (tells (to s′) q) ∙ f in let z : _≡_ {A = ℕ} 0 1 = cc in omega arith)
+
+  pub told-full : s .next ≡ Next.Full → reply (Refused Refusal.PlanFull) c ≡ taking (moveBy A (stateOf c) k) c
+  told-full f = go (came (moveBy A (stateOf c) k))
+    where
+      go : Came (moveBy A (stateOf c) k) → reply (Refused Refusal.PlanFull) c ≡ taking (moveBy A (stateOf c) k) c
+      go (came-nowhere q) = absurd (let y : Next.Nothing ≡ Next.Full = sym (tells nothing q) ∙ f in let z : _≡_ {A = ℕ} 0 1 = cc in omega arith)
+      go (came-full q) = ap (λ o. taking o c) (sym q)
+      go (came-to s′ q) = absurd (let y : Next.Moved ≡ Next.Full = sym (tells (to s′) q) ∙ f in let z : _≡_ {A = ℕ} 0 1 = cc in omega arith)
+
+  -- the move that is made: the state that it leads to
+  pub told-moved : s .next ≡ Next.Moved → (s′ : State) × (moveBy A (stateOf c) k ≡ to s′) × (length (s′ .mental .π) ≤ 1024)
+  told-moved f = go (came (moveBy A (stateOf c) k))
+    where
+      go : Came (moveBy A (stateOf c) k) → (s′ : State) × (moveBy A (stateOf c) k ≡ to s′) × (length (s′ .mental .π) ≤ 1024)
+      go (came-nowhere q) = absurd (let y : Next.Nothing ≡ Next.Moved = sym (tells nothing q) ∙ f in let z : _≡_ {A = ℕ} 0 1 = cc in omega arith)
+      go (came-full q) = absurd (let y : Next.Full ≡ Next.Moved = sym (tells full q) ∙ f in let z : _≡_ {A = ℕ} 0 1 = cc in omega arith)
+      go (came-to s′ q) = (s′, q, made-fits A (stateOf c) s′ k q .0)
+
+  pub mind-within : s .next ≡ Next.Moved → s .mind .length ≤ 1024
+  mind-within f =
+      let (s′, q, l) = told-moved f in
+      subst (λ (x : Stepped). x .mind .length ≤ 1024) (sym (e ∙ ap (λ r. told r (mindIn c)) q)) l
+
+  pub made : (p : Bytes) → p ≡ left (moveBy A (stateOf c) k) (c .plan) → s .next ≡ Next.Moved
+      → (r : Configuration) → r ≡ record { beliefs = s .mind .beliefs; goals = s .mind .goals; plan = p; length = s .mind .length; phase = s .mind .phase }
+      → reply Done r ≡ taking (moveBy A (stateOf c) k) c
+  unfolding configurationOf
+  made p h f r w =
+      let (s′, q, l) = told-moved f in
+      let m : s .mind ≡ mindOf s′ = ap (λ (x : Stepped). x .mind) (e ∙ ap (λ o. told o (mindIn c)) q) in
+      let v : p ≡ padded (s′ .mental .π) = h ∙ ap (λ o. left o (c .plan)) q in
+      ap (reply Done) w
+      ∙ (λ i. reply Done (record { beliefs = m i .beliefs; goals = m i .goals; plan = v i; length = m i .length; phase = m i .phase }))
+      ∙ ap (λ o. taking o c) (sym q)
+
+-- ---- row 13, by the code's own test
+
+module _ (l : Layout) (b : Bytes) (c : Configuration) (card : cardAnswer b ≡ Done) (h : l ≡ layout b) (t : Bool) (e : t ≡ configurationGood l c) where
+  judged-so : t ≡ configurationGood (layout b) c
+  judged-so = e ∙ ap (λ x. configurationGood x c) h
+
+  pub judged-bad : not t ≡ true → configurationAnswer b c ≡ Refused Refusal.Configuration
+  judged-bad f = configuration-refused b c card (sym judged-so ∙ not-true t f)
+
+  pub judged-good : not t ≡ false → (configurationGood l c ≡ true) × (configurationAnswer b c ≡ Done)
+  judged-good f = (sym e ∙ not-false t f, configuration-good b c card (sym judged-so ∙ not-false t f))

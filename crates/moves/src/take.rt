@@ -1,0 +1,167 @@
+// Taking a choice: "A choice is taken exactly if it is a transition and its plan fits."
+ghost use mathlib.Core.Path.{_≡_};
+ghost use mathlib.Core.Bool.{true};
+ghost use Prim.Native.Nat.{ℕ, _≤_, _<_};
+ghost use Rattle.paper.specs.Transitions.{select, act, revise};
+ghost use Rattle.paper.specs.Next.{enabled};
+ghost use Rattle.meaning.specs.declared.Answer.the-variants.{Done};
+ghost use Rattle.meaning.specs.Card.{layout, agentFor};
+ghost use Rattle.meaning.specs.Configurations.{stateOf};
+ghost use Rattle.meaning.specs.Refusals.{cardAnswer, configurationGood};
+ghost use Rattle.meaning.specs.Calls.{takes};
+ghost use Rattle.card.specs.GoodCard.{GoodCard};
+ghost use Rattle.moves.specs.Truth.{Judged};
+ghost use Rattle.moves.specs.Minds.{mentalOf, stateIn, Held};
+ghost use Rattle.moves.specs.Choosing.{choiceAt, moveBy, told, left, taking};
+use crate::configuration::configuration_good;
+use crate::configuration::mind_of;
+use crate::configuration::with_mind;
+use crate::enabled::can_act;
+use crate::enabled::can_revise;
+use crate::enabled::can_select;
+use crate::mind::Mind;
+use crate::mind::Next;
+use crate::mind::Stepped;
+use crate::truth::judge;
+use crate::turn::make;
+use meaning::Answer;
+use meaning::Configuration;
+use meaning::Layout;
+use meaning::Refusal;
+use meaning::Reply;
+
+// Whether a number is that of an enabled selection rule.
+fn may_select(
+    card: &[u8],
+    l: Layout,
+    m: Mind,
+    plan: &[u8; 1024],
+    marks: &[bool; 256],
+    i: usize,
+) -> bool
+    requires { ⌜ GoodCard l (now card) × Held m (now plan) × Judged l (now card) (m .beliefs) (m .goals) (now marks) ⌝ }
+    ensures { λ r. ⌜ r ≡ enabled (agentFor l (now (card .entry))) (mentalOf m (now (plan .entry))) (select i) ⌝ }
+{
+    let section = l.selections;
+    if section.count <= i {
+        return false;
+    }
+    can_select(card, l, m, plan, marks, i)
+}
+
+// Whether a number is that of an enabled specification.
+fn may_act(
+    card: &[u8],
+    l: Layout,
+    m: Mind,
+    plan: &[u8; 1024],
+    marks: &[bool; 256],
+    i: usize,
+) -> bool
+    requires { ⌜ GoodCard l (now card) × Held m (now plan) × Judged l (now card) (m .beliefs) (m .goals) (now marks) ⌝ }
+    ensures { λ r. ⌜ r ≡ enabled (agentFor l (now (card .entry))) (mentalOf m (now (plan .entry))) (act i) ⌝ }
+{
+    let section = l.specifications;
+    if section.count <= i {
+        return false;
+    }
+    can_act(card, l, m, plan, marks, i)
+}
+
+// Whether a number is that of an enabled revision rule.
+fn may_revise(
+    card: &[u8],
+    l: Layout,
+    m: Mind,
+    plan: &[u8; 1024],
+    marks: &[bool; 256],
+    i: usize,
+) -> bool
+    requires { ⌜ GoodCard l (now card) × Held m (now plan) × Judged l (now card) (m .beliefs) (m .goals) (now marks) ⌝ }
+    ensures { λ r. ⌜ r ≡ enabled (agentFor l (now (card .entry))) (mentalOf m (now (plan .entry))) (revise i) ⌝ }
+{
+    let section = l.revisions;
+    if section.count <= i {
+        return false;
+    }
+    can_revise(card, l, m, plan, marks, i)
+}
+
+// Whether a choice, by its kind and number, is enabled.
+fn may(card: &[u8], l: Layout, m: Mind, plan: &[u8; 1024], kind: u8, i: usize) -> bool
+    requires { ⌜ GoodCard l (now card) × Held m (now plan) × (kind < 3) ⌝ }
+    ensures { λ r. ⌜ r ≡ enabled (agentFor l (now (card .entry))) (mentalOf m (now (plan .entry))) (choiceAt kind i) ⌝ }
+{
+    let b = m.beliefs;
+    let g = m.goals;
+    let marks = judge(card, l, b, g);
+    match kind {
+        0 => may_select(card, l, m, plan, &marks, i),
+        1 => may_act(card, l, m, plan, &marks, i),
+        _ => may_revise(card, l, m, plan, &marks, i),
+    }
+}
+
+// A choice is made if it is enabled.
+fn attempt(card: &[u8], l: Layout, m: Mind, plan: &mut [u8; 1024], kind: u8, i: usize) -> Stepped
+    requires { ⌜ GoodCard l (now card) × Held m (now plan) × (kind < 3) ⌝ }
+    ensures { λ r. ⌜ (r ≡ told (moveBy (agentFor l (now (card .entry))) (stateIn m (now (plan .entry))) (choiceAt kind i)) m) × (now (plan .exit) ≡ left (moveBy (agentFor l (now (card .entry))) (stateIn m (now (plan .entry))) (choiceAt kind i)) (now (plan .entry))) ⌝ }
+{
+    if may(card, l, m, plan, kind, i) {
+        return make(card, l, m, plan, kind, i);
+    }
+    Stepped {
+        next: Next::Nothing,
+        mind: m,
+    }
+}
+
+// A choice of a kind, from a good configuration.
+fn take_choice(card: &[u8], l: Layout, c: Configuration, kind: u8, i: usize) -> Reply
+    requires { ⌜ GoodCard l (now card) × (configurationGood l c ≡ true) × (kind < 3) ⌝ }
+    ensures { λ r. ⌜ r ≡ taking (moveBy (agentFor l (now (card .entry))) (stateOf c) (choiceAt kind i)) c ⌝ }
+{
+    let mut d = c;
+    let m = mind_of(c);
+    let s = attempt(card, l, m, &mut d.plan, kind, i);
+    let next = s.next;
+    match next {
+        Next::Moved => {
+            let after = s.mind;
+            let reached = with_mind(d, after);
+            Reply {
+                answer: Answer::Done,
+                configuration: reached,
+            }
+        }
+        Next::Nothing => Reply {
+            answer: Answer::Refused(Refusal::NotEnabled),
+            configuration: c,
+        },
+        Next::Full => Reply {
+            answer: Answer::Refused(Refusal::PlanFull),
+            configuration: c,
+        },
+    }
+}
+
+// "256 times the kind … plus the number": the chosen move, or the configuration as it came in.
+pub fn take(card: &[u8], l: Layout, c: Configuration, choice: u16) -> Reply
+    requires { ⌜ (cardAnswer (now card) ≡ Done) × (l ≡ layout (now card)) ⌝ }
+    ensures { λ r. ⌜ r ≡ takes (now (card .entry)) c choice ⌝ }
+{
+    if !configuration_good(l, c) {
+        return Reply {
+            answer: Answer::Refused(Refusal::Configuration),
+            configuration: c,
+        };
+    }
+    let kind = choice / 256;
+    if 2 < kind {
+        return Reply {
+            answer: Answer::Refused(Refusal::NotEnabled),
+            configuration: c,
+        };
+    }
+    take_choice(card, l, c, kind as u8, (choice % 256) as usize)
+}
