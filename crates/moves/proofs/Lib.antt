@@ -6,3 +6,4 @@ pub mod Turning
 pub mod Zeros
 pub mod Taking
 pub mod Ending
+pub mod Gathering

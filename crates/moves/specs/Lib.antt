@@ -1,3 +1,4 @@
 pub mod Truth
 pub mod Minds
 pub mod Choosing
+pub mod Listed

@@ -1,0 +1,178 @@
+-- The codes of the enabled choices, gathered one after another.
+use mathlib.Core.Path.{_≡_, refl, ap, _∙_, sym}
+use mathlib.Core.Bool.{Bool, true, false}
+use mathlib.Core.List.{List, [], _∷_, _++_, map, append-nil, append-assoc, map-append}
+use Prim.Native.Nat.{ℕ, zero, suc, _+_, _≤_, _<_}
+use native.Mathlib.Nat.{add-zero}
+use native.Mathlib.Numerals.{add-one}
+use native.Mathlib.Omega.{arith}
+use borrow.Author.Tests.{le-leb, lt-leb}
+use lib.Dec.{leb}
+use lib.ListN.{length, getD, take, drop, set, length-set}
+use lib.Seq.{take-suc, take-suc-set, length-take-le, drop-cons, set-at, append-snoc}
+use Rattle.paper.specs.Language.{Config, Agent}
+use Rattle.paper.specs.Transitions.{Choice, select, act, revise}
+use Rattle.paper.specs.Next.{enabled}
+use Rattle.house.specs.Order.{kind, number, code, numbers, ofKind, inTurn, keep, enabledCodes}
+use Rattle.house.proofs.Listing.{keep-yes, keep-no}
+use Rattle.meaning.specs.declared.Layout.{Layout}
+use Rattle.meaning.specs.declared.Configuration.{Configuration}
+use Rattle.meaning.specs.declared.Refusal.{Refusal}
+use Rattle.meaning.specs.declared.Answer.the-variants.{Done, Refused}
+use Rattle.meaning.specs.Card.{Bytes, layout, agent, agentFor}
+use Rattle.meaning.specs.Configurations.{stateOf}
+use Rattle.meaning.specs.Refusals.{configurationAnswer}
+use Rattle.meaning.specs.Calls.{written, lists, listLeaves}
+use Rattle.meaning.proofs.Calls.{lists-room, lists-no-room}
+use Rattle.moves.specs.declared.mind.Mind.{Mind}
+use Rattle.moves.specs.Minds.{mentalOf, mindIn}
+use Rattle.moves.specs.Listed.{listed}
+use Rattle.moves.proofs.Choices.{selections-of, actions-of, revisions-of}
+
+-- ---- one number more
+
+numbers-snoc : (k n : ℕ) → numbers k (suc n) ≡ numbers k n ++ (k + n) ∷ []
+unfolding numbers
+numbers-snoc k zero = ap (λ (x : ℕ). x ∷ []) (sym (add-zero k))
+numbers-snoc k (suc n) =
+    let e : suc k + n ≡ k + suc n = omega arith in
+    ap (λ (xs : List ℕ). k ∷ xs) (numbers-snoc (suc k) n ∙ ap (λ (x : ℕ). numbers (suc k) n ++ x ∷ []) e)
+
+keep-append : (t : Choice → Bool) (xs ys : List Choice) → keep t (xs ++ ys) ≡ keep t xs ++ keep t ys
+keep-append t [] ys = refl
+keep-append t (x ∷ xs) ys = go (t x) refl (keep-append t xs ys)
+  where
+    go : (b : Bool) → t x ≡ b → keep t (xs ++ ys) ≡ keep t xs ++ keep t ys → keep t (x ∷ (xs ++ ys)) ≡ keep t (x ∷ xs) ++ keep t ys
+    go true e ih = keep-yes t x (xs ++ ys) e ∙ ap (λ (r : List Choice). x ∷ r) ih ∙ ap (λ (r : List Choice). r ++ keep t ys) (sym (keep-yes t x xs e))
+    go false e ih = keep-no t x (xs ++ ys) e ∙ ih ∙ ap (λ (r : List Choice). r ++ keep t ys) (sym (keep-no t x xs e))
+
+module _ (t : Choice → Bool) (f : ℕ → Choice) (i : ℕ) where
+  listed-more : listed t f (i + 1) ≡ listed t f i ++ map code (keep t (f i ∷ []))
+  unfolding listed
+  listed-more =
+      let z : 0 + i ≡ i = omega arith in
+      let e : map f (numbers 0 (i + 1)) ≡ map f (numbers 0 i) ++ f i ∷ [] = ap (λ (n : ℕ). map f (numbers 0 n)) (add-one i) ∙ ap (map f) (numbers-snoc 0 i) ∙ map-append f (numbers 0 i) ((0 + i) ∷ []) ∙ ap (λ (n : ℕ). map f (numbers 0 i) ++ f n ∷ []) z in
+      ap (λ (xs : List Choice). map code (keep t xs)) e
+      ∙ ap (map code) (keep-append t (map f (numbers 0 i)) (f i ∷ []))
+      ∙ map-append code (keep t (map f (numbers 0 i))) (keep t (f i ∷ []))
+
+  listed-yes : t (f i) ≡ true → listed t f (i + 1) ≡ listed t f i ++ code (f i) ∷ []
+  listed-yes e = listed-more ∙ ap (λ (xs : List Choice). listed t f i ++ map code xs) (keep-yes t (f i) [] e)
+
+  listed-no : t (f i) ≡ false → listed t f (i + 1) ≡ listed t f i
+  listed-no e = listed-more ∙ ap (λ (xs : List Choice). listed t f i ++ map code xs) (keep-no t (f i) [] e) ∙ append-nil (listed t f i)
+
+-- ---- the codes of the first i choices of a kind stand from `at` up to j
+
+pub record Gathering (t : Choice → Bool) (f : ℕ → Choice) (at : ℕ) (d₀ : List ℕ) (i j : ℕ) (d : List ℕ) : Type 0 where
+  pub low : j ≤ at + i
+  pub so-far : take j d ≡ take at d₀ ++ listed t f i
+  pub long : length d ≡ 768
+
+module _ (t : Choice → Bool) (f : ℕ → Choice) (at : ℕ) (d₀ : List ℕ) where
+  pub gathering-none : length d₀ ≡ 768 → Gathering t f at d₀ 0 at d₀
+  unfolding listed numbers
+  gathering-none h = record { low = omega arith; so-far = sym (append-nil (take at d₀)); long = h }
+
+  module _ (i j : ℕ) (d : List ℕ) (g : Gathering t f at d₀ i j d) where
+    pub gathering-yes : t (f i) ≡ true → (x : ℕ) → x ≡ code (f i) → j < 768 → Gathering t f at d₀ (i + 1) (j + 1) (set d j x)
+    gathering-yes e x h b =
+        let r = g .long in
+        let l = g .low in
+        record {
+          low = omega arith;
+          so-far =
+              ap (λ (n : ℕ). take n (set d j x)) (add-one j)
+              ∙ take-suc-set d j x (omega arith)
+              ∙ ap (λ (p : List ℕ). p ++ x ∷ []) (g .so-far)
+              ∙ append-assoc (take at d₀) (listed t f i) (x ∷ [])
+              ∙ ap (λ (p : List ℕ). take at d₀ ++ p) (ap (λ (y : ℕ). listed t f i ++ y ∷ []) h ∙ sym (listed-yes t f i e));
+          long = length-set d j x ∙ r;
+        }
+
+    pub gathering-no : t (f i) ≡ false → Gathering t f at d₀ (i + 1) j d
+    gathering-no e = let l = g .low in record { low = omega arith; so-far = g .so-far ∙ ap (λ (p : List ℕ). take at d₀ ++ p) (sym (listed-no t f i e)); long = g .long }
+
+    pub gathered : (n : ℕ) → i ≡ n → n ≤ 256 → (take j d ≡ take at d₀ ++ listed t f n) × (j ≤ at + 256) × (length d ≡ 768)
+    gathered n e h = let l = g .low in (g .so-far ∙ ap (λ (k : ℕ). take at d₀ ++ listed t f k) e, omega arith, g .long)
+
+-- ---- the three kinds
+
+pub three-kinds : (l : Layout) (b : Bytes) (c : Config) (p q r : List ℕ)
+    → p ≡ listed (enabled (agentFor l b) c) select (l .selections .count)
+    → q ≡ p ++ listed (enabled (agentFor l b) c) act (l .specifications .count)
+    → r ≡ q ++ listed (enabled (agentFor l b) c) revise (l .revisions .count)
+    → r ≡ enabledCodes (agentFor l b) c
+unfolding enabledCodes inTurn listed
+three-kinds l b c p q r e₁ e₂ e₃ =
+    let A = agentFor l b in
+    let t = enabled A c in
+    let x = map select (numbers 0 (l .selections .count)) in
+    let y = map act (numbers 0 (l .specifications .count)) in
+    let z = map revise (numbers 0 (l .revisions .count)) in
+    let k : ofKind A 0 ++ (ofKind A 1 ++ ofKind A 2) ≡ x ++ (y ++ z) = rw (selections-of l b, actions-of l b, revisions-of l b) in
+    let w : map code (keep t (x ++ (y ++ z))) ≡ map code (keep t x) ++ (map code (keep t y) ++ map code (keep t z)) =
+    ap (map code) (keep-append t x (y ++ z)) ∙ map-append code (keep t x) (keep t (y ++ z)) ∙ ap (λ (s : List ℕ). map code (keep t x) ++ s) (ap (map code) (keep-append t y z) ∙ map-append code (keep t y) (keep t z)) in
+    e₃ ∙ ap (λ (s : List ℕ). s ++ map code (keep t z)) (e₂ ∙ ap (λ (s : List ℕ). s ++ map code (keep t y)) e₁)
+    ∙ append-assoc (map code (keep t x)) (map code (keep t y)) (map code (keep t z))
+    ∙ sym w ∙ ap (λ (s : List Choice). map code (keep t s)) (sym k)
+
+-- ---- "256 times the kind … plus the number"
+
+pub code-select : (i : ℕ) → i ≡ code (select i)
+unfolding code kind number
+code-select i = omega arith
+
+pub code-act : (i : ℕ) → 256 + i ≡ code (act i)
+unfolding code kind number
+code-act i = omega arith
+
+pub code-revise : (i : ℕ) → 512 + i ≡ code (revise i)
+unfolding code kind number
+code-revise i = omega arith
+
+-- ---- codes written over a lent list
+
+pub record Writing (codes out₀ : List ℕ) (i : ℕ) (out : List ℕ) : Type 0 where
+  pub so-far : out ≡ take i codes ++ drop i out₀
+  pub long : length out ≡ length out₀
+
+pub writing-none : (codes out₀ : List ℕ) → Writing codes out₀ 0 out₀
+writing-none codes out₀ = record { so-far = refl; long = refl }
+
+pub writing-more : (codes out₀ : List ℕ) (i : ℕ) (out : List ℕ) → Writing codes out₀ i out → i < length codes → i < length out₀ → Writing codes out₀ (i + 1) (set out i (getD codes i 0))
+writing-more codes out₀ i out w h g = record {
+  so-far =
+      ap (λ (x : List ℕ). set x i (getD codes i 0)) (w .so-far ∙ ap (λ (x : List ℕ). take i codes ++ x) (drop-cons out₀ i 0 g))
+      ∙ set-at (take i codes) (getD out₀ i 0) (drop (suc i) out₀) (getD codes i 0) i (length-take-le i codes (omega arith))
+      ∙ sym (append-snoc (take i codes) (getD codes i 0) (drop (suc i) out₀))
+      ∙ ap (λ (x : List ℕ). x ++ drop (suc i) out₀) (sym (take-suc codes i 0 h))
+      ∙ ap (λ (k : ℕ). take k codes ++ drop k out₀) (sym (add-one i));
+  long = length-set out i (getD codes i 0) ∙ w .long;
+}
+
+-- ---- what the list answers, and what it leaves
+
+module _ (l : Layout) (b : Bytes) (c : Configuration) (m : Mind) (codes : List ℕ) (n : ℕ) where
+  -- a mind that is the configuration's, and the plan's bytes beside it
+  pub listed-state : l ≡ layout b → m ≡ mindIn c → take n codes ≡ enabledCodes (agentFor l b) (mentalOf m (c .plan)) → take n codes ≡ enabledCodes (agent b) (stateOf c .mental)
+  unfolding agent stateOf
+  listed-state h e x = x ∙ ap (λ (y : Layout). enabledCodes (agentFor y b) (mentalOf m (c .plan))) h ∙ ap (λ (y : Mind). enabledCodes (agentFor (layout b) b) (mentalOf y (c .plan))) e
+
+module _ (b : Bytes) (c : Configuration) (good : configurationAnswer b c ≡ Done) (codes : List ℕ) (n : ℕ) (room : length codes ≡ 768) (low : n ≤ 768) (x : take n codes ≡ enabledCodes (agent b) (stateOf c .mental)) (out : List ℕ) where
+  how-many : n ≡ length (enabledCodes (agent b) (stateOf c .mental))
+  how-many = sym (length-take-le n codes (omega arith)) ∙ ap length x
+
+  pub list-yes : n ≤ length out → (out′ : List ℕ) → out′ ≡ take n codes ++ drop n out → (written Done n c ≡ lists b c out) × (out′ ≡ listLeaves b c out)
+  list-yes h out′ q =
+      let m = how-many in
+      let r = lists-room b c good out (le-leb (length (enabledCodes (agent b) (stateOf c .mental))) (length out) (omega arith)) in (
+        ap (λ (k : ℕ). written Done k c) m ∙ sym (r .0),
+        q ∙ ap (λ (p : List ℕ). p ++ drop n out) x ∙ ap (λ (k : ℕ). enabledCodes (agent b) (stateOf c .mental) ++ drop k out) m ∙ sym (r .1),
+      )
+
+  pub list-not : length out < n → (written (Refused Refusal.NoRoom) 0 c ≡ lists b c out) × (out ≡ listLeaves b c out)
+  list-not h =
+      let m = how-many in
+      let r = lists-no-room b c good out (lt-leb (length (enabledCodes (agent b) (stateOf c .mental))) (length out) (omega arith)) in
+      (sym (r .0), sym (r .1))

@@ -1,0 +1,84 @@
+use Rattle.moves.proofs.Gathering.{Writing, writing-none, writing-more}
+use mathlib.Core.Path.{_≡_, refl, sym, ap, _∙_}
+use mathlib.Core.List.{List, [], _∷_, _++_, append-nil, append-assoc}
+use Prim.Native.Nat.{ℕ, suc, _+_, _-_, _*_, _≤_, _<_}
+use native.Mathlib.Omega.{arith}
+use borrow.Author.Needs.{needs}
+use denote.Ref.{now}
+use lib.ListN.{length, getD, set, take, drop, replicate}
+use Rattle.moves.proofs.list.write.Statement.{statement}
+use Rattle.moves.proofs.list.write.Tie as tie
+use Rattle.moves.proofs.list.write.Reads as reads
+use Rattle.moves.proofs.list.write.Lts as lts
+
+abbrev Inv-loop : tie.InvT-loop
+Inv-loop codes n out₀ i₀ out i = (i ≤ n) × Writing codes out₀ i out
+
+abbrev μ-loop : tie.MeasureT-loop
+μ-loop codes n out₀ i₀ out i = n - i
+
+-- src/list.rt:130:5
+loop-holds : tie.Need-loop-holds Inv-loop μ-loop
+loop-holds c = (omega arith, writing-none _ _)
+
+-- src/list.rt:131:18
+mul-out : tie.Need-mul-out Inv-loop μ-loop
+mul-out c = search needs
+
+-- src/list.rt:131:18
+element-copy-out-out : tie.Need-element-copy-out-out Inv-loop μ-loop
+element-copy-out-out c = search needs
+
+-- src/list.rt:131:9
+mul-out-2 : tie.Need-mul-out-2 Inv-loop μ-loop
+mul-out-2 c = search needs
+
+-- src/list.rt:131:9
+slice-write-out : tie.Need-slice-write-out Inv-loop μ-loop
+slice-write-out c =
+    let w = c .before .before .loop .inv .1 .long in
+    omega arith
+
+-- src/list.rt:132:9
+add-i : tie.Need-add-i Inv-loop μ-loop
+add-i c = search needs
+
+-- src/list.rt:130:5
+loop-less : tie.Need-loop-less Inv-loop μ-loop
+loop-less c = search needs
+
+-- src/list.rt:130:5
+loop-again : tie.Need-loop-again Inv-loop μ-loop
+loop-again c =
+    let p = c .before .before .before .pre in
+    let l = c .before .before .loop in
+    (omega arith, writing-more _ _ _ _ (l .inv .1) (omega arith) (omega arith))
+
+-- src/list.rt:125:1
+same-length : tie.Need-same-length Inv-loop μ-loop
+same-length c = c .before .loop .inv .1 .long
+
+-- src/list.rt:125:1
+returns : tie.Need-returns Inv-loop μ-loop
+returns c =
+    let a = c .before .before .args in
+    let l = c .before .loop in
+    let e : l .i ≡ a .n = omega arith in
+    l .inv .1 .so-far ∙ ap (λ (k : ℕ). take k (now (a .codes)) ++ drop k (now (a .out))) e
+
+pub write-spec : {M : Type 1} → statement M
+write-spec =
+    tie.close
+    (tie.spec
+    Inv-loop
+    μ-loop
+    loop-holds
+    mul-out
+    element-copy-out-out
+    mul-out-2
+    slice-write-out
+    add-i
+    loop-less
+    loop-again
+    same-length
+    returns)

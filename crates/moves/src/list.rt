@@ -1,0 +1,171 @@
+// The list: "The list of enabled choices goes as two-byte numbers, rising, each once."
+ghost use mathlib.Core.Path.{_≡_};
+ghost use mathlib.Core.List.{_++_};
+ghost use Prim.Native.Nat.{ℕ, _+_, _≤_, _<_};
+ghost use lib.ListN.{length, take, drop};
+ghost use Rattle.paper.specs.Transitions.{select, act, revise};
+ghost use Rattle.paper.specs.Next.{enabled};
+ghost use Rattle.house.specs.Order.{enabledCodes};
+ghost use Rattle.meaning.specs.declared.Answer.the-variants.{Done};
+ghost use Rattle.meaning.specs.Card.{layout, agentFor};
+ghost use Rattle.meaning.specs.Refusals.{cardAnswer};
+ghost use Rattle.meaning.specs.Calls.{lists, listLeaves};
+ghost use Rattle.card.specs.GoodCard.{GoodCard};
+ghost use Rattle.moves.specs.Truth.{Judged};
+ghost use Rattle.moves.specs.Minds.{mentalOf, Held};
+ghost use Rattle.moves.specs.Listed.{listed};
+use crate::configuration::configuration_good;
+use crate::configuration::mind_of;
+use crate::enabled::can_act;
+use crate::enabled::can_revise;
+use crate::enabled::can_select;
+use crate::mind::Mind;
+use crate::truth::judge;
+use meaning::Answer;
+use meaning::Configuration;
+use meaning::Layout;
+use meaning::Refusal;
+use meaning::Written;
+
+// The enabled selection rules, from a place in the codes on; answers where the next may go.
+fn gather_selections(
+    card: &[u8],
+    l: Layout,
+    m: Mind,
+    plan: &[u8; 1024],
+    marks: &[bool; 256],
+    codes: &mut [u16; 768],
+    at: usize,
+) -> usize
+    requires { ⌜ GoodCard l (now card) × Held m (now plan) × Judged l (now card) (m .beliefs) (m .goals) (now marks) × (length (now codes) ≡ 768) × (at ≤ 512) ⌝ }
+    ensures { λ r. ⌜ (take r (now (codes .exit)) ≡ take at (now (codes .entry)) ++ listed (enabled (agentFor l (now (card .entry))) (mentalOf m (now (plan .entry)))) select (l .selections .count)) × (r ≤ at + 256) × (length (now (codes .exit)) ≡ 768) ⌝ }
+{
+    let section = l.selections;
+    let n = section.count;
+    let mut j: usize = at;
+    let mut i: usize = 0;
+    while i < n {
+        if can_select(card, l, m, plan, marks, i) {
+            codes[j] = i as u16;
+            j += 1;
+        }
+        i += 1;
+    }
+    j
+}
+
+// The enabled specifications.
+fn gather_actions(
+    card: &[u8],
+    l: Layout,
+    m: Mind,
+    plan: &[u8; 1024],
+    marks: &[bool; 256],
+    codes: &mut [u16; 768],
+    at: usize,
+) -> usize
+    requires { ⌜ GoodCard l (now card) × Held m (now plan) × Judged l (now card) (m .beliefs) (m .goals) (now marks) × (length (now codes) ≡ 768) × (at ≤ 512) ⌝ }
+    ensures { λ r. ⌜ (take r (now (codes .exit)) ≡ take at (now (codes .entry)) ++ listed (enabled (agentFor l (now (card .entry))) (mentalOf m (now (plan .entry)))) act (l .specifications .count)) × (r ≤ at + 256) × (length (now (codes .exit)) ≡ 768) ⌝ }
+{
+    let section = l.specifications;
+    let n = section.count;
+    let mut j: usize = at;
+    let mut i: usize = 0;
+    while i < n {
+        if can_act(card, l, m, plan, marks, i) {
+            codes[j] = 256 + i as u16;
+            j += 1;
+        }
+        i += 1;
+    }
+    j
+}
+
+// The enabled revision rules.
+fn gather_revisions(
+    card: &[u8],
+    l: Layout,
+    m: Mind,
+    plan: &[u8; 1024],
+    marks: &[bool; 256],
+    codes: &mut [u16; 768],
+    at: usize,
+) -> usize
+    requires { ⌜ GoodCard l (now card) × Held m (now plan) × Judged l (now card) (m .beliefs) (m .goals) (now marks) × (length (now codes) ≡ 768) × (at ≤ 512) ⌝ }
+    ensures { λ r. ⌜ (take r (now (codes .exit)) ≡ take at (now (codes .entry)) ++ listed (enabled (agentFor l (now (card .entry))) (mentalOf m (now (plan .entry)))) revise (l .revisions .count)) × (r ≤ at + 256) × (length (now (codes .exit)) ≡ 768) ⌝ }
+{
+    let section = l.revisions;
+    let n = section.count;
+    let mut j: usize = at;
+    let mut i: usize = 0;
+    while i < n {
+        if can_revise(card, l, m, plan, marks, i) {
+            codes[j] = 512 + i as u16;
+            j += 1;
+        }
+        i += 1;
+    }
+    j
+}
+
+// The three kinds, one after another.
+fn gather(card: &[u8], l: Layout, m: Mind, plan: &[u8; 1024], codes: &mut [u16; 768]) -> usize
+    requires { ⌜ GoodCard l (now card) × Held m (now plan) × (length (now codes) ≡ 768) ⌝ }
+    ensures { λ r. ⌜ (take r (now (codes .exit)) ≡ enabledCodes (agentFor l (now (card .entry))) (mentalOf m (now (plan .entry)))) × (r ≤ 768) × (length (now (codes .exit)) ≡ 768) ⌝ }
+{
+    let b = m.beliefs;
+    let g = m.goals;
+    let marks = judge(card, l, b, g);
+    let first = gather_selections(card, l, m, plan, &marks, codes, 0);
+    let second = gather_actions(card, l, m, plan, &marks, codes, first);
+    gather_revisions(card, l, m, plan, &marks, codes, second)
+}
+
+// The first n codes over the first n entries of a lent list.
+fn write(codes: &[u16; 768], n: usize, out: &mut [u16])
+    requires { ⌜ (length (now codes) ≡ 768) × (n ≤ 768) × (n ≤ length (now out)) ⌝ }
+    ensures { λ r. ⌜ now (out .exit) ≡ take n (now (codes .entry)) ++ drop n (now (out .entry)) ⌝ }
+{
+    let mut i: usize = 0;
+    while i < n {
+        out[i] = codes[i];
+        i += 1;
+    }
+}
+
+// No code.
+fn no_codes() -> [u16; 768]
+    ensures { λ r. ⌜ length r ≡ 768 ⌝ }
+{
+    [0u16; 768]
+}
+
+// All enabled choices into a lent list: how many; 12 if the room is too short, and nothing is written.
+pub fn list(card: &[u8], l: Layout, c: Configuration, out: &mut [u16]) -> Written
+    requires { ⌜ (cardAnswer (now card) ≡ Done) × (l ≡ layout (now card)) ⌝ }
+    ensures { λ r. ⌜ (r ≡ lists (now (card .entry)) c (now (out .entry))) × (now (out .exit) ≡ listLeaves (now (card .entry)) c (now (out .entry))) ⌝ }
+{
+    if !configuration_good(l, c) {
+        return Written {
+            answer: Answer::Refused(Refusal::Configuration),
+            count: 0,
+            configuration: c,
+        };
+    }
+    let m = mind_of(c);
+    let mut codes = no_codes();
+    let n = gather(card, l, m, &c.plan, &mut codes);
+    if out.len() < n {
+        return Written {
+            answer: Answer::Refused(Refusal::NoRoom),
+            count: 0,
+            configuration: c,
+        };
+    }
+    write(&codes, n, out);
+    Written {
+        answer: Answer::Done,
+        count: n as u16,
+        configuration: c,
+    }
+}
