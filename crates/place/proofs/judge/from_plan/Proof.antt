@@ -1,0 +1,66 @@
+use Rattle.meaning.specs.Refusals.{placeTable}
+use Rattle.place.specs.PlaceRows.{rowsFrom}
+use Rattle.card.proofs.Stair.{stops, goes-on}
+use mathlib.Core.Bool.{not}
+use mathlib.Core.Path.{_≡_, refl, sym, ap, _∙_}
+use mathlib.Core.List.{List, [], _∷_, _++_, append-nil, append-assoc}
+use Prim.Native.Nat.{ℕ, suc, _+_, _-_, _*_, _≤_, _<_}
+use native.Mathlib.Omega.{arith}
+use borrow.Author.Needs.{needs}
+use denote.Ref.{now}
+use lib.ListN.{length, getD, set, take, drop, replicate}
+use Rattle.place.proofs.judge.from_plan.Statement.{statement}
+use Rattle.place.proofs.judge.from_plan.Tie as tie
+use Rattle.place.proofs.judge.from_plan.Reads as reads
+use Rattle.place.proofs.judge.from_plan.Lts as lts
+use Rattle.place.proofs.judge.from_sets.Reads as from-sets-reads
+use Rattle.place.proofs.judge.plan_good.Reads as plan-good-reads
+use Rattle.place.proofs.rows.row.Reads as row-reads
+
+-- src/judge.rt:57:17
+plan-good-requires : tie.Need-plan-good-requires
+plan-good-requires c κs = search needs
+
+-- src/judge.rt:57:9
+row-requires : tie.Need-row-requires
+row-requires c κs = search needs
+
+enum-told : tie.Need-enum-told
+enum-told c = search needs
+
+-- src/judge.rt:59:9
+enum-told-2 : tie.Need-enum-told-2
+enum-told-2 c = search needs
+
+-- src/judge.rt:59:9
+returns : tie.Need-returns
+unfolding rowsFrom placeTable
+returns c =
+    let b = now (c .before .before .before .before .before .args .p) in
+    let good = c .before .before .before .plan-good in
+    stops _ _ b (good .result) (ap not (sym (good .ensures))) (c .before .before .row .result) (c .before .before .row .ensures) _ (c .enum-told2 .given .1)
+
+-- src/judge.rt:61:5
+from-sets-requires : tie.Need-from-sets-requires
+from-sets-requires c κs = search needs
+
+-- src/judge.rt:53:1
+returns-2 : tie.Need-returns-2
+unfolding rowsFrom placeTable
+returns-2 c =
+    let b = now (c .before .before .before .before .before .before .args .p) in
+    let good = c .before .before .before .before .plan-good in
+    let told = c .before .before .before .row in
+    c .from-sets .ensures ∙ sym (goes-on _ _ b (good .result) (ap not (sym (good .ensures))) (told .result) (told .ensures) (c .before .enum-told .given .1))
+
+pub from-plan-spec : {M : Type 1} → statement M
+from-plan-spec =
+    tie.close
+    (tie.spec
+    plan-good-requires
+    row-requires
+    enum-told
+    enum-told-2
+    returns
+    from-sets-requires
+    returns-2)

@@ -1,0 +1,35 @@
+use Rattle.meaning.specs.Refusals.{placeTable}
+use Rattle.place.specs.PlaceRows.{rowsFrom}
+use Rattle.card.proofs.Stair.{last-row, no-row}
+use mathlib.Core.Bool.{not}
+use mathlib.Core.Path.{_≡_, refl, sym, ap, _∙_}
+use mathlib.Core.List.{List, [], _∷_, _++_, append-nil, append-assoc}
+use Prim.Native.Nat.{ℕ, suc, _+_, _-_, _*_, _≤_, _<_}
+use native.Mathlib.Omega.{arith}
+use borrow.Author.Needs.{needs}
+use denote.Ref.{now}
+use lib.ListN.{length, getD, set, take, drop, replicate}
+use Rattle.place.proofs.judge.from_sets.Statement.{statement}
+use Rattle.place.proofs.judge.from_sets.Tie as tie
+use Rattle.place.proofs.judge.from_sets.Reads as reads
+use Rattle.place.proofs.judge.from_sets.Lts as lts
+use Rattle.place.proofs.judge.sets_good.Reads as sets-good-reads
+use Rattle.place.proofs.rows.row.Reads as row-reads
+
+-- src/judge.rt:42:9
+sets-good-requires : tie.Need-sets-good-requires
+sets-good-requires c κs = search needs
+
+-- src/judge.rt:42:5
+row-requires : tie.Need-row-requires
+row-requires c κs = search needs
+
+-- src/judge.rt:38:1
+returns : tie.Need-returns
+unfolding rowsFrom placeTable
+returns c =
+    let b = now (c .before .before .before .args .p) in
+    last-row _ _ b (c .before .sets-good .result) (ap not (sym (c .before .sets-good .ensures))) (c .row .result) (c .row .ensures) (no-row b)
+
+pub from-sets-spec : {M : Type 1} → statement M
+from-sets-spec = tie.close (tie.spec sets-good-requires row-requires returns)

@@ -1,0 +1,53 @@
+use borrow.Author.Tests.{leb-true}
+use lib.Dec.{leb}
+use Rattle.meaning.specs.Refusals.{placeTable}
+use Rattle.place.specs.PlaceRows.{rowsFrom}
+use Rattle.card.proofs.Stair.{stops, goes-on, ltb-not, row-done}
+use mathlib.Core.Path.{_≡_, refl, sym, ap, _∙_}
+use mathlib.Core.List.{List, [], _∷_, _++_, append-nil, append-assoc}
+use Prim.Native.Nat.{ℕ, suc, _+_, _-_, _*_, _≤_, _<_}
+use native.Mathlib.Omega.{arith}
+use borrow.Author.Needs.{needs}
+use denote.Ref.{now}
+use lib.ListN.{length, getD, set, take, drop, replicate}
+use Rattle.place.proofs.judge.judge_place.Statement.{statement}
+use Rattle.place.proofs.judge.judge_place.Tie as tie
+use Rattle.place.proofs.judge.judge_place.Reads as reads
+use Rattle.place.proofs.judge.judge_place.Lts as lts
+use Rattle.place.proofs.judge.from_mark.Reads as from-mark-reads
+use Rattle.place.proofs.rows.row.Reads as row-reads
+
+-- src/judge.rt:132:9
+row-requires : tie.Need-row-requires
+row-requires c κs = search needs
+
+enum-told : tie.Need-enum-told
+enum-told c = search needs
+
+-- src/judge.rt:134:9
+enum-told-2 : tie.Need-enum-told-2
+enum-told-2 c = search needs
+
+-- src/judge.rt:134:9
+returns : tie.Need-returns
+unfolding placeTable
+returns c =
+    let b = now (c .before .before .before .before .args .p) in
+    stops _ _ b (leb 44 (length b)) (ltb-not (length b) 44) (c .before .before .row .result) (c .before .before .row .ensures) _ (c .enum-told2 .given .1)
+
+-- src/judge.rt:136:5
+from-mark-requires : tie.Need-from-mark-requires
+from-mark-requires c κs =
+    (leb-true 44 _ (row-done _ _ (sym (c .before .before .row .ensures) ∙ c .enum-told .given .1)), c .before .before .before .before .pre)
+
+-- src/judge.rt:128:1
+returns-2 : tie.Need-returns-2
+unfolding rowsFrom placeTable
+returns-2 c =
+    let b = now (c .before .before .before .before .before .args .p) in
+    let told = c .before .before .before .row in
+    c .from-mark .ensures ∙ sym (goes-on _ _ b (leb 44 (length b)) (ltb-not (length b) 44) (told .result) (told .ensures) (c .before .enum-told .given .1))
+
+pub judge-place-spec : {M : Type 1} → statement M
+judge-place-spec =
+    tie.close (tie.spec row-requires enum-told enum-told-2 returns from-mark-requires returns-2)
