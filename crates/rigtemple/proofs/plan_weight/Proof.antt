@@ -1,0 +1,71 @@
+use mathlib.Core.Logic.{⊎-elim}
+use mathlib.Core.Path.{_≡_, refl, sym, ap, _∙_}
+use mathlib.Core.List.{List, [], _∷_, _++_, append-nil, append-assoc}
+use Prim.Native.Nat.{ℕ, suc, _+_, _-_, _*_, _≤_, _<_}
+use native.Mathlib.Omega.{arith}
+use borrow.Author.Needs.{needs}
+use denote.Ref.{now}
+use lib.ListN.{length, getD, set, take, drop, replicate}
+use Rattle.rigtemple.proofs.plan_weight.Statement.{statement}
+use Rattle.rigtemple.proofs.plan_weight.Tie as tie
+use Rattle.rigtemple.proofs.plan_weight.Reads as reads
+use Rattle.rigtemple.proofs.plan_weight.Lts as lts
+use Rattle.rigtemple.proofs.weight.Reads as weight-reads
+
+abbrev Inv-loop : tie.InvT-loop
+Inv-loop card plan n total₀ i₀ total i = (i ≤ 1024) × (total ≤ 65535 * i)
+
+abbrev μ-loop : tie.MeasureT-loop
+μ-loop card plan n total₀ i₀ total i = 1024 - i
+
+-- src/main.rt:79:5
+loop-holds : tie.Need-loop-holds Inv-loop μ-loop
+loop-holds c = search needs
+
+-- src/main.rt:81:35
+element-copy-out-weight : tie.Need-element-copy-out-weight Inv-loop μ-loop
+element-copy-out-weight c = search needs
+
+-- src/main.rt:81:22
+weight-requires : tie.Need-weight-requires Inv-loop μ-loop
+weight-requires c κs = search needs
+
+-- src/main.rt:81:13
+add-total : tie.Need-add-total Inv-loop μ-loop
+add-total c = search needs
+
+-- src/main.rt:83:9
+add-i : tie.Need-add-i Inv-loop μ-loop
+add-i c = search needs
+
+-- src/main.rt:79:5
+loop-less : tie.Need-loop-less Inv-loop μ-loop
+loop-less c = search needs
+
+-- src/main.rt:79:5
+loop-again : tie.Need-loop-again Inv-loop μ-loop
+loop-again c =
+    let l = c .before .before .loop in
+    ⊎-elim
+    (λ w. let e = w .1 in (omega arith, omega arith))
+    (λ w. let e = w .1 in (omega arith, omega arith))
+    (c .if1 .came)
+
+-- src/main.rt:76:1
+returns : tie.Need-returns Inv-loop μ-loop
+returns c = search needs
+
+pub plan-weight-spec : {M : Type 1} → statement M
+plan-weight-spec =
+    tie.close
+    (tie.spec
+    Inv-loop
+    μ-loop
+    loop-holds
+    element-copy-out-weight
+    weight-requires
+    add-total
+    add-i
+    loop-less
+    loop-again
+    returns)
