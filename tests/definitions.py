@@ -255,6 +255,7 @@ def arguments():
     parser.add_argument("--cards", type=int, default=500)
     parser.add_argument("--largest", type=int, default=700, help="bytes of the largest card")
     parser.add_argument("--requests", type=int, default=8, help="the most requests of a card")
+    parser.add_argument("--spoil", action="store_true", help="change a byte of one answer, which must then be refused")
     parser.add_argument("--keep", help="a folder for the temporary crates, kept afterwards")
     return parser.parse_args()
 
@@ -307,10 +308,19 @@ def hold(root, chunks):
     return refused, output[-3000:] if status != 0 and not refused else ""
 
 
+def spoil(gathered):
+    """Changes the first byte of the last answer."""
+    answered = gathered[-1][1]
+    request, answer = answered[-1]
+    answered[-1] = (request, bytes([answer[0] ^ 1]) + answer[1:])
+
+
 def main():
     options = arguments()
     gathered, met = gather(options)
     print(table(met), flush=True)
+    if options.spoil:
+        spoil(gathered)
     root = options.keep or tempfile.mkdtemp(prefix="definitions-")
     prepare(root)
     chunks = [gathered[i : i + PER_CRATE] for i in range(0, len(gathered), PER_CRATE)]
