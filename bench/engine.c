@@ -1,0 +1,794 @@
+/*
+ * The engine: document 01's eight calls in plain C.
+ *
+ * A card is checked once a call; after that nothing is tested that its acceptance settles. All
+ * conditions are judged in one pass over the nodes, one mark a node, and again only when beliefs
+ * or goals have changed. In a run the plan stands at the end of its 1,024 bytes, so that its front
+ * moves and its rest never does.
+ */
+#include "../tests/libc.h"
+
+#include "engine.h"
+
+/* "Numbers the guide may answer." */
+enum {
+    DONE,
+    SHORT,
+    MARK,
+    COUNT,
+    OFFSETS,
+    WEIGHT,
+    NODE,
+    RULE,
+    ACTION_BYTE,
+    ATOM,
+    NOT_ENABLED,
+    PLAN_FULL,
+    NO_ROOM,
+    CONFIGURATION
+};
+
+enum { SELECT, ACT, REVISE };                                  /* the kinds, in the phases' order */
+enum { TRUE, BELIEVES, HAS_GOAL, NOT, AND, OR };               /* the kinds of nodes */
+enum { SPENT, REST, FULL };                                    /* the endings of a run */
+enum { BOUNDED, OPEN };                                        /* the verdicts */
+enum { NONE, INITIAL_PLAN, SELECTION_RULE, REVISION_RULE };    /* the offenders */
+enum { NODE_BYTES = 4, SPECIFICATION_BYTES = 36, SELECTION_BYTES = 8, REVISION_BYTES = 12 };
+enum { SET_BYTES = 16, HEADER_BYTES = 64, PLACE_BYTES = 44 };
+enum { MOST_ENTRIES = 256, LONGEST_PLAN = 1024, LARGEST_POOL = 8192, MOST_CHOICES = 768 };
+enum { NO_RULE = -1 };
+
+/* What a condition is made of; a number past the last node is UNKNOWN. */
+enum { BELIEF_ATOM = 1, GOAL_ATOM = 2, UNKNOWN = 4 };
+
+/* A set of atoms as two words. */
+struct set {
+    uint64_t low, high;
+};
+
+/* A card, taken apart: how many of each, and where each section begins. */
+struct card {
+    const uint8_t *bytes;
+    unsigned atoms, actions, nodes, specifications, selections, revisions, pool_bytes;
+    const uint8_t *weight, *node, *specification, *selection, *revision, *pool;
+    struct set known; /* the atoms that the card has */
+};
+
+/* A configuration's parts, where the caller keeps them. */
+struct parts {
+    uint8_t *beliefs, *goals, *plan;
+    uint16_t *length;
+    uint8_t *phase;
+};
+
+/* ---- bytes ---- */
+
+/* "Numbers are two bytes, low byte first." */
+static inline unsigned number(const uint8_t *at)
+{
+    return at[0] | (unsigned)at[1] << 8;
+}
+
+static inline void put_number(uint8_t *at, unsigned value)
+{
+    at[0] = (uint8_t)value;
+    at[1] = (uint8_t)(value >> 8);
+}
+
+static inline struct set read_set(const uint8_t *at)
+{
+    struct set s;
+    memcpy(&s.low, at, 8);
+    memcpy(&s.high, at + 8, 8);
+    return s;
+}
+
+static inline void put_set(uint8_t *at, struct set s)
+{
+    memcpy(at, &s.low, 8);
+    memcpy(at + 8, &s.high, 8);
+}
+
+/* "Atom k is bit (k modulo 8) of byte (k divided by 8)." */
+static inline uint8_t has_atom(const uint8_t *set, unsigned atom)
+{
+    return set[atom >> 3] >> (atom & 7) & 1;
+}
+
+/* Whether all atoms of a set are known to the card. */
+static inline int known_set(const struct card *c, struct set s)
+{
+    return ((s.low & ~c->known.low) | (s.high & ~c->known.high)) == 0;
+}
+
+/* Whether each byte is the number of an action: the greatest is. */
+static int known_actions(const struct card *c, const uint8_t *bytes, unsigned count)
+{
+    uint8_t greatest = 0;
+    for (unsigned i = 0; i < count; i++)
+        greatest = bytes[i] > greatest ? bytes[i] : greatest;
+    return greatest < c->actions;
+}
+
+static int all_zero(const uint8_t *bytes, unsigned count)
+{
+    uint8_t bits = 0;
+    for (unsigned i = 0; i < count; i++)
+        bits |= bytes[i];
+    return bits == 0;
+}
+
+/* ---- the card's check ---- */
+
+/* The set of the atoms 0 to atoms - 1. */
+static struct set first_atoms(unsigned atoms)
+{
+    uint8_t bytes[SET_BYTES];
+    for (unsigned i = 0; i < SET_BYTES; i++) {
+        unsigned left = atoms > 8 * i ? atoms - 8 * i : 0;
+        bytes[i] = left >= 8 ? 0xFF : (uint8_t)((1u << left) - 1);
+    }
+    return read_set(bytes);
+}
+
+/* Reads the counts of the header; whether each is in its range (row 3). */
+static int read_counts(struct card *c)
+{
+    const uint8_t *header = c->bytes;
+    c->atoms = number(header + 4);
+    c->actions = number(header + 6);
+    c->nodes = number(header + 8);
+    c->specifications = number(header + 12);
+    c->selections = number(header + 16);
+    c->revisions = number(header + 20);
+    c->pool_bytes = number(header + 24);
+    return c->atoms - 1 < 128 && c->actions - 1 < MOST_ENTRIES && c->nodes - 1 < MOST_ENTRIES &&
+           c->specifications <= MOST_ENTRIES && c->selections <= MOST_ENTRIES &&
+           c->revisions <= MOST_ENTRIES && c->pool_bytes <= LARGEST_POOL;
+}
+
+/* "The sections follow the weights in the header's order with no gap; the card ends with the
+ * pool" (row 4). */
+static int read_offsets(struct card *c, size_t card_len)
+{
+    const uint8_t *header = c->bytes;
+    unsigned node = HEADER_BYTES + 2 * c->actions;
+    unsigned specification = node + NODE_BYTES * c->nodes;
+    unsigned selection = specification + SPECIFICATION_BYTES * c->specifications;
+    unsigned revision = selection + SELECTION_BYTES * c->selections;
+    unsigned pool = revision + REVISION_BYTES * c->revisions;
+    if (number(header + 10) != node || number(header + 14) != specification ||
+        number(header + 18) != selection || number(header + 22) != revision ||
+        number(header + 26) != pool || card_len != pool + c->pool_bytes)
+        return 0;
+    c->weight = header + HEADER_BYTES;
+    c->node = header + node;
+    c->specification = header + specification;
+    c->selection = header + selection;
+    c->revision = header + revision;
+    c->pool = header + pool;
+    c->known = first_atoms(c->atoms);
+    return 1;
+}
+
+/* "Each action weighs 1 to 1,024" (row 5). */
+static int good_weights(const struct card *c)
+{
+    uint16_t bad = 0;
+    for (unsigned i = 0; i < c->actions; i++)
+        bad |= (uint16_t)(number(c->weight + 2 * i) - 1) > 1023;
+    return bad == 0;
+}
+
+/* Whether every node keeps its rule (row 6); `form` tells what each is made of. */
+static int good_nodes(const struct card *c, uint8_t form[MOST_ENTRIES])
+{
+    unsigned bad = 0;
+    memset(form, UNKNOWN, MOST_ENTRIES);
+    for (unsigned k = 0; k < c->nodes; k++) {
+        const uint8_t *node = c->node + NODE_BYTES * k;
+        unsigned kind = node[0], a = node[1], b = node[2];
+        bad |= node[3];
+        switch (kind) {
+        case TRUE:
+            bad |= a | b;
+            form[k] = 0;
+            break;
+        case BELIEVES:
+        case HAS_GOAL:
+            bad |= b | (a >= c->atoms);
+            form[k] = (uint8_t)kind;
+            break;
+        case NOT:
+            bad |= b | (a >= k);
+            form[k] = form[a];
+            break;
+        case AND:
+        case OR:
+            bad |= (a >= k) | (b >= k);
+            form[k] = form[a] | form[b];
+            break;
+        default:
+            return 0;
+        }
+    }
+    return bad == 0;
+}
+
+/* Whether a plan of the pool breaks its rule: outside the pool, or a length out of range. */
+static inline unsigned bad_plan(const struct card *c, unsigned start, unsigned length,
+                                unsigned least)
+{
+    return (start + length > c->pool_bytes) | (length - least > LONGEST_PLAN - least);
+}
+
+/* Whether a specification breaks its rule (row 7); the union of all sets goes to `sets`. */
+static unsigned bad_specifications(const struct card *c, const uint8_t *form, struct set *sets)
+{
+    unsigned bad = 0;
+    struct set all = *sets;
+    for (unsigned i = 0; i < c->specifications; i++) {
+        const uint8_t *entry = c->specification + SPECIFICATION_BYTES * i;
+        struct set add = read_set(entry + 4), del = read_set(entry + 20);
+        bad |= (entry[0] >= c->actions) | (form[entry[1]] & (GOAL_ATOM | UNKNOWN));
+        bad |= entry[2] | entry[3];
+        all.low |= add.low | del.low;
+        all.high |= add.high | del.high;
+    }
+    *sets = all;
+    return bad;
+}
+
+static unsigned bad_selections(const struct card *c, const uint8_t *form)
+{
+    unsigned bad = 0;
+    for (unsigned i = 0; i < c->selections; i++) {
+        const uint8_t *rule = c->selection + SELECTION_BYTES * i;
+        bad |= form[rule[0]] & (GOAL_ATOM | UNKNOWN);
+        bad |= form[rule[1]] & (BELIEF_ATOM | UNKNOWN);
+        bad |= bad_plan(c, number(rule + 2), number(rule + 4), 1) | number(rule + 6);
+    }
+    return bad;
+}
+
+static unsigned bad_revisions(const struct card *c, const uint8_t *form)
+{
+    unsigned bad = 0;
+    for (unsigned i = 0; i < c->revisions; i++) {
+        const uint8_t *rule = c->revision + REVISION_BYTES * i;
+        bad |= form[rule[0]] & (GOAL_ATOM | UNKNOWN);
+        bad |= rule[1] | number(rule + 10);
+        bad |= bad_plan(c, number(rule + 2), number(rule + 4), 1);
+        bad |= bad_plan(c, number(rule + 6), number(rule + 8), 0);
+    }
+    return bad;
+}
+
+/* The card's check, rows 1 to 9 in the table's order; if done, `c` is the card taken apart. */
+static uint16_t check(const uint8_t *card, size_t card_len, struct card *c)
+{
+    uint8_t form[MOST_ENTRIES];
+    if (card_len < HEADER_BYTES)
+        return SHORT;
+    if (card[0] != 0x33 || card[1] != 0x41 || number(card + 2) != 1)
+        return MARK;
+    c->bytes = card;
+    if (!read_counts(c))
+        return COUNT;
+    if (!read_offsets(c, card_len))
+        return OFFSETS;
+    if (!good_weights(c))
+        return WEIGHT;
+    if (!good_nodes(c, form))
+        return NODE;
+    struct set sets = read_set(card + 32), goals = read_set(card + 48);
+    sets.low |= goals.low;
+    sets.high |= goals.high;
+    if (bad_specifications(c, form, &sets) | bad_selections(c, form) | bad_revisions(c, form) |
+        bad_plan(c, number(card + 28), number(card + 30), 0))
+        return RULE;
+    if (!known_actions(c, c->pool, c->pool_bytes))
+        return ACTION_BYTE;
+    return known_set(c, sets) ? DONE : ATOM;
+}
+
+uint16_t engine_check(const uint8_t *card, size_t card_len)
+{
+    struct card c;
+    return check(card, card_len, &c);
+}
+
+/* Row 13: whether the configuration belongs to the card. */
+static int known_configuration(const struct card *c, const uint8_t *beliefs, const uint8_t *goals,
+                               const uint8_t *plan, unsigned length, unsigned phase)
+{
+    return length <= LONGEST_PLAN && phase <= 2 && known_set(c, read_set(beliefs)) &&
+           known_set(c, read_set(goals)) && known_actions(c, plan, length) &&
+           all_zero(plan + length, LONGEST_PLAN - length);
+}
+
+/* ---- load and grade ---- */
+
+/* The empty configuration: no atoms, empty plan, phase 0. */
+static void empty(struct parts d)
+{
+    memset(d.beliefs, 0, SET_BYTES);
+    memset(d.goals, 0, SET_BYTES);
+    memset(d.plan, 0, LONGEST_PLAN);
+    *d.length = 0;
+    *d.phase = 0;
+}
+
+/* Writes a configuration. */
+static void fill(struct parts d, const uint8_t *beliefs, const uint8_t *goals, const uint8_t *plan,
+                 unsigned length, unsigned phase)
+{
+    memcpy(d.beliefs, beliefs, SET_BYTES);
+    memcpy(d.goals, goals, SET_BYTES);
+    memcpy(d.plan, plan, length);
+    memset(d.plan + length, 0, LONGEST_PLAN - length);
+    *d.length = (uint16_t)length;
+    *d.phase = (uint8_t)phase;
+}
+
+uint16_t engine_load(const uint8_t *card, size_t card_len, uint8_t *beliefs, uint8_t *goals,
+                     uint8_t *plan, uint16_t *length, uint8_t *phase)
+{
+    struct card c;
+    struct parts d = {beliefs, goals, plan, length, phase};
+    uint16_t answer = check(card, card_len, &c);
+    if (answer != DONE)
+        empty(d);
+    else
+        fill(d, card + 32, card + 48, c.pool + number(card + 28), number(card + 30), 0);
+    return answer;
+}
+
+/* The pool's weights summed up at every GAP-th byte, so that a plan's weight is a difference of
+ * two sums and of at most 2 * GAP - 2 weights more. */
+enum { GAP = 8 };
+
+struct sums {
+    const struct card *card;
+    uint32_t before[LARGEST_POOL / GAP + 1]; /* before[i]: the weight of the first i * GAP bytes */
+};
+
+static inline uint32_t weigh_bytes(const struct card *c, unsigned from, unsigned to)
+{
+    uint32_t sum = 0;
+    for (unsigned i = from; i < to; i++)
+        sum += number(c->weight + 2 * c->pool[i]);
+    return sum;
+}
+
+static void sum_up(struct sums *s, const struct card *c)
+{
+    s->card = c;
+    s->before[0] = 0;
+    for (unsigned i = 0; i < c->pool_bytes / GAP; i++)
+        s->before[i + 1] = s->before[i] + weigh_bytes(c, i * GAP, (i + 1) * GAP);
+}
+
+/* The weight of a plan in the pool: "the sum of its actions, each occurrence counted". */
+static uint32_t weigh(const struct sums *s, unsigned start, unsigned length)
+{
+    unsigned end = start + length, first = start / GAP, last = end / GAP;
+    return s->before[last] + weigh_bytes(s->card, last * GAP, end) - s->before[first] -
+           weigh_bytes(s->card, first * GAP, start);
+}
+
+/* The first offender: the initial plan, then selection rule n, then revision rule n. */
+static unsigned first_offender(const struct sums *s, unsigned *n)
+{
+    const struct card *c = s->card;
+    *n = 0;
+    if (weigh(s, number(c->bytes + 28), number(c->bytes + 30)) > 1024)
+        return INITIAL_PLAN;
+    for (*n = 0; *n < c->selections; ++*n) {
+        const uint8_t *rule = c->selection + SELECTION_BYTES * *n;
+        if (weigh(s, number(rule + 2), number(rule + 4)) > 1024)
+            return SELECTION_RULE;
+    }
+    for (*n = 0; *n < c->revisions; ++*n) {
+        const uint8_t *rule = c->revision + REVISION_BYTES * *n;
+        if (weigh(s, number(rule + 6), number(rule + 8)) >=
+            weigh(s, number(rule + 2), number(rule + 4)))
+            return REVISION_RULE;
+    }
+    *n = 0;
+    return NONE;
+}
+
+uint16_t engine_grade(const uint8_t *card, size_t card_len, uint8_t *verdict, uint8_t *offender,
+                      uint16_t *number_of_it)
+{
+    struct card c;
+    struct sums s;
+    unsigned found = INITIAL_PLAN, n = 0;
+    uint16_t answer = check(card, card_len, &c);
+    if (answer == DONE) {
+        sum_up(&s, &c);
+        found = first_offender(&s, &n);
+    }
+    *verdict = found == NONE ? BOUNDED : OPEN;
+    *offender = (uint8_t)found;
+    *number_of_it = (uint16_t)n;
+    return answer;
+}
+
+/* ---- conditions and enabled rules ---- */
+
+/* Judges the first `count` nodes, each after its children: one mark a node. */
+static void judge(const struct card *c, unsigned count, const uint8_t *beliefs,
+                  const uint8_t *goals, uint8_t mark[MOST_ENTRIES])
+{
+    for (unsigned k = 0; k < count; k++) {
+        const uint8_t *node = c->node + NODE_BYTES * k;
+        unsigned a = node[1], b = node[2];
+        switch (node[0]) {
+        case TRUE:
+            mark[k] = 1;
+            break;
+        case BELIEVES:
+            mark[k] = has_atom(beliefs, a);
+            break;
+        case HAS_GOAL:
+            mark[k] = has_atom(goals, a);
+            break;
+        case NOT:
+            mark[k] = mark[a] ^ 1;
+            break;
+        case AND:
+            mark[k] = mark[a] & mark[b];
+            break;
+        default:
+            mark[k] = mark[a] | mark[b];
+        }
+    }
+}
+
+/* "Enabled if the head is a prefix of the plan and the condition holds." */
+static inline int revision_enabled(const struct card *c, const uint8_t *mark, const uint8_t *rule,
+                                   const uint8_t *plan, unsigned length)
+{
+    const uint8_t *head = c->pool + number(rule + 2);
+    unsigned head_length = number(rule + 4);
+    return mark[rule[0]] && head_length <= length && head[0] == plan[0] &&
+           memcmp(head, plan, head_length) == 0;
+}
+
+/* The lowest enabled selection rule, of an empty plan, from `i` on. */
+static int next_selection(const struct card *c, const uint8_t *mark, unsigned i)
+{
+    for (; i < c->selections; i++) {
+        const uint8_t *rule = c->selection + SELECTION_BYTES * i;
+        if (mark[rule[0]] & mark[rule[1]])
+            return (int)i;
+    }
+    return NO_RULE;
+}
+
+/* The lowest enabled specification of an action, from `i` on. */
+static int next_specification(const struct card *c, const uint8_t *mark, unsigned action,
+                              unsigned i)
+{
+    for (; i < c->specifications; i++) {
+        const uint8_t *entry = c->specification + SPECIFICATION_BYTES * i;
+        if (entry[0] == action && mark[entry[1]])
+            return (int)i;
+    }
+    return NO_RULE;
+}
+
+/* The lowest enabled revision rule, of a plan that is not empty, from `i` on. */
+static int next_revision(const struct card *c, const uint8_t *mark, const uint8_t *plan,
+                         unsigned length, unsigned i)
+{
+    for (; i < c->revisions; i++)
+        if (revision_enabled(c, mark, c->revision + REVISION_BYTES * i, plan, length))
+            return (int)i;
+    return NO_RULE;
+}
+
+/* The lowest enabled number of a kind from `i` on, or NO_RULE. */
+static int next_of_kind(const struct card *c, const uint8_t *mark, unsigned kind,
+                        const uint8_t *plan, unsigned length, unsigned i)
+{
+    if (kind == SELECT)
+        return length == 0 ? next_selection(c, mark, i) : NO_RULE;
+    if (length == 0)
+        return NO_RULE;
+    return kind == ACT ? next_specification(c, mark, plan[0], i)
+                       : next_revision(c, mark, plan, length, i);
+}
+
+/* ---- list ---- */
+
+uint16_t engine_list(const uint8_t *card, size_t card_len, const uint8_t *beliefs,
+                     const uint8_t *goals, const uint8_t *plan, uint16_t length, uint8_t phase,
+                     uint16_t *list, size_t list_len, uint16_t *count)
+{
+    struct card c;
+    uint8_t mark[MOST_ENTRIES];
+    uint16_t found[MOST_CHOICES];
+    unsigned n = 0;
+    *count = 0;
+    uint16_t answer = check(card, card_len, &c);
+    if (answer != DONE)
+        return answer;
+    if (!known_configuration(&c, beliefs, goals, plan, length, phase))
+        return CONFIGURATION;
+    judge(&c, c.nodes, beliefs, goals, mark);
+    for (unsigned kind = SELECT; kind <= REVISE; kind++)
+        for (int i = next_of_kind(&c, mark, kind, plan, length, 0); i != NO_RULE;
+             i = next_of_kind(&c, mark, kind, plan, length, (unsigned)i + 1))
+            found[n++] = (uint16_t)(256 * kind + (unsigned)i);
+    if (n > list_len)
+        return NO_ROOM;
+    memcpy(list, found, 2 * n);
+    *count = (uint16_t)n;
+    return DONE;
+}
+
+/* ---- moves ---- */
+
+/* "Beliefs become (beliefs with Add) without Del. Goals become goals without Add." Whether either
+ * has changed. */
+static int act(const uint8_t *specification, uint8_t *beliefs, uint8_t *goals)
+{
+    struct set add = read_set(specification + 4), del = read_set(specification + 20);
+    struct set b = read_set(beliefs), g = read_set(goals);
+    struct set believed = {(b.low | add.low) & ~del.low, (b.high | add.high) & ~del.high};
+    struct set wanted = {g.low & ~add.low, g.high & ~add.high};
+    put_set(beliefs, believed);
+    put_set(goals, wanted);
+    return ((b.low ^ believed.low) | (b.high ^ believed.high) | (g.low ^ wanted.low) |
+            (g.high ^ wanted.high)) != 0;
+}
+
+/* Puts `body` in the place of the plan's first `head_length` actions; what is left of a longer
+ * plan at the end becomes zero. Whether it fits; if not, nothing changes. */
+static int replace(struct parts d, unsigned head_length, const uint8_t *body, unsigned body_length)
+{
+    unsigned old = *d.length, rest = old - head_length, new = rest + body_length;
+    if (new > LONGEST_PLAN)
+        return 0;
+    memmove(d.plan + body_length, d.plan + head_length, rest);
+    memcpy(d.plan, body, body_length);
+    if (new < old)
+        memset(d.plan + new, 0, old - new);
+    *d.length = (uint16_t)new;
+    return 1;
+}
+
+/* Takes selection rule i. */
+static uint16_t take_selection(const struct card *c, struct parts d, unsigned i)
+{
+    uint8_t mark[MOST_ENTRIES];
+    if (i >= c->selections || *d.length != 0)
+        return NOT_ENABLED;
+    const uint8_t *rule = c->selection + SELECTION_BYTES * i;
+    judge(c, 1u + (rule[0] > rule[1] ? rule[0] : rule[1]), d.beliefs, d.goals, mark);
+    if (!(mark[rule[0]] & mark[rule[1]]))
+        return NOT_ENABLED;
+    replace(d, 0, c->pool + number(rule + 2), number(rule + 4));
+    *d.phase = ACT;
+    return DONE;
+}
+
+/* Takes the first action by specification i. */
+static uint16_t take_action(const struct card *c, struct parts d, unsigned i)
+{
+    uint8_t mark[MOST_ENTRIES];
+    if (i >= c->specifications || *d.length == 0)
+        return NOT_ENABLED;
+    const uint8_t *entry = c->specification + SPECIFICATION_BYTES * i;
+    if (entry[0] != d.plan[0])
+        return NOT_ENABLED;
+    judge(c, 1u + entry[1], d.beliefs, d.goals, mark);
+    if (!mark[entry[1]])
+        return NOT_ENABLED;
+    act(entry, d.beliefs, d.goals);
+    replace(d, 1, c->pool, 0);
+    *d.phase = REVISE;
+    return DONE;
+}
+
+/* Takes revision rule i. */
+static uint16_t take_revision(const struct card *c, struct parts d, unsigned i)
+{
+    uint8_t mark[MOST_ENTRIES];
+    if (i >= c->revisions || *d.length == 0)
+        return NOT_ENABLED;
+    const uint8_t *rule = c->revision + REVISION_BYTES * i;
+    judge(c, 1u + rule[0], d.beliefs, d.goals, mark);
+    if (!revision_enabled(c, mark, rule, d.plan, *d.length))
+        return NOT_ENABLED;
+    if (!replace(d, number(rule + 4), c->pool + number(rule + 6), number(rule + 8)))
+        return PLAN_FULL;
+    *d.phase = SELECT;
+    return DONE;
+}
+
+uint16_t engine_take(const uint8_t *card, size_t card_len, uint8_t *beliefs, uint8_t *goals,
+                     uint8_t *plan, uint16_t *length, uint8_t *phase, uint16_t choice)
+{
+    struct card c;
+    struct parts d = {beliefs, goals, plan, length, phase};
+    uint16_t answer = check(card, card_len, &c);
+    if (answer != DONE)
+        return answer;
+    if (!known_configuration(&c, beliefs, goals, plan, *length, *phase))
+        return CONFIGURATION;
+    switch (choice / 256) {
+    case SELECT:
+        return take_selection(&c, d, choice % 256u);
+    case ACT:
+        return take_action(&c, d, choice % 256u);
+    case REVISE:
+        return take_revision(&c, d, choice % 256u);
+    default:
+        return NOT_ENABLED;
+    }
+}
+
+/* ---- run ---- */
+
+/* A run under way: the plan is the last `length` bytes before `end`. */
+struct walk {
+    const struct card *card;
+    uint8_t *beliefs, *goals, *end;
+    unsigned length, phase;
+    uint8_t mark[MOST_ENTRIES];
+};
+
+/* Puts a plan of the pool in the place of the first actions; whether it fits. */
+static inline int put_in_front(struct walk *w, unsigned head_length, const uint8_t *body)
+{
+    unsigned body_length = number(body + 2), length = w->length - head_length + body_length;
+    if (length > LONGEST_PLAN)
+        return 0;
+    memcpy(w->end - length, w->card->pool + number(body), body_length);
+    w->length = length;
+    return 1;
+}
+
+/* Takes the enabled move i of a kind; whether its plan fits. */
+static inline int move(struct walk *w, unsigned kind, unsigned i)
+{
+    const struct card *c = w->card;
+    if (kind == SELECT) {
+        put_in_front(w, 0, c->selection + SELECTION_BYTES * i + 2);
+    } else if (kind == ACT) {
+        w->length--;
+        if (act(c->specification + SPECIFICATION_BYTES * i, w->beliefs, w->goals))
+            judge(c, c->nodes, w->beliefs, w->goals, w->mark);
+    } else {
+        const uint8_t *rule = c->revision + REVISION_BYTES * i;
+        if (!put_in_front(w, number(rule + 4), rule + 6))
+            return 0;
+    }
+    w->phase = kind == REVISE ? SELECT : kind + 1;
+    return 1;
+}
+
+/* "From phase p the kinds p, p+1, p+2 (modulo 3) are tried in turn. In the first kind with an
+ * enabled transition, the lowest number is taken." The number, and its kind; or NO_RULE. */
+static inline int next_move(const struct walk *w, unsigned *kind)
+{
+    int found = NO_RULE;
+    *kind = w->phase;
+    for (unsigned tried = 0; tried < 3; tried++) {
+        found = next_of_kind(w->card, w->mark, *kind, w->end - w->length, w->length, 0);
+        if (found != NO_RULE)
+            break;
+        *kind = *kind == REVISE ? SELECT : *kind + 1;
+    }
+    return found;
+}
+
+/* Runs until the budget is spent, at rest or full; how many moves were taken. */
+static unsigned walk(struct walk *w, unsigned budget, uint8_t *ending)
+{
+    unsigned kind;
+    for (unsigned count = 0; count < budget; count++) {
+        int found = next_move(w, &kind);
+        if (found == NO_RULE || !move(w, kind, (unsigned)found)) {
+            *ending = found == NO_RULE ? REST : FULL;
+            return count;
+        }
+    }
+    *ending = SPENT;
+    return budget;
+}
+
+uint16_t engine_run(const uint8_t *card, size_t card_len, uint8_t *beliefs, uint8_t *goals,
+                    uint8_t *plan, uint16_t *length, uint8_t *phase, uint16_t budget,
+                    uint16_t *count, uint8_t *ending)
+{
+    struct card c;
+    struct walk w = {.card = &c, .beliefs = beliefs, .goals = goals, .end = plan + LONGEST_PLAN};
+    *count = 0;
+    *ending = SPENT;
+    uint16_t answer = check(card, card_len, &c);
+    if (answer != DONE)
+        return answer;
+    if (!known_configuration(&c, beliefs, goals, plan, *length, *phase))
+        return CONFIGURATION;
+    w.length = *length;
+    w.phase = *phase;
+    memmove(w.end - w.length, plan, w.length);
+    judge(&c, c.nodes, beliefs, goals, w.mark);
+    *count = (uint16_t)walk(&w, budget, ending);
+    memmove(plan, w.end - w.length, w.length);
+    memset(plan + w.length, 0, LONGEST_PLAN - w.length);
+    *length = (uint16_t)w.length;
+    *phase = (uint8_t)w.phase;
+    return DONE;
+}
+
+/* ---- save and restore ---- */
+
+/* "Bytes 33 50 hex; edition 1 at 2; plan length L at 4; plan offset 44 at 6; phase at 8; zero at
+ * 10; beliefs at 12; goals at 28; the plan's L bytes at 44." */
+uint16_t engine_save(const uint8_t *card, size_t card_len, const uint8_t *beliefs,
+                     const uint8_t *goals, const uint8_t *plan, uint16_t length, uint8_t phase,
+                     uint8_t *place, size_t place_len, uint16_t *count)
+{
+    struct card c;
+    *count = 0;
+    uint16_t answer = check(card, card_len, &c);
+    if (answer != DONE)
+        return answer;
+    if (!known_configuration(&c, beliefs, goals, plan, length, phase))
+        return CONFIGURATION;
+    if (place_len < (size_t)PLACE_BYTES + length)
+        return NO_ROOM;
+    place[0] = 0x33;
+    place[1] = 0x50;
+    put_number(place + 2, 1);
+    put_number(place + 4, length);
+    put_number(place + 6, PLACE_BYTES);
+    put_number(place + 8, phase);
+    put_number(place + 10, 0);
+    memcpy(place + 12, beliefs, SET_BYTES);
+    memcpy(place + 28, goals, SET_BYTES);
+    memcpy(place + PLACE_BYTES, plan, length);
+    *count = (uint16_t)(PLACE_BYTES + length);
+    return DONE;
+}
+
+/* A place against a card: rows 1, 2, 3, 4, 8, 9. */
+static uint16_t check_place(const struct card *c, const uint8_t *place, size_t place_len)
+{
+    if (place_len < PLACE_BYTES)
+        return SHORT;
+    if (place[0] != 0x33 || place[1] != 0x50 || number(place + 2) != 1)
+        return MARK;
+    unsigned length = number(place + 4);
+    if (length > LONGEST_PLAN || number(place + 8) > 2 || number(place + 10) != 0)
+        return COUNT;
+    if (number(place + 6) != PLACE_BYTES || place_len != PLACE_BYTES + length)
+        return OFFSETS;
+    if (!known_actions(c, place + PLACE_BYTES, length))
+        return ACTION_BYTE;
+    if (!known_set(c, read_set(place + 12)) || !known_set(c, read_set(place + 28)))
+        return ATOM;
+    return DONE;
+}
+
+uint16_t engine_restore(const uint8_t *card, size_t card_len, const uint8_t *place,
+                        size_t place_len, uint8_t *beliefs, uint8_t *goals, uint8_t *plan,
+                        uint16_t *length, uint8_t *phase)
+{
+    struct card c;
+    struct parts d = {beliefs, goals, plan, length, phase};
+    uint16_t answer = check(card, card_len, &c);
+    if (answer == DONE)
+        answer = check_place(&c, place, place_len);
+    if (answer != DONE)
+        empty(d);
+    else
+        fill(d, place + 12, place + 28, place + PLACE_BYTES, number(place + 4), number(place + 8));
+    return answer;
+}

@@ -1,0 +1,50 @@
+-- An offender's number fits in the 16 bits that it is written in: a card has at most 256 rules of a kind.
+use mathlib.Core.Path.{_≡_, refl, sym, subst}
+use mathlib.Core.Bool.{Bool, true, false}
+use mathlib.Core.List.{List, [], _∷_}
+use Prim.Native.Nat.{ℕ, zero, suc, _+_, _≤_, _<_}
+use native.Mathlib.Omega.{arith}
+use lib.ListN.{length}
+use Rattle.paper.specs.Language.{Plan, Agent}
+use Rattle.house.specs.declared.Offender.{Offender}
+use Rattle.house.specs.declared.Verdict.{Verdict}
+use Rattle.house.specs.Weight.{light, lowers, firstOffender, verdict}
+use Rattle.meaning.specs.declared.Answer.{Answer}
+use Rattle.meaning.specs.declared.Answer.the-variants.{Done, Refused}
+use Rattle.meaning.specs.declared.Graded.{Graded}
+use Rattle.meaning.specs.Card.{Bytes, layout, weight, agent, agentFor, agentOf, initialPlan}
+use Rattle.meaning.specs.Refusals.{cardAnswer}
+use Rattle.meaning.specs.Calls.{graded, grades}
+use Rattle.meaning.proofs.Calls.{grades-good, grades-refused}
+use Rattle.meaning.proofs.Accepted.{length-entries}
+use Rattle.card.proofs.GoodCard.{good-card}
+use Rattle.board.specs.Numbers.{offenderRule, verdictRule}
+
+module _ {R : Type 0} (good : R → Bool) (name : ℕ → Offender) (named : (k : ℕ) → offenderRule (name k) ≡ k) (otherwise : Verdict) (o : verdictRule otherwise < 65536) where
+  pub first-narrow : (n : ℕ) (rs : List R) → n + length rs ≤ 256 → verdictRule (firstOffender good name n rs otherwise) < 65536
+  unfolding verdictRule
+  first-narrow n [] h = o
+  first-narrow n (r ∷ rs) h = elim (good r) as (λ x. verdictRule (elim x [ true ↦ firstOffender good name (suc n) rs otherwise | false ↦ Verdict.Open (name n) ]) < 65536) [
+    | true ↦ first-narrow (suc n) rs (omega arith)
+    | false ↦ let e = named n in omega arith
+  ]
+
+pub verdict-narrow : (w : ℕ → ℕ) (A : Agent) (π : Plan) → length (A .PS) ≤ 256 → length (A .PR) ≤ 256 → verdictRule (verdict w A π) < 65536
+unfolding verdict verdictRule offenderRule
+verdict-narrow w A π s r = elim (light w π) as (λ x. verdictRule (elim x [ true ↦ firstOffender (λ r. light w (r .π)) Offender.Selection 0 (A .PS) (firstOffender (lowers w) Offender.Revision 0 (A .PR) Verdict.Bounded) | false ↦ Verdict.Open Offender.InitialPlan ]) < 65536) [
+  | true ↦
+      first-narrow (λ x. light w (x .π)) Offender.Selection (λ k. refl) _
+      (first-narrow (lowers w) Offender.Revision (λ k. refl) Verdict.Bounded (omega arith) 0 (A .PR) (omega arith)) 0 (A .PS) (omega arith)
+  | false ↦ omega arith
+]
+
+pub grades-narrow : (b : Bytes) → verdictRule (grades b .verdict) < 65536
+unfolding verdictRule offenderRule agent agentFor agentOf
+grades-narrow b = go (cardAnswer b) refl
+  where
+    go : (a : Answer) → cardAnswer b ≡ a → verdictRule (grades b .verdict) < 65536
+    go Done e =
+        let l = good-card (layout b) b e refl .laid in
+        let v = verdict-narrow (weight b) (agent b) (initialPlan b) (rw (length-entries _ 8 (layout b .selections)) (l .selections)) (rw (length-entries _ 12 (layout b .revisions)) (l .revisions)) in
+        subst (λ (x : Graded). verdictRule (x .verdict) < 65536) (sym (grades-good b e)) v
+    go (Refused r) e = subst (λ (x : Graded). verdictRule (x .verdict) < 65536) (sym (grades-refused b r e)) (omega arith)

@@ -1,0 +1,39 @@
+use Rattle.meaning.specs.Refusals.{answerNumber}
+use mathlib.Core.Path.{_≡_, refl, sym, ap, _∙_}
+use mathlib.Core.List.{List, [], _∷_, _++_, append-nil, append-assoc}
+use Prim.Native.Nat.{ℕ, suc, _+_, _-_, _*_, _≤_, _<_}
+use native.Mathlib.Omega.{arith}
+use borrow.Author.Needs.{needs}
+use denote.Ref.{now}
+use lib.ListN.{length, getD, set, take, drop, replicate}
+use Rattle.board.proofs.answer_number.Statement.{statement}
+use Rattle.board.proofs.answer_number.Tie as tie
+use Rattle.board.proofs.answer_number.Reads as reads
+use Rattle.board.proofs.answer_number.Lts as lts
+use Rattle.board.proofs.refusal_number.Reads as refusal-number-reads
+
+-- src/lib.rt:39:25
+enum-told : tie.Need-enum-told
+enum-told c = search needs
+
+-- src/lib.rt:40:25
+enum-known-a : tie.Need-enum-known-a
+enum-known-a c = search needs
+
+-- src/lib.rt:40:31
+refusal-number-requires : tie.Need-refusal-number-requires
+refusal-number-requires c κs = search needs
+
+-- src/lib.rt:35:1
+returns : tie.Need-returns
+unfolding answerNumber
+returns c = rw (c .enum-told .given .1)
+
+-- src/lib.rt:35:1
+returns-2 : tie.Need-returns-2
+unfolding answerNumber
+returns-2 c = c .refusal-number .ensures ∙ sym (ap answerNumber (c .before .before .a .given .1))
+
+pub answer-number-spec : {M : Type 1} → statement M
+answer-number-spec =
+    tie.close (tie.spec enum-told enum-known-a refusal-number-requires returns returns-2)

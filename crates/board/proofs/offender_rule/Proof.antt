@@ -1,0 +1,68 @@
+use Rattle.house.specs.declared.Offender.{Offender}
+use mathlib.Core.Path.{subst}
+use Rattle.board.specs.Numbers.{offenderRule}
+use mathlib.Core.Path.{_≡_, refl, sym, ap, _∙_}
+use mathlib.Core.List.{List, [], _∷_, _++_, append-nil, append-assoc}
+use Prim.Native.Nat.{ℕ, suc, _+_, _-_, _*_, _≤_, _<_}
+use native.Mathlib.Omega.{arith}
+use borrow.Author.Needs.{needs}
+use denote.Ref.{now}
+use lib.ListN.{length, getD, set, take, drop, replicate}
+use Rattle.board.proofs.offender_rule.Statement.{statement}
+use Rattle.board.proofs.offender_rule.Tie as tie
+use Rattle.board.proofs.offender_rule.Reads as reads
+use Rattle.board.proofs.offender_rule.Lts as lts
+
+-- src/lib.rt:96:34
+enum-told : tie.Need-enum-told
+enum-told c = search needs
+
+-- src/lib.rt:97:29
+enum-known-o : tie.Need-enum-known-o
+enum-known-o c = search needs
+
+-- src/lib.rt:97:35
+cast-result : tie.Need-cast-result
+unfolding offenderRule
+cast-result c =
+    let h : c .before .o .given .0 .0 < 65536 = subst (λ (x : Offender). offenderRule x < 65536) (c .before .o .given .1) (c .before .before .before .pre) in
+    search needs
+
+-- src/lib.rt:98:28
+enum-known-o-2 : tie.Need-enum-known-o-2
+enum-known-o-2 c = search needs
+
+-- src/lib.rt:98:34
+cast-result-2 : tie.Need-cast-result-2
+unfolding offenderRule
+cast-result-2 c =
+    let h : c .before .o2 .given .0 .0 < 65536 = subst (λ (x : Offender). offenderRule x < 65536) (c .before .o2 .given .1) (c .before .before .before .pre) in
+    search needs
+
+-- src/lib.rt:91:1
+returns : tie.Need-returns
+unfolding offenderRule
+returns c = rw (c .enum-told .given .1)
+
+-- src/lib.rt:91:1
+returns-2 : tie.Need-returns-2
+unfolding offenderRule
+returns-2 c = rw (c .before .o .given .1)
+
+-- src/lib.rt:91:1
+returns-3 : tie.Need-returns-3
+unfolding offenderRule
+returns-3 c = rw (c .before .o2 .given .1)
+
+pub offender-rule-spec : {M : Type 1} → statement M
+offender-rule-spec =
+    tie.close
+    (tie.spec
+    enum-told
+    enum-known-o
+    cast-result
+    enum-known-o-2
+    cast-result-2
+    returns
+    returns-2
+    returns-3)

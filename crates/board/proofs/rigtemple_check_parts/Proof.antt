@@ -1,0 +1,46 @@
+use Rattle.board.specs.Numbers.{checkedNumber}
+use Rattle.meaning.specs.Calls.{checks}
+use mathlib.Core.Path.{_≡_, refl, sym, ap, _∙_}
+use mathlib.Core.List.{List, [], _∷_, _++_, append-nil, append-assoc}
+use Prim.Native.Nat.{ℕ, suc, _+_, _-_, _*_, _≤_, _<_}
+use native.Mathlib.Omega.{arith}
+use borrow.Author.Needs.{needs}
+use denote.Ref.{now}
+use lib.ListN.{length, getD, set, take, drop, replicate}
+use Rattle.board.proofs.rigtemple_check_parts.Statement.{statement}
+use Rattle.board.proofs.rigtemple_check_parts.Tie as tie
+use Rattle.board.proofs.rigtemple_check_parts.Reads as reads
+use Rattle.board.proofs.rigtemple_check_parts.Lts as lts
+use Rattle.board.proofs.refusal_number.Reads as refusal-number-reads
+use Rattle.guide.proofs.check.Reads as check-reads
+
+-- src/lib.rt:60:9
+check-requires : tie.Need-check-requires
+check-requires c κs = search needs
+
+-- src/lib.rt:62:29
+enum-told : tie.Need-enum-told
+enum-told c = search needs
+
+-- src/lib.rt:63:26
+enum-known-v : tie.Need-enum-known-v
+enum-known-v c = search needs
+
+-- src/lib.rt:63:32
+refusal-number-requires : tie.Need-refusal-number-requires
+refusal-number-requires c κs = search needs
+
+-- src/lib.rt:56:1
+returns : tie.Need-returns
+unfolding checkedNumber
+returns c = rw (sym (c .before .before .check .ensures), c .enum-told .given .1)
+
+-- src/lib.rt:56:1
+returns-2 : tie.Need-returns-2
+unfolding checkedNumber
+returns-2 c = c .refusal-number .ensures ∙ sym (ap checkedNumber (sym (c .before .before .before .before .check .ensures) ∙ c .before .before .v .given .1))
+
+pub rigtemple-check-parts-spec : {M : Type 1} → statement M
+rigtemple-check-parts-spec =
+    tie.close
+    (tie.spec check-requires enum-told enum-known-v refusal-number-requires returns returns-2)

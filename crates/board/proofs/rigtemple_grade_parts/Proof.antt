@@ -1,0 +1,62 @@
+use Rattle.board.proofs.Laws.{grades-narrow}
+use mathlib.Core.Path.{subst}
+use Rattle.board.specs.Numbers.{verdictNumber, verdictOffender, verdictRule}
+use Rattle.meaning.specs.Refusals.{answerNumber}
+use Rattle.meaning.specs.declared.Graded.{Graded}
+use mathlib.Core.Path.{_≡_, refl, sym, ap, _∙_}
+use mathlib.Core.List.{List, [], _∷_, _++_, append-nil, append-assoc}
+use Prim.Native.Nat.{ℕ, suc, _+_, _-_, _*_, _≤_, _<_}
+use native.Mathlib.Omega.{arith}
+use borrow.Author.Needs.{needs}
+use denote.Ref.{now}
+use lib.ListN.{length, getD, set, take, drop, replicate}
+use Rattle.board.proofs.rigtemple_grade_parts.Statement.{statement}
+use Rattle.board.proofs.rigtemple_grade_parts.Tie as tie
+use Rattle.board.proofs.rigtemple_grade_parts.Reads as reads
+use Rattle.board.proofs.rigtemple_grade_parts.Lts as lts
+use Rattle.board.proofs.answer_number.Reads as answer-number-reads
+use Rattle.board.proofs.verdict_number.Reads as verdict-number-reads
+use Rattle.board.proofs.verdict_offender.Reads as verdict-offender-reads
+use Rattle.board.proofs.verdict_rule.Reads as verdict-rule-reads
+use Rattle.guide.proofs.grade.Reads as grade-reads
+
+-- src/lib.rt:311:9
+grade-requires : tie.Need-grade-requires
+grade-requires c κs = search needs
+
+-- src/lib.rt:313:16
+verdict-number-requires : tie.Need-verdict-number-requires
+verdict-number-requires c κs = search needs
+
+-- src/lib.rt:314:17
+verdict-offender-requires : tie.Need-verdict-offender-requires
+verdict-offender-requires c κs = search needs
+
+-- src/lib.rt:315:15
+verdict-rule-requires : tie.Need-verdict-rule-requires
+verdict-rule-requires c κs = subst (λ (x : Graded). verdictRule (x .verdict) < 65536) (sym (c .before .before .grade .ensures)) (grades-narrow (now (c .before .before .before .before .args .card)))
+
+-- src/lib.rt:317:5
+answer-number-requires : tie.Need-answer-number-requires
+answer-number-requires c κs = search needs
+
+-- src/lib.rt:302:1
+returns : tie.Need-returns
+returns c =
+    let e = c .before .before .before .before .grade .ensures in (
+      c .answer-number .ensures ∙ ap (λ (x : Graded). answerNumber (x .answer)) e,
+      c .before .before .before .verdict-number .ensures ∙ ap (λ (x : Graded). verdictNumber (x .verdict)) e,
+      c .before .before .verdict-offender .ensures ∙ ap (λ (x : Graded). verdictOffender (x .verdict)) e,
+      c .before .verdict-rule .ensures ∙ ap (λ (x : Graded). verdictRule (x .verdict)) e,
+    )
+
+pub rigtemple-grade-parts-spec : {M : Type 1} → statement M
+rigtemple-grade-parts-spec =
+    tie.close
+    (tie.spec
+    grade-requires
+    verdict-number-requires
+    verdict-offender-requires
+    verdict-rule-requires
+    answer-number-requires
+    returns)

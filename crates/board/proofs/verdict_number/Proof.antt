@@ -1,0 +1,33 @@
+use Rattle.board.specs.Numbers.{verdictNumber}
+use mathlib.Core.Path.{_≡_, refl, sym, ap, _∙_}
+use mathlib.Core.List.{List, [], _∷_, _++_, append-nil, append-assoc}
+use Prim.Native.Nat.{ℕ, suc, _+_, _-_, _*_, _≤_, _<_}
+use native.Mathlib.Omega.{arith}
+use borrow.Author.Needs.{needs}
+use denote.Ref.{now}
+use lib.ListN.{length, getD, set, take, drop, replicate}
+use Rattle.board.proofs.verdict_number.Statement.{statement}
+use Rattle.board.proofs.verdict_number.Tie as tie
+use Rattle.board.proofs.verdict_number.Reads as reads
+use Rattle.board.proofs.verdict_number.Lts as lts
+
+-- src/lib.rt:62:29
+enum-told : tie.Need-enum-told
+enum-told c = search needs
+
+-- src/lib.rt:63:29
+enum-told-2 : tie.Need-enum-told-2
+enum-told-2 c = search needs
+
+-- src/lib.rt:58:1
+returns : tie.Need-returns
+unfolding verdictNumber
+returns c = rw (c .enum-told .given .1)
+
+-- src/lib.rt:58:1
+returns-2 : tie.Need-returns-2
+unfolding verdictNumber
+returns-2 c = rw (c .enum-told2 .given .1)
+
+pub verdict-number-spec : {M : Type 1} → statement M
+verdict-number-spec = tie.close (tie.spec enum-told enum-told-2 returns returns-2)

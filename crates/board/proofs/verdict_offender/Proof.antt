@@ -1,0 +1,39 @@
+use Rattle.board.specs.Numbers.{verdictOffender}
+use mathlib.Core.Path.{_≡_, refl, sym, ap, _∙_}
+use mathlib.Core.List.{List, [], _∷_, _++_, append-nil, append-assoc}
+use Prim.Native.Nat.{ℕ, suc, _+_, _-_, _*_, _≤_, _<_}
+use native.Mathlib.Omega.{arith}
+use borrow.Author.Needs.{needs}
+use denote.Ref.{now}
+use lib.ListN.{length, getD, set, take, drop, replicate}
+use Rattle.board.proofs.verdict_offender.Statement.{statement}
+use Rattle.board.proofs.verdict_offender.Tie as tie
+use Rattle.board.proofs.verdict_offender.Reads as reads
+use Rattle.board.proofs.verdict_offender.Lts as lts
+use Rattle.board.proofs.offender_number.Reads as offender-number-reads
+
+-- src/lib.rt:83:29
+enum-told : tie.Need-enum-told
+enum-told c = search needs
+
+-- src/lib.rt:84:23
+enum-known-v : tie.Need-enum-known-v
+enum-known-v c = search needs
+
+-- src/lib.rt:84:29
+offender-number-requires : tie.Need-offender-number-requires
+offender-number-requires c κs = search needs
+
+-- src/lib.rt:79:1
+returns : tie.Need-returns
+unfolding verdictOffender
+returns c = rw (c .enum-told .given .1)
+
+-- src/lib.rt:79:1
+returns-2 : tie.Need-returns-2
+unfolding verdictOffender
+returns-2 c = c .offender-number .ensures ∙ sym (ap verdictOffender (c .before .before .v .given .1))
+
+pub verdict-offender-spec : {M : Type 1} → statement M
+verdict-offender-spec =
+    tie.close (tie.spec enum-told enum-known-v offender-number-requires returns returns-2)

@@ -1,0 +1,42 @@
+use Rattle.house.specs.declared.Verdict.{Verdict}
+use mathlib.Core.Path.{subst}
+use Rattle.board.specs.Numbers.{verdictRule}
+use mathlib.Core.Path.{_≡_, refl, sym, ap, _∙_}
+use mathlib.Core.List.{List, [], _∷_, _++_, append-nil, append-assoc}
+use Prim.Native.Nat.{ℕ, suc, _+_, _-_, _*_, _≤_, _<_}
+use native.Mathlib.Omega.{arith}
+use borrow.Author.Needs.{needs}
+use denote.Ref.{now}
+use lib.ListN.{length, getD, set, take, drop, replicate}
+use Rattle.board.proofs.verdict_rule.Statement.{statement}
+use Rattle.board.proofs.verdict_rule.Tie as tie
+use Rattle.board.proofs.verdict_rule.Reads as reads
+use Rattle.board.proofs.verdict_rule.Lts as lts
+use Rattle.board.proofs.offender_rule.Reads as offender-rule-reads
+
+-- src/lib.rt:104:29
+enum-told : tie.Need-enum-told
+enum-told c = search needs
+
+-- src/lib.rt:105:23
+enum-known-v : tie.Need-enum-known-v
+enum-known-v c = search needs
+
+-- src/lib.rt:105:29
+offender-rule-requires : tie.Need-offender-rule-requires
+unfolding verdictRule
+offender-rule-requires c κs = subst (λ (x : Verdict). verdictRule x < 65536) (c .before .v .given .1) (c .before .before .before .pre)
+
+-- src/lib.rt:100:1
+returns : tie.Need-returns
+unfolding verdictRule
+returns c = rw (c .enum-told .given .1)
+
+-- src/lib.rt:100:1
+returns-2 : tie.Need-returns-2
+unfolding verdictRule
+returns-2 c = c .offender-rule .ensures ∙ sym (ap verdictRule (c .before .before .v .given .1))
+
+pub verdict-rule-spec : {M : Type 1} → statement M
+verdict-rule-spec =
+    tie.close (tie.spec enum-told enum-known-v offender-rule-requires returns returns-2)

@@ -1,0 +1,318 @@
+// The board: the guide's eight calls for C, as include/rigtemple.h declares them. A configuration is lent in its five parts;
+// the return value is the answer's number.
+ghost use mathlib.Core.Path.{_≡_};
+ghost use Prim.Native.Nat.{_<_};
+ghost use Rattle.meaning.specs.Calls.{checks, loads, grades, lists, listLeaves, takes, runs, saves, saveLeaves, restores};
+ghost use Rattle.meaning.specs.Refusals.{numberOf, answerNumber};
+ghost use Rattle.board.specs.Numbers.{checkedNumber, endingNumber, verdictNumber, offenderNumber, offenderRule, verdictOffender, verdictRule};
+ghost use Rattle.board.specs.Numbers.{whole, replied, gradedAs, wrote, ranTo};
+use house::Ending;
+use house::Offender;
+use house::Verdict;
+use meaning::Answer;
+use meaning::Checked;
+use meaning::Configuration;
+use meaning::Refusal;
+
+// A refusal's number.
+fn refusal_number(r: Refusal) -> u16
+    ensures { λ n. ⌜ n ≡ numberOf r ⌝ }
+{
+    match r {
+        Refusal::Short => 1,
+        Refusal::Mark => 2,
+        Refusal::Count => 3,
+        Refusal::Offsets => 4,
+        Refusal::Weight => 5,
+        Refusal::Node => 6,
+        Refusal::Rule => 7,
+        Refusal::ActionByte => 8,
+        Refusal::Atom => 9,
+        Refusal::Configuration => 13,
+        Refusal::NotEnabled => 10,
+        Refusal::PlanFull => 11,
+        Refusal::NoRoom => 12,
+    }
+}
+
+// An answer's number: 0 for done.
+fn answer_number(a: Answer) -> u16
+    ensures { λ n. ⌜ n ≡ answerNumber a ⌝ }
+{
+    match a {
+        Answer::Done => 0,
+        Answer::Refused(r) => refusal_number(r),
+    }
+}
+
+// An ending's number.
+fn ending_number(e: Ending) -> u8
+    ensures { λ n. ⌜ n ≡ endingNumber e ⌝ }
+{
+    match e {
+        Ending::Spent => 0,
+        Ending::Rest => 1,
+        Ending::Full => 2,
+    }
+}
+
+// A verdict's number.
+fn verdict_number(v: Verdict) -> u8
+    ensures { λ n. ⌜ n ≡ verdictNumber v ⌝ }
+{
+    match v {
+        Verdict::Bounded => 0,
+        Verdict::Open(_) => 1,
+    }
+}
+
+// The number of an offender's kind.
+fn offender_number(o: Offender) -> u8
+    ensures { λ n. ⌜ n ≡ offenderNumber o ⌝ }
+{
+    match o {
+        Offender::InitialPlan => 1,
+        Offender::Selection(_) => 2,
+        Offender::Revision(_) => 3,
+    }
+}
+
+// The number of a verdict's offender, 0 for none.
+fn verdict_offender(v: Verdict) -> u8
+    ensures { λ n. ⌜ n ≡ verdictOffender v ⌝ }
+{
+    match v {
+        Verdict::Bounded => 0,
+        Verdict::Open(o) => offender_number(o),
+    }
+}
+
+// The number of the rule that an offender is.
+fn offender_rule(o: Offender) -> u16
+    requires { ⌜ offenderRule o < 65536 ⌝ }
+    ensures { λ n. ⌜ n ≡ offenderRule o ⌝ }
+{
+    match o {
+        Offender::InitialPlan => 0,
+        Offender::Selection(n) => n as u16,
+        Offender::Revision(n) => n as u16,
+    }
+}
+
+// The number of the rule that a verdict's offender is.
+fn verdict_rule(v: Verdict) -> u16
+    requires { ⌜ verdictRule v < 65536 ⌝ }
+    ensures { λ n. ⌜ n ≡ verdictRule v ⌝ }
+{
+    match v {
+        Verdict::Bounded => 0,
+        Verdict::Open(o) => offender_rule(o),
+    }
+}
+
+// Whether a card is good.
+#[no_mangle]
+pub extern "C" fn rigtemple_check_parts(card: &[u8]) -> u16
+    ensures { λ r. ⌜ r ≡ checkedNumber (checks (now (card .entry))) ⌝ }
+{
+    let v = guide::check(card);
+    match v {
+        Checked::Good(_) => 0,
+        Checked::Refused(r) => refusal_number(r),
+    }
+}
+
+// The configuration that a card starts with; the empty one in a refusal.
+#[no_mangle]
+pub extern "C" fn rigtemple_load_parts(
+    card: &[u8],
+    beliefs: &mut [u8; 16],
+    goals: &mut [u8; 16],
+    plan: &mut [u8; 1024],
+    length: &mut u16,
+    phase: &mut u8,
+) -> u16
+    ensures { λ r. ⌜ replied (loads (now (card .entry))) r (whole (now (beliefs .exit)) (now (goals .exit)) (now (plan .exit)) (now (length .exit)) (now (phase .exit))) ⌝ }
+{
+    let r = guide::load(card);
+    let b = r.configuration.beliefs;
+    let g = r.configuration.goals;
+    let p = r.configuration.plan;
+    *beliefs = b;
+    *goals = g;
+    *plan = p;
+    *length = r.configuration.length;
+    *phase = r.configuration.phase;
+    let a = r.answer;
+    answer_number(a)
+}
+
+// The configuration after the chosen move; as it came in, in a refusal.
+#[no_mangle]
+pub extern "C" fn rigtemple_take_parts(
+    card: &[u8],
+    beliefs: &mut [u8; 16],
+    goals: &mut [u8; 16],
+    plan: &mut [u8; 1024],
+    length: &mut u16,
+    phase: &mut u8,
+    choice: u16,
+) -> u16
+    ensures { λ r. ⌜ replied (takes (now (card .entry)) (whole (now (beliefs .entry)) (now (goals .entry)) (now (plan .entry)) (now (length .entry)) (now (phase .entry))) choice) r (whole (now (beliefs .exit)) (now (goals .exit)) (now (plan .exit)) (now (length .exit)) (now (phase .exit))) ⌝ }
+{
+    let c = Configuration {
+        beliefs: *beliefs,
+        goals: *goals,
+        plan: *plan,
+        length: *length,
+        phase: *phase,
+    };
+    let r = guide::take(card, c, choice);
+    let b = r.configuration.beliefs;
+    let g = r.configuration.goals;
+    let p = r.configuration.plan;
+    *beliefs = b;
+    *goals = g;
+    *plan = p;
+    *length = r.configuration.length;
+    *phase = r.configuration.phase;
+    let a = r.answer;
+    answer_number(a)
+}
+
+// The configuration after at most budget moves of the guide's own, how many they were, and how the run ended.
+#[no_mangle]
+pub extern "C" fn rigtemple_run_parts(
+    card: &[u8],
+    beliefs: &mut [u8; 16],
+    goals: &mut [u8; 16],
+    plan: &mut [u8; 1024],
+    length: &mut u16,
+    phase: &mut u8,
+    budget: u16,
+    count: &mut u16,
+    ending: &mut u8,
+) -> u16
+    ensures { λ r. ⌜ ranTo (runs (now (card .entry)) (whole (now (beliefs .entry)) (now (goals .entry)) (now (plan .entry)) (now (length .entry)) (now (phase .entry))) budget) r (whole (now (beliefs .exit)) (now (goals .exit)) (now (plan .exit)) (now (length .exit)) (now (phase .exit))) (now (count .exit)) (now (ending .exit)) ⌝ }
+{
+    let c = Configuration {
+        beliefs: *beliefs,
+        goals: *goals,
+        plan: *plan,
+        length: *length,
+        phase: *phase,
+    };
+    let r = guide::run(card, c, budget);
+    let b = r.configuration.beliefs;
+    let g = r.configuration.goals;
+    let p = r.configuration.plan;
+    *beliefs = b;
+    *goals = g;
+    *plan = p;
+    *length = r.configuration.length;
+    *phase = r.configuration.phase;
+    *count = r.count;
+    let e = r.ending;
+    *ending = ending_number(e);
+    let a = r.answer;
+    answer_number(a)
+}
+
+// The configuration that a place holds; the empty one in a refusal.
+#[no_mangle]
+pub extern "C" fn rigtemple_restore_parts(
+    card: &[u8],
+    place: &[u8],
+    beliefs: &mut [u8; 16],
+    goals: &mut [u8; 16],
+    plan: &mut [u8; 1024],
+    length: &mut u16,
+    phase: &mut u8,
+) -> u16
+    ensures { λ r. ⌜ replied (restores (now (card .entry)) (now (place .entry))) r (whole (now (beliefs .exit)) (now (goals .exit)) (now (plan .exit)) (now (length .exit)) (now (phase .exit))) ⌝ }
+{
+    let r = guide::restore(card, place);
+    let b = r.configuration.beliefs;
+    let g = r.configuration.goals;
+    let p = r.configuration.plan;
+    *beliefs = b;
+    *goals = g;
+    *plan = p;
+    *length = r.configuration.length;
+    *phase = r.configuration.phase;
+    let a = r.answer;
+    answer_number(a)
+}
+
+// All enabled choices, into a lent list, and how many they are.
+#[no_mangle]
+pub extern "C" fn rigtemple_list_parts(
+    card: &[u8],
+    beliefs: &[u8; 16],
+    goals: &[u8; 16],
+    plan: &[u8; 1024],
+    length: u16,
+    phase: u8,
+    list: &mut [u16],
+    count: &mut u16,
+) -> u16
+    ensures { λ r. ⌜ wrote (lists (now (card .entry)) (whole (now (beliefs .entry)) (now (goals .entry)) (now (plan .entry)) length phase) (now (list .entry))) (listLeaves (now (card .entry)) (whole (now (beliefs .entry)) (now (goals .entry)) (now (plan .entry)) length phase) (now (list .entry))) r (now (count .exit)) (now (list .exit)) ⌝ }
+{
+    let c = Configuration {
+        beliefs: *beliefs,
+        goals: *goals,
+        plan: *plan,
+        length: length,
+        phase: phase,
+    };
+    let r = guide::list(card, c, list);
+    *count = r.count;
+    let a = r.answer;
+    answer_number(a)
+}
+
+// The configuration into a lent buffer, and how many bytes were written.
+#[no_mangle]
+pub extern "C" fn rigtemple_save_parts(
+    card: &[u8],
+    beliefs: &[u8; 16],
+    goals: &[u8; 16],
+    plan: &[u8; 1024],
+    length: u16,
+    phase: u8,
+    place: &mut [u8],
+    count: &mut u16,
+) -> u16
+    ensures { λ r. ⌜ wrote (saves (now (card .entry)) (whole (now (beliefs .entry)) (now (goals .entry)) (now (plan .entry)) length phase) (now (place .entry))) (saveLeaves (now (card .entry)) (whole (now (beliefs .entry)) (now (goals .entry)) (now (plan .entry)) length phase) (now (place .entry))) r (now (count .exit)) (now (place .exit)) ⌝ }
+{
+    let c = Configuration {
+        beliefs: *beliefs,
+        goals: *goals,
+        plan: *plan,
+        length: length,
+        phase: phase,
+    };
+    let r = guide::save(card, c, place);
+    *count = r.count;
+    let a = r.answer;
+    answer_number(a)
+}
+
+// Bounded, or open with the first offender: its kind and its number.
+#[no_mangle]
+pub extern "C" fn rigtemple_grade_parts(
+    card: &[u8],
+    verdict: &mut u8,
+    offender: &mut u8,
+    number: &mut u16,
+) -> u16
+    ensures { λ r. ⌜ gradedAs (grades (now (card .entry))) r (now (verdict .exit)) (now (offender .exit)) (now (number .exit)) ⌝ }
+{
+    let r = guide::grade(card);
+    let v = r.verdict;
+    *verdict = verdict_number(v);
+    *offender = verdict_offender(v);
+    *number = verdict_rule(v);
+    let a = r.answer;
+    answer_number(a)
+}

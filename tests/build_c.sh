@@ -1,0 +1,54 @@
+#!/bin/sh
+# Builds a C program with the Rattle kit's own compiler, linker and C library, for x86-64.
+#
+#   tests/build_c.sh PROGRAM FILE...
+#
+# A FILE that ends in .c is compiled at -O3; all others (objects, archives) are linked as they
+# are. CFLAGS are given to the compiler too. Where PROGRAM ends in .o, its one FILE is compiled
+# and not linked. tests/run_c.sh runs the program.
+set -eu
+
+die() { printf 'build_c.sh: %s\n' "$*" >&2; exit 2; }
+
+[ $# -ge 2 ] || die "usage: build_c.sh PROGRAM FILE..."
+command -v rt >/dev/null || die "the command rt of the Rattle kit is missing"
+kit=$(cd "$(dirname "$(rt doc)")/.." && pwd)
+lib=$kit/toolchain/lib
+own=$kit/on/$(uname -m)/toolchain/bin
+[ -x "$own/clang" ] || die "the kit has no clang for $(uname -m)"
+[ -x "$own/ld.lld" ] || die "the kit has no ld.lld for $(uname -m)"
+
+# The kit has no headers, so the machine's are left out too. No -ffreestanding: with it memcpy of
+# two bytes would be a call.
+compile() { # FILE OBJECT
+    # shellcheck disable=SC2086  # CFLAGS are words
+    "$own/clang" --target=x86_64-unknown-linux-gnu -std=c11 -O3 -fPIC -nostdinc -Wall -Wextra \
+        -Werror ${CFLAGS:-} -c "$1" -o "$2"
+}
+
+program=$1
+shift
+mkdir -p "$(dirname "$program")"
+case $program in *.o)
+    [ $# -eq 1 ] || die "one file makes one object"
+    compile "$1" "$program"
+    exit 0
+    ;;
+esac
+
+count=$#
+for file in "$@"; do
+    case $file in *.c)
+        object=$program.$(basename "$file" .c).o
+        compile "$file" "$object"
+        set -- "$@" "$object"
+        ;;
+    *) set -- "$@" "$file" ;;
+    esac
+done
+shift "$count"
+
+# -z now: no call looks a function up at its first use, so that a stack measured is the call's own.
+"$own/ld.lld" -pie -z now -dynamic-linker /lib64/ld-linux-x86-64.so.2 -o "$program" \
+    "$lib/Scrt1.o" "$lib/crti.o" "$lib/crtbeginS.o" "$@" \
+    "$lib/libc.so.6" "$lib/libc_nonshared.a" "$lib/libgcc.a" "$lib/crtendS.o" "$lib/crtn.o"

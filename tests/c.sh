@@ -1,0 +1,94 @@
+#!/bin/sh
+# The library as C sees it: include/rigtemple.h as C99 and as C++, the eight calls with a turned
+# screen, and the drill over the header against the oracle, byte for byte. The last line is
+# 'N passed, M failed'.
+#
+#   tests/c.sh [--engine] [--seed N] [--cards N] [--largest BYTES]
+#
+# --engine puts the C engine of bench/ in the library's place, and so holds that one against the
+# oracle the same way.
+set -eu
+
+die() { printf 'c.sh: %s\n' "$*" >&2; exit 2; }
+
+engine=
+seed=1
+cards=400
+largest=24128
+while [ $# -gt 0 ]; do
+    case $1 in
+    --engine) engine=--engine ;;
+    --seed) seed=${2:?--seed takes a number}; shift ;;
+    --cards) cards=${2:?--cards takes a number}; shift ;;
+    --largest) largest=${2:?--largest takes a number}; shift ;;
+    *) die "usage: c.sh [--engine] [--seed N] [--cards N] [--largest BYTES]" ;;
+    esac
+    shift
+done
+
+command -v rt >/dev/null || die "the command rt of the Rattle kit is missing"
+command -v python3 >/dev/null || die "python3 is missing"
+root=$(cd "$(dirname "$0")/.." && pwd)
+tests=$root/tests
+work=$root/target/c
+clang=$(cd "$(dirname "$(rt doc)")/.." && pwd)/on/$(uname -m)/toolchain/bin/clang
+archive=$("$tests/archive.sh" $engine)
+mkdir -p "$work"
+passed=0
+failed=0
+
+# Counts one check: the words after the first are a command that has to succeed.
+expect() { # WHAT COMMAND...
+    what=$1
+    shift
+    if "$@"; then
+        passed=$((passed + 1))
+    else
+        failed=$((failed + 1))
+        printf 'failed: %s\n' "$what"
+    fi
+}
+
+# The header by itself.
+header() { # LANGUAGE EDITION
+    printf '#include "rigtemple.h"\n' | "$clang" -x "$1" "-std=$2" -pedantic -Wall -Wextra -Werror \
+        --target=x86_64-unknown-linux-gnu -nostdinc -fsyntax-only -I "$root/include" \
+        -include "$tests/libc.h" -
+}
+expect "the header is C99" header c c99
+expect "the header is C++11" header c++ c++11
+
+# The eight calls, with the screen turned in the middle of a run.
+"$tests/build_c.sh" "$work/turned_screen" "$tests/turned_screen.c" "$tests/cards.c" "$archive"
+"$tests/run_c.sh" "$work/turned_screen" >"$work/turned_screen.out" || true
+cat "$work/turned_screen.out"
+last=$(tail -n 1 "$work/turned_screen.out")
+case $last in
+*' passed, '*' failed')
+    passed=$((passed + ${last%% passed*}))
+    counted=${last##*passed, }
+    failed=$((failed + ${counted% failed}))
+    ;;
+*)
+    printf 'failed: turned_screen did not end\n'
+    failed=$((failed + 1))
+    ;;
+esac
+
+# The drill over the header, and the oracle's answers: a check for each request.
+"$tests/build_c.sh" "$work/header_drill" "$tests/header_drill.c" "$archive"
+python3 "$root/oracle/cases.py" --seed "$seed" --cards "$cards" --largest "$largest" \
+    --requests "$work/requests" --answers "$work/answers" >"$work/cases.out"
+requests=$(awk 'END { print $NF }' "$work/cases.out")
+printf 'seed %s, %s cards, %s requests\n' "$seed" "$cards" "$requests"
+"$tests/run_c.sh" "$work/header_drill" <"$work/requests" >"$work/got" ||
+    printf 'header_drill ended before its input\n'
+if cmp "$work/answers" "$work/got"; then
+    passed=$((passed + requests))
+else
+    printf 'failed: the drill over the header answers otherwise than the oracle\n'
+    failed=$((failed + 1))
+fi
+
+printf '%s passed, %s failed\n' "$passed" "$failed"
+[ "$failed" -eq 0 ]

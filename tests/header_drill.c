@@ -1,0 +1,256 @@
+/*
+ * The drill over include/rigtemple.h: reads requests on standard input until the input ends and
+ * writes an answer for each, so that the library as C sees it can be compared with any other
+ * program, byte for byte. A request is a byte for its kind and what follows it:
+ *
+ *   0 card     length (2), bytes        the card of the requests that follow
+ *   1 check                             number (2)
+ *   2 load                              number (2), image
+ *   3 grade                             number (2), verdict (1), offender (1), its number (2)
+ *   4 list     image, room (2)          number (2), count (2), the lent list (room entries)
+ *   5 take     image, choice (2)        number (2), image
+ *   6 run      image, budget (2)        number (2), image, count (2), ending (1)
+ *   7 save     image, room (2)          number (2), the lent place (room bytes)
+ *   8 restore  length (2), bytes        number (2), image
+ *
+ * An image: beliefs (16), goals (16), plan length (2), phase (1), m (2), m bytes of the plan's
+ * array; the rest of it is zero. In an answer m is the least that serves. Lent buffers are lent
+ * filled with EE hex. What a refused grading says beside its number is written as 0. A request
+ * that breaks these rules ends the program.
+ */
+#include "libc.h"
+
+#include "../include/rigtemple.h"
+
+enum { CARD, CHECK, LOAD, GRADE, LIST, TAKE, RUN, SAVE, RESTORE };
+enum { LIST_LIMIT = 1024, SAVE_LIMIT = 2048, PLACE_LIMIT = 4096, LENT = 0xEE };
+
+static uint8_t card[65535];
+static size_t card_len;
+
+/* ---- standard input and output ---- */
+
+static uint8_t in[1 << 16], out[1 << 16];
+static size_t in_at, in_end, out_at;
+
+/* Writes what is waiting. */
+static void flush(void)
+{
+    size_t done = 0;
+    while (done < out_at) {
+        long count = write(1, out + done, out_at - done);
+        if (count <= 0)
+            exit(2);
+        done += (size_t)count;
+    }
+    out_at = 0;
+}
+
+/* Ends the program, with all answers written. */
+static void end(int status)
+{
+    flush();
+    exit(status);
+}
+
+/* Whether there is a byte more; it is read to `in`. */
+static int more(void)
+{
+    if (in_at < in_end)
+        return 1;
+    long count = read(0, in, sizeof in);
+    in_at = 0;
+    in_end = count > 0 ? (size_t)count : 0;
+    return in_end > 0;
+}
+
+static uint8_t get_byte(void)
+{
+    if (!more())
+        end(1);
+    return in[in_at++];
+}
+
+static void get_bytes(uint8_t *to, size_t count)
+{
+    for (size_t i = 0; i < count; i++)
+        to[i] = get_byte();
+}
+
+/* A number of two bytes, `most` at most. */
+static uint16_t get_number(unsigned most)
+{
+    unsigned low = get_byte(), value = low + 256u * get_byte();
+    if (value > most)
+        end(1);
+    return (uint16_t)value;
+}
+
+static void put_byte(uint8_t byte)
+{
+    if (out_at == sizeof out)
+        flush();
+    out[out_at++] = byte;
+}
+
+static void put_bytes(const uint8_t *from, size_t count)
+{
+    for (size_t i = 0; i < count; i++)
+        put_byte(from[i]);
+}
+
+static void put_number(uint16_t value)
+{
+    put_byte((uint8_t)value);
+    put_byte((uint8_t)(value >> 8));
+}
+
+/* ---- images ---- */
+
+static void get_image(struct rigtemple_configuration *c)
+{
+    memset(c, 0, sizeof *c);
+    get_bytes(c->beliefs, sizeof c->beliefs);
+    get_bytes(c->goals, sizeof c->goals);
+    c->length = get_number(65535);
+    c->phase = get_byte();
+    get_bytes(c->plan, get_number(sizeof c->plan));
+}
+
+static void put_image(const struct rigtemple_configuration *c)
+{
+    size_t m = sizeof c->plan;
+    while (m > 0 && c->plan[m - 1] == 0)
+        m--;
+    put_bytes(c->beliefs, sizeof c->beliefs);
+    put_bytes(c->goals, sizeof c->goals);
+    put_number(c->length);
+    put_byte(c->phase);
+    put_number((uint16_t)m);
+    put_bytes(c->plan, m);
+}
+
+/* ---- requests ---- */
+
+static void answer_load(void)
+{
+    struct rigtemple_configuration c;
+    memset(&c, LENT, sizeof c);
+    put_number(rigtemple_load(card, card_len, &c));
+    put_image(&c);
+}
+
+static void answer_grade(void)
+{
+    uint8_t verdict = LENT, offender = LENT;
+    uint16_t rule = LENT;
+    uint16_t number = rigtemple_grade(card, card_len, &verdict, &offender, &rule);
+    int done = number == RIGTEMPLE_DONE;
+    put_number(number);
+    put_byte(done ? verdict : 0);
+    put_byte(done ? offender : 0);
+    put_number(done ? rule : 0);
+}
+
+static void answer_list(void)
+{
+    struct rigtemple_configuration c;
+    uint16_t list[LIST_LIMIT], count = LENT;
+    get_image(&c);
+    size_t room = get_number(LIST_LIMIT);
+    memset(list, LENT, sizeof list);
+    put_number(rigtemple_list(card, card_len, &c, list, room, &count));
+    put_number(count);
+    for (size_t i = 0; i < room; i++)
+        put_number(list[i]);
+}
+
+static void answer_take(void)
+{
+    struct rigtemple_configuration c;
+    get_image(&c);
+    put_number(rigtemple_take(card, card_len, &c, get_number(65535)));
+    put_image(&c);
+}
+
+static void answer_run(void)
+{
+    struct rigtemple_configuration c;
+    uint16_t count = LENT;
+    uint8_t ending = LENT;
+    get_image(&c);
+    put_number(rigtemple_run(card, card_len, &c, get_number(65535), &count, &ending));
+    put_image(&c);
+    put_number(count);
+    put_byte(ending);
+}
+
+/* The count is not in the answer: one that is wrong ends the program. */
+static void answer_save(void)
+{
+    struct rigtemple_configuration c;
+    uint8_t place[SAVE_LIMIT];
+    uint16_t count = LENT;
+    get_image(&c);
+    size_t room = get_number(SAVE_LIMIT);
+    memset(place, LENT, sizeof place);
+    uint16_t number = rigtemple_save(card, card_len, &c, place, room, &count);
+    if (count != (number == RIGTEMPLE_DONE ? 44 + c.length : 0))
+        end(3);
+    put_number(number);
+    put_bytes(place, room);
+}
+
+static void answer_restore(void)
+{
+    struct rigtemple_configuration c;
+    uint8_t place[PLACE_LIMIT];
+    size_t place_len = get_number(PLACE_LIMIT);
+    get_bytes(place, place_len);
+    memset(&c, LENT, sizeof c);
+    put_number(rigtemple_restore(card, card_len, place, place_len, &c));
+    put_image(&c);
+}
+
+static void answer(uint8_t request)
+{
+    switch (request) {
+    case CARD:
+        card_len = get_number(sizeof card);
+        get_bytes(card, card_len);
+        break;
+    case CHECK:
+        put_number(rigtemple_check(card, card_len));
+        break;
+    case LOAD:
+        answer_load();
+        break;
+    case GRADE:
+        answer_grade();
+        break;
+    case LIST:
+        answer_list();
+        break;
+    case TAKE:
+        answer_take();
+        break;
+    case RUN:
+        answer_run();
+        break;
+    case SAVE:
+        answer_save();
+        break;
+    case RESTORE:
+        answer_restore();
+        break;
+    default:
+        end(1);
+    }
+}
+
+int main(void)
+{
+    while (more())
+        answer(get_byte());
+    end(0);
+}

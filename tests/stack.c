@@ -1,0 +1,140 @@
+/*
+ * The deepest stack of each call through include/rigtemple.h: the stack below the caller is
+ * painted, the call is made, and the paint that is gone tells how deep it went. The worst over a
+ * few cards (the stripe card, two maximal ones, the shared-nodes card, a refused one) and over
+ * configurations with an empty plan, a plan of 1,024 actions, and one that is refused. Fails if a
+ * call needs more than 8,192 bytes.
+ */
+#include "cards.h"
+
+#include "../include/rigtemple.h"
+
+enum { PAINTED = 65536, PAINT = 0xA5, LIMIT = 8192 };
+
+/* What the calls are made on. */
+static struct card_bytes card;
+static struct rigtemple_configuration held, c;
+static uint16_t list[RIGTEMPLE_MOST_CHOICES], choice, count, number;
+static uint8_t place[RIGTEMPLE_LARGEST_PLACE], kept[RIGTEMPLE_LARGEST_PLACE];
+static uint8_t verdict, offender, ending;
+static uint16_t kept_len;
+
+static void call_check(void)
+{
+    rigtemple_check(card.bytes, card.len);
+}
+
+static void call_load(void)
+{
+    rigtemple_load(card.bytes, card.len, &c);
+}
+
+static void call_grade(void)
+{
+    rigtemple_grade(card.bytes, card.len, &verdict, &offender, &number);
+}
+
+static void call_list(void)
+{
+    rigtemple_list(card.bytes, card.len, &c, list, RIGTEMPLE_MOST_CHOICES, &count);
+}
+
+static void call_take(void)
+{
+    rigtemple_take(card.bytes, card.len, &c, choice);
+}
+
+static void call_run(void)
+{
+    rigtemple_run(card.bytes, card.len, &c, 500, &count, &ending);
+}
+
+static void call_save(void)
+{
+    rigtemple_save(card.bytes, card.len, &c, place, sizeof place, &count);
+}
+
+static void call_restore(void)
+{
+    rigtemple_restore(card.bytes, card.len, kept, kept_len, &c);
+}
+
+static struct {
+    const char *name;
+    void (*make)(void);
+    size_t deepest;
+} calls[] = {
+    {"check", call_check, 0}, {"load", call_load, 0}, {"grade", call_grade, 0},
+    {"list", call_list, 0},   {"take", call_take, 0}, {"run", call_run, 0},
+    {"save", call_save, 0},   {"restore", call_restore, 0},
+};
+
+/* The stack of one call: how far below this function's own the paint is gone. */
+static __attribute__((noinline)) size_t stack_of(void (*make)(void))
+{
+    volatile uint8_t *own;
+    __asm__ volatile("movq %%rsp, %0" : "=r"(own));
+    for (size_t i = 1; i <= PAINTED; i++)
+        own[-(long)i] = PAINT;
+    make();
+    size_t deep = PAINTED;
+    while (deep > 0 && own[-(long)deep] == PAINT)
+        deep--;
+    return deep;
+}
+
+/* Makes every call on the card and the configuration at hand, each on a fresh copy. */
+static void measure(void)
+{
+    static const uint16_t choices[] = {0, 255, 256, 511, 512, 513, 767, 65535};
+    for (unsigned i = 0; i < sizeof calls / sizeof calls[0]; i++)
+        for (unsigned j = 0; j < sizeof choices / sizeof choices[0]; j++) {
+            c = held;
+            choice = choices[j];
+            size_t deep = stack_of(calls[i].make);
+            if (deep > calls[i].deepest)
+                calls[i].deepest = deep;
+        }
+}
+
+/* The card with the configuration it loads, with a plan of 1,024 actions in each phase, and with
+ * one that is refused; the place kept is that of the plan. */
+static void measure_card(void)
+{
+    kept_len = 0;
+    rigtemple_load(card.bytes, card.len, &held);
+    measure();
+    held.length = RIGTEMPLE_LONGEST_PLAN;
+    for (held.phase = 0; held.phase < 3; held.phase++) {
+        rigtemple_save(card.bytes, card.len, &held, kept, sizeof kept, &kept_len);
+        measure();
+    }
+    measure(); /* phase 3 */
+}
+
+int main(void)
+{
+    unsigned failed = 0, many = sizeof calls / sizeof calls[0];
+    stripe_card(&card);
+    measure_card();
+    endless_stripe_card(&card);
+    measure_card();
+    typical_card(&card);
+    measure_card();
+    worst_card(&card, 0);
+    measure_card();
+    worst_card(&card, 1);
+    measure_card();
+    shared_nodes_card(&card);
+    measure_card();
+    card.len = 64;
+    measure_card();
+    for (unsigned i = 0; i < many; i++) {
+        int over = calls[i].deepest > LIMIT;
+        printf("%-8s %6u bytes of stack%s\n", calls[i].name, (unsigned)calls[i].deepest,
+               over ? ", which is over the limit" : "");
+        failed += over;
+    }
+    printf("%u passed, %u failed\n", many - failed, failed);
+    return failed != 0;
+}
