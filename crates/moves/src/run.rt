@@ -7,7 +7,6 @@ ghost use Rattle.meaning.specs.Refusals.{cardAnswer};
 ghost use Rattle.meaning.specs.Calls.{runs};
 use crate::configuration::configuration_good;
 use crate::configuration::mind_of;
-use crate::configuration::with_mind;
 use crate::turn::turns;
 use house::Ending;
 use meaning::Answer;
@@ -34,11 +33,16 @@ pub fn run(card: &[u8], l: Layout, c: Configuration, budget: u16) -> Ran
     let t = turns(card, l, m, &mut d.plan, budget);
     let after = t.mind;
     let ending = t.ending;
-    let reached = with_mind(d, after);
+    let beliefs = after.beliefs;
+    let goals = after.goals;
+    d.beliefs = beliefs;
+    d.goals = goals;
+    d.length = after.length as u16;
+    d.phase = after.phase;
     Ran {
         answer: Answer::Done,
         count: t.count,
         ending: ending,
-        configuration: reached,
+        configuration: d,
     }
 }

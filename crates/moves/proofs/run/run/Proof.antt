@@ -24,7 +24,6 @@ use Rattle.moves.proofs.run.run.Reads as reads
 use Rattle.moves.proofs.run.run.Lts as lts
 use Rattle.moves.proofs.configuration.configuration_good.Reads as configuration-good-reads
 use Rattle.moves.proofs.configuration.mind_of.Reads as mind-of-reads
-use Rattle.moves.proofs.configuration.with_mind.Reads as with-mind-reads
 use Rattle.moves.proofs.turn.turns.Reads as turns-reads
 
 -- src/run.rt:24:9
@@ -58,31 +57,32 @@ turns-requires c κs =
     let q : a .c .phase < 3 = omega arith in
     (good-card (a .l) (now (a .card)) (p .0) (p .1), subst (λ (x : Mind). Held x (a .c .plan)) (sym (m .0)) h, subst (λ (x : Mind). x .phase < 3) (sym (m .0)) q)
 
--- src/run.rt:37:9
-with-mind-requires : tie.Need-with-mind-requires
-with-mind-requires c κs =
-    let a = c .before .before .before .before .before .before .before .args in
-    let p = c .before .before .before .before .before .before .before .pre in
-    let e = judged-good (a .l) (now (a .card)) (a .c) (p .0) (p .1) (c .before .before .before .before .before .configuration-good .result) (c .before .before .before .before .before .configuration-good .ensures) (c .before .before .before .before .if1 .left) in
-    let m = c .before .before .before .mind-of in
+-- src/run.rt:39:16
+cast-d : tie.Need-cast-d
+cast-d c =
+    let a = c .before .before .before .before .before .before .before .before .before .before .args in
+    let p = c .before .before .before .before .before .before .before .before .before .before .pre in
+    let e = judged-good (a .l) (now (a .card)) (a .c) (p .0) (p .1) (c .before .before .before .before .before .before .before .before .configuration-good .result) (c .before .before .before .before .before .before .before .before .configuration-good .ensures) (c .before .before .before .before .before .before .before .if1 .left) in
+    let m = c .before .before .before .before .before .before .mind-of in
     let h = held-configuration (a .l) (a .c) (m .ensures .1) (e .0) in
-    let t = c .before .turns in
+    let t = c .before .before .before .before .turns in
     let A = agentFor (a .l) (now (a .card)) in
     let r = ran-state A (a .budget) (a .c) (m .result) (m .ensures .0) (t .result) (t .last .1 .1 .1 .0) (t .ensures) in
-    ran-within A (a .budget) (a .c) (t .result) (r .0) h
+    let w : t .result .mind .length ≤ 1024 = ran-within A (a .budget) (a .c) (t .result) (r .0) h in
+    omega (arith, w)
 
 -- src/run.rt:20:1
 returns-2 : tie.Need-returns-2
 unfolding agent
 returns-2 c =
-    let a = c .before .before .before .before .before .before .before .before .args in
-    let p = c .before .before .before .before .before .before .before .before .pre in
-    let e = judged-good (a .l) (now (a .card)) (a .c) (p .0) (p .1) (c .before .before .before .before .before .before .configuration-good .result) (c .before .before .before .before .before .before .configuration-good .ensures) (c .before .before .before .before .before .if1 .left) in
-    let m = c .before .before .before .before .mind-of in
-    let t = c .before .before .turns in
+    let a = c .before .before .before .before .before .before .before .before .before .before .args in
+    let p = c .before .before .before .before .before .before .before .before .before .before .pre in
+    let e = judged-good (a .l) (now (a .card)) (a .c) (p .0) (p .1) (c .before .before .before .before .before .before .before .before .configuration-good .result) (c .before .before .before .before .before .before .before .before .configuration-good .ensures) (c .before .before .before .before .before .before .before .if1 .left) in
+    let m = c .before .before .before .before .before .before .mind-of in
+    let t = c .before .before .before .before .turns in
     let A = agentFor (a .l) (now (a .card)) in
     let r = ran-state A (a .budget) (a .c) (m .result) (m .ensures .0) (t .result) (t .last .1 .1 .1 .0) (t .ensures) in
-    let g = ran-good A (a .budget) (a .c) (t .result) (r .0) (t .last .1 .1 .1 .0) (r .1) (c .with-mind .result) (c .with-mind .ensures) in
+    let g = ran-good A (a .budget) (a .c) (t .result) (r .0) (t .last .1 .1 .1 .0) (r .1) _ refl in
     g ∙ ap (λ (l : Layout). ran (run (agentFor l (now (a .card))) (a .budget) (stateOf (a .c)))) (p .1) ∙ sym (runs-good (now (a .card)) (a .c) (e .1) (a .budget))
 
 pub run-spec : {M : Type 1} → statement M
@@ -93,5 +93,5 @@ run-spec =
     returns
     mind-of-requires
     turns-requires
-    with-mind-requires
+    cast-d
     returns-2)
