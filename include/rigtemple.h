@@ -14,7 +14,7 @@
  *    first (1 to 9 in that order), then the place's (1, 2, 3, 4, 8, 9) or the
  *    configuration's (13), then 10, 11 and 12.
  *  - Every buffer is the caller's. The library keeps no memory, no pointer and no state
- *    between calls, allocates nothing, and needs at most 8,448 bytes of stack.
+ *    between calls, allocates nothing, and needs at most 8,192 bytes of stack.
  *  - No pointer may be null, not even beside a length of 0, and no two that are given to
  *    one call may overlap. Pointers to uint16_t are aligned as C has it. Give a buffer to
  *    one thread at a time.
