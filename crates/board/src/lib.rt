@@ -1,114 +1,16 @@
 // The board: the guide's eight calls for C, as include/rigtemple.h declares them. A configuration is lent in its five parts;
 // the return value is the answer's number.
 ghost use mathlib.Core.Path.{_≡_};
-ghost use Prim.Native.Nat.{_<_};
 ghost use Rattle.meaning.specs.Calls.{checks, loads, grades, lists, listLeaves, takes, runs, saves, saveLeaves, restores};
-ghost use Rattle.meaning.specs.Refusals.{numberOf, answerNumber};
-ghost use Rattle.board.specs.Numbers.{checkedNumber, endingNumber, verdictNumber, offenderNumber, offenderRule, verdictOffender, verdictRule};
-ghost use Rattle.board.specs.Numbers.{whole, replied, gradedAs, wrote, ranTo};
-use house::Ending;
-use house::Offender;
-use house::Verdict;
-use meaning::Answer;
+ghost use Rattle.board.specs.Parts.{checkedNumber, whole, replied, gradedAs, wrote, ranTo};
+use answers::answer_number;
+use answers::ending_number;
+use answers::refusal_number;
+use answers::verdict_number;
+use answers::verdict_offender;
+use answers::verdict_rule;
 use meaning::Checked;
 use meaning::Configuration;
-use meaning::Refusal;
-
-// A refusal's number.
-fn refusal_number(r: Refusal) -> u16
-    ensures { λ n. ⌜ n ≡ numberOf r ⌝ }
-{
-    match r {
-        Refusal::Short => 1,
-        Refusal::Mark => 2,
-        Refusal::Count => 3,
-        Refusal::Offsets => 4,
-        Refusal::Weight => 5,
-        Refusal::Node => 6,
-        Refusal::Rule => 7,
-        Refusal::ActionByte => 8,
-        Refusal::Atom => 9,
-        Refusal::Configuration => 13,
-        Refusal::NotEnabled => 10,
-        Refusal::PlanFull => 11,
-        Refusal::NoRoom => 12,
-    }
-}
-
-// An answer's number: 0 for done.
-fn answer_number(a: Answer) -> u16
-    ensures { λ n. ⌜ n ≡ answerNumber a ⌝ }
-{
-    match a {
-        Answer::Done => 0,
-        Answer::Refused(r) => refusal_number(r),
-    }
-}
-
-// An ending's number.
-fn ending_number(e: Ending) -> u8
-    ensures { λ n. ⌜ n ≡ endingNumber e ⌝ }
-{
-    match e {
-        Ending::Spent => 0,
-        Ending::Rest => 1,
-        Ending::Full => 2,
-    }
-}
-
-// A verdict's number.
-fn verdict_number(v: Verdict) -> u8
-    ensures { λ n. ⌜ n ≡ verdictNumber v ⌝ }
-{
-    match v {
-        Verdict::Bounded => 0,
-        Verdict::Open(_) => 1,
-    }
-}
-
-// The number of an offender's kind.
-fn offender_number(o: Offender) -> u8
-    ensures { λ n. ⌜ n ≡ offenderNumber o ⌝ }
-{
-    match o {
-        Offender::InitialPlan => 1,
-        Offender::Selection(_) => 2,
-        Offender::Revision(_) => 3,
-    }
-}
-
-// The number of a verdict's offender, 0 for none.
-fn verdict_offender(v: Verdict) -> u8
-    ensures { λ n. ⌜ n ≡ verdictOffender v ⌝ }
-{
-    match v {
-        Verdict::Bounded => 0,
-        Verdict::Open(o) => offender_number(o),
-    }
-}
-
-// The number of the rule that an offender is.
-fn offender_rule(o: Offender) -> u16
-    requires { ⌜ offenderRule o < 65536 ⌝ }
-    ensures { λ n. ⌜ n ≡ offenderRule o ⌝ }
-{
-    match o {
-        Offender::InitialPlan => 0,
-        Offender::Selection(n) => n as u16,
-        Offender::Revision(n) => n as u16,
-    }
-}
-
-// The number of the rule that a verdict's offender is.
-fn verdict_rule(v: Verdict) -> u16
-    requires { ⌜ verdictRule v < 65536 ⌝ }
-    ensures { λ n. ⌜ n ≡ verdictRule v ⌝ }
-{
-    match v {
-        Verdict::Bounded => 0,
-        Verdict::Open(o) => offender_rule(o),
-    }
-}
 
 // Whether a card is good.
 #[no_mangle]

@@ -1,35 +1,16 @@
 // Document 01's program: it reads a card on standard input (at most 24,129 bytes), loads it and runs it with budget 1,000, a line
 // a step.
 ghost use Prim.Native.Nat.{_≤_};
+use answers::refusal_number;
 use card::readers::number_at;
 use house::Verdict;
 use meaning::Answer;
 use meaning::Configuration;
-use meaning::Refusal;
 
 // The guide's move as a code, or none.
 enum Picked {
     Code(u16),
     Nothing,
-}
-
-// The number of a refusal (document 01, "Numbers the guide may answer").
-fn number_of(refusal: Refusal) -> u64 {
-    match refusal {
-        Refusal::Short => 1,
-        Refusal::Mark => 2,
-        Refusal::Count => 3,
-        Refusal::Offsets => 4,
-        Refusal::Weight => 5,
-        Refusal::Node => 6,
-        Refusal::Rule => 7,
-        Refusal::ActionByte => 8,
-        Refusal::Atom => 9,
-        Refusal::Configuration => 13,
-        Refusal::NotEnabled => 10,
-        Refusal::PlanFull => 11,
-        Refusal::NoRoom => 12,
-    }
 }
 
 // A word, and the end of the line.
@@ -172,7 +153,7 @@ fn show(card: &[u8]) {
         return;
     };
     io::write_all(1, b"refused");
-    also(number_of(refusal));
+    also(refusal_number(refusal) as u64);
     end(b"");
 }
 

@@ -1,4 +1,4 @@
-use Rattle.board.specs.Numbers.{checkedNumber}
+use Rattle.board.specs.Parts.{checkedNumber}
 use Rattle.meaning.specs.Calls.{checks}
 use mathlib.Core.Path.{_≡_, refl, sym, ap, _∙_}
 use mathlib.Core.List.{List, [], _∷_, _++_, append-nil, append-assoc}
@@ -11,7 +11,7 @@ use Rattle.board.proofs.rigtemple_check_parts.Statement.{statement}
 use Rattle.board.proofs.rigtemple_check_parts.Tie as tie
 use Rattle.board.proofs.rigtemple_check_parts.Reads as reads
 use Rattle.board.proofs.rigtemple_check_parts.Lts as lts
-use Rattle.board.proofs.refusal_number.Reads as refusal-number-reads
+use Rattle.answers.proofs.refusal_number.Reads as refusal-number-reads
 use Rattle.guide.proofs.check.Reads as check-reads
 
 -- src/lib.rt:60:9

@@ -1,6 +1,6 @@
-use Rattle.board.proofs.Laws.{grades-narrow}
+use Rattle.answers.proofs.Laws.{grades-narrow}
 use mathlib.Core.Path.{subst}
-use Rattle.board.specs.Numbers.{verdictNumber, verdictOffender, verdictRule}
+use Rattle.answers.specs.Numbers.{verdictNumber, verdictOffender, verdictRule}
 use Rattle.meaning.specs.Refusals.{answerNumber}
 use Rattle.meaning.specs.declared.Graded.{Graded}
 use mathlib.Core.Path.{_≡_, refl, sym, ap, _∙_}
@@ -14,10 +14,10 @@ use Rattle.board.proofs.rigtemple_grade_parts.Statement.{statement}
 use Rattle.board.proofs.rigtemple_grade_parts.Tie as tie
 use Rattle.board.proofs.rigtemple_grade_parts.Reads as reads
 use Rattle.board.proofs.rigtemple_grade_parts.Lts as lts
-use Rattle.board.proofs.answer_number.Reads as answer-number-reads
-use Rattle.board.proofs.verdict_number.Reads as verdict-number-reads
-use Rattle.board.proofs.verdict_offender.Reads as verdict-offender-reads
-use Rattle.board.proofs.verdict_rule.Reads as verdict-rule-reads
+use Rattle.answers.proofs.answer_number.Reads as answer-number-reads
+use Rattle.answers.proofs.verdict_number.Reads as verdict-number-reads
+use Rattle.answers.proofs.verdict_offender.Reads as verdict-offender-reads
+use Rattle.answers.proofs.verdict_rule.Reads as verdict-rule-reads
 use Rattle.guide.proofs.grade.Reads as grade-reads
 
 -- src/lib.rt:311:9

@@ -1,4 +1,4 @@
-use Rattle.board.specs.Numbers.{endingNumber}
+use Rattle.answers.specs.Numbers.{endingNumber}
 use Rattle.meaning.specs.Refusals.{answerNumber}
 use Rattle.meaning.specs.declared.Ran.{Ran}
 use mathlib.Core.Path.{_≡_, refl, sym, ap, _∙_}
@@ -12,8 +12,8 @@ use Rattle.board.proofs.rigtemple_run_parts.Statement.{statement}
 use Rattle.board.proofs.rigtemple_run_parts.Tie as tie
 use Rattle.board.proofs.rigtemple_run_parts.Reads as reads
 use Rattle.board.proofs.rigtemple_run_parts.Lts as lts
-use Rattle.board.proofs.answer_number.Reads as answer-number-reads
-use Rattle.board.proofs.ending_number.Reads as ending-number-reads
+use Rattle.answers.proofs.answer_number.Reads as answer-number-reads
+use Rattle.answers.proofs.ending_number.Reads as ending-number-reads
 use Rattle.guide.proofs.run.Reads as run-reads
 
 -- src/lib.rt:149:9

@@ -11,7 +11,7 @@ use Rattle.board.proofs.rigtemple_save_parts.Statement.{statement}
 use Rattle.board.proofs.rigtemple_save_parts.Tie as tie
 use Rattle.board.proofs.rigtemple_save_parts.Reads as reads
 use Rattle.board.proofs.rigtemple_save_parts.Lts as lts
-use Rattle.board.proofs.answer_number.Reads as answer-number-reads
+use Rattle.answers.proofs.answer_number.Reads as answer-number-reads
 use Rattle.guide.proofs.save.Reads as save-reads
 
 -- src/lib.rt:241:9

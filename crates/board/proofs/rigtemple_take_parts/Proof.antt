@@ -11,7 +11,7 @@ use Rattle.board.proofs.rigtemple_take_parts.Statement.{statement}
 use Rattle.board.proofs.rigtemple_take_parts.Tie as tie
 use Rattle.board.proofs.rigtemple_take_parts.Reads as reads
 use Rattle.board.proofs.rigtemple_take_parts.Lts as lts
-use Rattle.board.proofs.answer_number.Reads as answer-number-reads
+use Rattle.answers.proofs.answer_number.Reads as answer-number-reads
 use Rattle.guide.proofs.take.Reads as take-reads
 
 -- src/lib.rt:113:9

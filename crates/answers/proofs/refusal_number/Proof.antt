@@ -6,10 +6,10 @@ use native.Mathlib.Omega.{arith}
 use borrow.Author.Needs.{needs}
 use denote.Ref.{now}
 use lib.ListN.{length, getD, set, take, drop, replicate}
-use Rattle.board.proofs.refusal_number.Statement.{statement}
-use Rattle.board.proofs.refusal_number.Tie as tie
-use Rattle.board.proofs.refusal_number.Reads as reads
-use Rattle.board.proofs.refusal_number.Lts as lts
+use Rattle.answers.proofs.refusal_number.Statement.{statement}
+use Rattle.answers.proofs.refusal_number.Tie as tie
+use Rattle.answers.proofs.refusal_number.Reads as reads
+use Rattle.answers.proofs.refusal_number.Lts as lts
 
 -- src/lib.rt:18:27
 enum-told : tie.Need-enum-told

@@ -1,10 +1,7 @@
--- The numbers and parts in which C sees what the guide answers: include/rigtemple.h.
+-- The parts in which C sees what the guide answers: include/rigtemple.h.
 use mathlib.Core.Path.{_≡_}
 use mathlib.Core.List.{List}
 use Prim.Native.Nat.{ℕ}
-use Rattle.house.specs.declared.Ending.{Ending}
-use Rattle.house.specs.declared.Offender.{Offender}
-use Rattle.house.specs.declared.Verdict.{Verdict}
 use Rattle.meaning.specs.declared.Checked.{Checked}
 use Rattle.meaning.specs.declared.Configuration.{Configuration}
 use Rattle.meaning.specs.declared.Reply.{Reply}
@@ -13,45 +10,12 @@ use Rattle.meaning.specs.declared.Written.{Written}
 use Rattle.meaning.specs.declared.Ran.{Ran}
 use Rattle.meaning.specs.Card.{Bytes}
 use Rattle.meaning.specs.Refusals.{numberOf, answerNumber}
+use Rattle.answers.specs.Numbers.{endingNumber, verdictNumber, verdictOffender, verdictRule}
 
 -- What `check` returns: 0 for "done: none of those below", or the refusal's number.
 unfoldable pub checkedNumber : Checked → ℕ
 checkedNumber (Checked.Good l) = 0
 checkedNumber (Checked.Refused r) = numberOf r
-
--- 0 "as many moves were taken as the budget allows"; 1 "no move is possible"; 2 "the next move would leave more than 1,024
--- actions; it is not taken"
-unfoldable pub endingNumber : Ending → ℕ
-endingNumber Ending.Spent = 0
-endingNumber Ending.Rest = 1
-endingNumber Ending.Full = 2
-
--- 0 "starting plans weigh at most 1,024, revisions lower the weight"; 1 "not so; an open card runs too"
-unfoldable pub verdictNumber : Verdict → ℕ
-verdictNumber Verdict.Bounded = 0
-verdictNumber (Verdict.Open o) = 1
-
--- what makes a card open: 1 the initial plan, 2 a selection rule, 3 a revision rule
-unfoldable pub offenderNumber : Offender → ℕ
-offenderNumber Offender.InitialPlan = 1
-offenderNumber (Offender.Selection n) = 2
-offenderNumber (Offender.Revision n) = 3
-
--- the same of a verdict: 0 where nothing makes the card open
-unfoldable pub verdictOffender : Verdict → ℕ
-verdictOffender Verdict.Bounded = 0
-verdictOffender (Verdict.Open o) = offenderNumber o
-
--- The number of the selection or revision rule, counted from 0; 0 where there is none.
-unfoldable pub offenderRule : Offender → ℕ
-offenderRule Offender.InitialPlan = 0
-offenderRule (Offender.Selection n) = n
-offenderRule (Offender.Revision n) = n
-
--- the same of a verdict
-unfoldable pub verdictRule : Verdict → ℕ
-verdictRule Verdict.Bounded = 0
-verdictRule (Verdict.Open o) = offenderRule o
 
 -- A configuration from its parts: "`beliefs` and `goals` are 16 bytes each, `plan` is 1,024 bytes."
 abbrev pub whole : Bytes → Bytes → Bytes → ℕ → ℕ → Configuration

@@ -6,11 +6,11 @@ use native.Mathlib.Omega.{arith}
 use borrow.Author.Needs.{needs}
 use denote.Ref.{now}
 use lib.ListN.{length, getD, set, take, drop, replicate}
-use Rattle.board.proofs.answer_number.Statement.{statement}
-use Rattle.board.proofs.answer_number.Tie as tie
-use Rattle.board.proofs.answer_number.Reads as reads
-use Rattle.board.proofs.answer_number.Lts as lts
-use Rattle.board.proofs.refusal_number.Reads as refusal-number-reads
+use Rattle.answers.proofs.answer_number.Statement.{statement}
+use Rattle.answers.proofs.answer_number.Tie as tie
+use Rattle.answers.proofs.answer_number.Reads as reads
+use Rattle.answers.proofs.answer_number.Lts as lts
+use Rattle.answers.proofs.refusal_number.Reads as refusal-number-reads
 
 -- src/lib.rt:39:25
 enum-told : tie.Need-enum-told

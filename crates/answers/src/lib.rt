@@ -1,0 +1,106 @@
+// The numbers in which what the guide answers is told to others: the header, the drill and the program.
+ghost use mathlib.Core.Path.{_≡_};
+ghost use Prim.Native.Nat.{_<_};
+ghost use Rattle.meaning.specs.Refusals.{numberOf, answerNumber};
+ghost use Rattle.answers.specs.Numbers.{endingNumber, verdictNumber, offenderNumber, offenderRule, verdictOffender, verdictRule};
+use house::Ending;
+use house::Offender;
+use house::Verdict;
+use meaning::Answer;
+use meaning::Refusal;
+
+// A refusal's number.
+pub fn refusal_number(r: Refusal) -> u16
+    ensures { λ n. ⌜ n ≡ numberOf r ⌝ }
+{
+    match r {
+        Refusal::Short => 1,
+        Refusal::Mark => 2,
+        Refusal::Count => 3,
+        Refusal::Offsets => 4,
+        Refusal::Weight => 5,
+        Refusal::Node => 6,
+        Refusal::Rule => 7,
+        Refusal::ActionByte => 8,
+        Refusal::Atom => 9,
+        Refusal::Configuration => 13,
+        Refusal::NotEnabled => 10,
+        Refusal::PlanFull => 11,
+        Refusal::NoRoom => 12,
+    }
+}
+
+// An answer's number: 0 for done.
+pub fn answer_number(a: Answer) -> u16
+    ensures { λ n. ⌜ n ≡ answerNumber a ⌝ }
+{
+    match a {
+        Answer::Done => 0,
+        Answer::Refused(r) => refusal_number(r),
+    }
+}
+
+// An ending's number.
+pub fn ending_number(e: Ending) -> u8
+    ensures { λ n. ⌜ n ≡ endingNumber e ⌝ }
+{
+    match e {
+        Ending::Spent => 0,
+        Ending::Rest => 1,
+        Ending::Full => 2,
+    }
+}
+
+// A verdict's number.
+pub fn verdict_number(v: Verdict) -> u8
+    ensures { λ n. ⌜ n ≡ verdictNumber v ⌝ }
+{
+    match v {
+        Verdict::Bounded => 0,
+        Verdict::Open(_) => 1,
+    }
+}
+
+// The number of an offender's kind.
+pub fn offender_number(o: Offender) -> u8
+    ensures { λ n. ⌜ n ≡ offenderNumber o ⌝ }
+{
+    match o {
+        Offender::InitialPlan => 1,
+        Offender::Selection(_) => 2,
+        Offender::Revision(_) => 3,
+    }
+}
+
+// The number of a verdict's offender, 0 for none.
+pub fn verdict_offender(v: Verdict) -> u8
+    ensures { λ n. ⌜ n ≡ verdictOffender v ⌝ }
+{
+    match v {
+        Verdict::Bounded => 0,
+        Verdict::Open(o) => offender_number(o),
+    }
+}
+
+// The number of the rule that an offender is.
+pub fn offender_rule(o: Offender) -> u16
+    requires { ⌜ offenderRule o < 65536 ⌝ }
+    ensures { λ n. ⌜ n ≡ offenderRule o ⌝ }
+{
+    match o {
+        Offender::InitialPlan => 0,
+        Offender::Selection(n) => n as u16,
+        Offender::Revision(n) => n as u16,
+    }
+}
+
+// The number of the rule that a verdict's offender is.
+pub fn verdict_rule(v: Verdict) -> u16
+    requires { ⌜ verdictRule v < 65536 ⌝ }
+    ensures { λ n. ⌜ n ≡ verdictRule v ⌝ }
+{
+    match v {
+        Verdict::Bounded => 0,
+        Verdict::Open(o) => offender_rule(o),
+    }
+}

@@ -1,0 +1,86 @@
+use Rattle.answers.proofs.Laws.{grades-narrow}
+use mathlib.Core.Path.{subst}
+use Rattle.answers.specs.Numbers.{verdictRule}
+use Rattle.meaning.specs.declared.Graded.{Graded}
+use mathlib.Core.Path.{_≡_, refl, sym, ap, _∙_}
+use mathlib.Core.List.{List, [], _∷_, _++_, append-nil, append-assoc}
+use Prim.Native.Nat.{ℕ, suc, _+_, _-_, _*_, _≤_, _<_}
+use native.Mathlib.Omega.{arith}
+use borrow.Author.Needs.{needs}
+use denote.Ref.{now}
+use lib.ListN.{length, getD, set, take, drop, replicate}
+use Rattle.drill.proofs.grade.Statement.{statement}
+use Rattle.drill.proofs.grade.Tie as tie
+use Rattle.drill.proofs.grade.Reads as reads
+use Rattle.drill.proofs.grade.Lts as lts
+use Rattle.answers.proofs.answer_number.Reads as answer-number-reads
+use Rattle.answers.proofs.verdict_number.Reads as verdict-number-reads
+use Rattle.answers.proofs.verdict_offender.Reads as verdict-offender-reads
+use Rattle.answers.proofs.verdict_rule.Reads as verdict-rule-reads
+use Rattle.drill.proofs.tell.Reads as tell-reads
+use Rattle.drill.proofs.tell_verdict.Reads as tell-verdict-reads
+use Rattle.guide.proofs.grade.Reads as grade-reads
+
+-- src/main.rt:182:9
+grade-requires : tie.Need-grade-requires
+grade-requires c κs = search needs
+
+-- src/main.rt:185:9
+verdict-rule-requires : tie.Need-verdict-rule-requires
+verdict-rule-requires c κs = subst (λ (x : Graded). verdictRule (x .verdict) < 65536) (sym (c .grade .ensures)) (grades-narrow (now (c .before .before .args .card)))
+
+-- src/main.rt:186:10
+answer-number-requires : tie.Need-answer-number-requires
+answer-number-requires c κs = search needs
+
+-- src/main.rt:186:5
+tell-requires : tie.Need-tell-requires
+tell-requires c κs = search needs
+
+enum-told : tie.Need-enum-told
+enum-told c = search needs
+
+-- src/main.rt:188:9
+enum-told-2 : tie.Need-enum-told-2
+enum-told-2 c = search needs
+
+-- src/main.rt:188:9
+tell-verdict-requires : tie.Need-tell-verdict-requires
+tell-verdict-requires c κs = search needs
+
+-- src/main.rt:189:9
+returns : tie.Need-returns
+returns c = search needs
+
+-- src/main.rt:191:18
+verdict-number-requires : tie.Need-verdict-number-requires
+verdict-number-requires c κs = search needs
+
+-- src/main.rt:191:37
+verdict-offender-requires : tie.Need-verdict-offender-requires
+verdict-offender-requires c κs = search needs
+
+-- src/main.rt:191:5
+tell-verdict-requires-2 : tie.Need-tell-verdict-requires-2
+tell-verdict-requires-2 c κs = search needs
+
+-- src/main.rt:181:1
+returns-2 : tie.Need-returns-2
+returns-2 c = search needs
+
+pub grade-spec : {M : Type 1} → statement M
+grade-spec =
+    tie.close
+    (tie.spec
+    grade-requires
+    verdict-rule-requires
+    answer-number-requires
+    tell-requires
+    enum-told
+    enum-told-2
+    tell-verdict-requires
+    returns
+    verdict-number-requires
+    verdict-offender-requires
+    tell-verdict-requires-2
+    returns-2)

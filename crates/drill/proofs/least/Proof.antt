@@ -1,0 +1,64 @@
+use mathlib.Core.Path.{_≡_, refl, sym, ap, _∙_}
+use mathlib.Core.List.{List, [], _∷_, _++_, append-nil, append-assoc}
+use Prim.Native.Nat.{ℕ, suc, _+_, _-_, _*_, _≤_, _<_}
+use native.Mathlib.Omega.{arith}
+use borrow.Author.Needs.{needs}
+use denote.Ref.{now}
+use lib.ListN.{length, getD, set, take, drop, replicate}
+use Rattle.drill.proofs.least.Statement.{statement}
+use Rattle.drill.proofs.least.Tie as tie
+use Rattle.drill.proofs.least.Reads as reads
+use Rattle.drill.proofs.least.Lts as lts
+
+abbrev Inv-loop : tie.InvT-loop
+Inv-loop plan m₀ m = m ≤ 1024
+
+abbrev μ-loop : tie.MeasureT-loop
+μ-loop plan m₀ m = m
+
+-- src/main.rt:124:5
+loop-holds : tie.Need-loop-holds Inv-loop μ-loop
+loop-holds c = search needs
+
+-- src/main.rt:125:17
+sub-if1 : tie.Need-sub-if1 Inv-loop μ-loop
+sub-if1 c = search needs
+
+-- src/main.rt:125:12
+element-copy-out-if1 : tie.Need-element-copy-out-if1 Inv-loop μ-loop
+element-copy-out-if1 c = search needs
+
+-- src/main.rt:126:13
+returns : tie.Need-returns Inv-loop μ-loop
+returns c = search needs
+
+-- src/main.rt:128:9
+sub-m : tie.Need-sub-m Inv-loop μ-loop
+sub-m c = search needs
+
+-- src/main.rt:124:5
+loop-less : tie.Need-loop-less Inv-loop μ-loop
+loop-less c = search needs
+
+-- src/main.rt:124:5
+loop-again : tie.Need-loop-again Inv-loop μ-loop
+loop-again c = search needs
+
+-- src/main.rt:120:1
+returns-2 : tie.Need-returns-2 Inv-loop μ-loop
+returns-2 c = search needs
+
+pub least-spec : {M : Type 1} → statement M
+least-spec =
+    tie.close
+    (tie.spec
+    Inv-loop
+    μ-loop
+    loop-holds
+    sub-if1
+    element-copy-out-if1
+    returns
+    sub-m
+    loop-less
+    loop-again
+    returns-2)

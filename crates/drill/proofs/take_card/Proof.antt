@@ -1,0 +1,91 @@
+use lib.Seq.{length-take-le}
+use mathlib.Core.Path.{_≡_, refl, sym, ap, _∙_}
+use mathlib.Core.List.{List, [], _∷_, _++_, append-nil, append-assoc}
+use Prim.Native.Nat.{ℕ, suc, _+_, _-_, _*_, _≤_, _<_}
+use native.Mathlib.Omega.{arith}
+use borrow.Author.Needs.{needs}
+use denote.Ref.{now}
+use lib.ListN.{length, getD, set, take, drop, replicate}
+use Rattle.drill.proofs.take_card.Statement.{statement}
+use Rattle.drill.proofs.take_card.Tie as tie
+use Rattle.drill.proofs.take_card.Reads as reads
+use Rattle.drill.proofs.take_card.Lts as lts
+use Rattle.drill.proofs.fill.Reads as fill-reads
+use Rattle.drill.proofs.next_number.Reads as next-number-reads
+
+-- src/main.rt:17:9
+next-number-requires : tie.Need-next-number-requires
+next-number-requires c κs = search needs
+
+-- src/main.rt:18:20
+enum-known-size : tie.Need-enum-known-size
+enum-known-size c = search needs
+
+-- src/main.rt:19:9
+enum-told : tie.Need-enum-told
+enum-told c = search needs
+
+-- src/main.rt:19:9
+returns : tie.Need-returns
+returns c = search needs
+
+-- src/main.rt:21:21
+cast-if1 : tie.Need-cast-if1
+cast-if1 c = search needs
+
+-- src/main.rt:22:9
+returns-2 : tie.Need-returns-2
+returns-2 c = search needs
+
+-- src/main.rt:24:31
+cast-fill : tie.Need-cast-fill
+cast-fill c = search needs
+
+-- src/main.rt:24:19
+slice-relend-prefix-fill : tie.Need-slice-relend-prefix-fill
+slice-relend-prefix-fill c = search needs
+
+-- src/main.rt:24:19
+slice-aggregate-fill : tie.Need-slice-aggregate-fill
+slice-aggregate-fill c =
+    let h : c .before .before .before .size .given .0 .0 ≤ length (now (c .before .before .before .before .before .before .before .args .card)) = omega arith in
+    sym (length-take-le _ _ h)
+
+-- src/main.rt:24:9
+fill-requires : tie.Need-fill-requires
+fill-requires c κs = search needs
+
+-- src/main.rt:25:9
+same-length : tie.Need-same-length
+same-length c = search needs
+
+-- src/main.rt:25:9
+returns-3 : tie.Need-returns-3
+returns-3 c = search needs
+
+-- src/main.rt:16:1
+same-length-2 : tie.Need-same-length-2
+same-length-2 c = search needs
+
+-- src/main.rt:16:1
+returns-4 : tie.Need-returns-4
+returns-4 c = search needs
+
+pub take-card-spec : {M : Type 1} → statement M
+take-card-spec =
+    tie.close
+    (tie.spec
+    next-number-requires
+    enum-known-size
+    enum-told
+    returns
+    cast-if1
+    returns-2
+    cast-fill
+    slice-relend-prefix-fill
+    slice-aggregate-fill
+    fill-requires
+    same-length
+    returns-3
+    same-length-2
+    returns-4)

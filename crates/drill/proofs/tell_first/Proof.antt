@@ -1,0 +1,36 @@
+use lib.Seq.{length-take-le}
+use mathlib.Core.Path.{_≡_, refl, sym, ap, _∙_}
+use mathlib.Core.List.{List, [], _∷_, _++_, append-nil, append-assoc}
+use Prim.Native.Nat.{ℕ, suc, _+_, _-_, _*_, _≤_, _<_}
+use native.Mathlib.Omega.{arith}
+use borrow.Author.Needs.{needs}
+use denote.Ref.{now}
+use lib.ListN.{length, getD, set, take, drop, replicate}
+use Rattle.drill.proofs.tell_first.Statement.{statement}
+use Rattle.drill.proofs.tell_first.Tie as tie
+use Rattle.drill.proofs.tell_first.Reads as reads
+use Rattle.drill.proofs.tell_first.Lts as lts
+use Rattle.io.proofs.write_all.Reads as write-all-reads
+
+-- src/main.rt:136:26
+slice-aggregate-write-all : tie.Need-slice-aggregate-write-all
+slice-aggregate-write-all c =
+    let a = c .before .before .before .args in
+    let h : a .m ≤ length (now (a .bytes)) = omega arith in
+    sym (length-take-le _ _ h)
+
+-- src/main.rt:136:9
+write-all-requires : tie.Need-write-all-requires
+write-all-requires c κs = search needs
+
+-- src/main.rt:134:1
+returns : tie.Need-returns
+returns c = search needs
+
+-- src/main.rt:134:1
+returns-2 : tie.Need-returns-2
+returns-2 c = search needs
+
+pub tell-first-spec : {M : Type 1} → statement M
+tell-first-spec =
+    tie.close (tie.spec slice-aggregate-write-all write-all-requires returns returns-2)

@@ -1,0 +1,420 @@
+// The drill: requests on standard input, an answer for each on standard output, so that any other program can be compared with the
+// eight calls byte for byte. Numbers of two bytes are low byte first. "A request that breaks these rules ends the program."
+ghost use mathlib.Core.Path.{_≡_};
+ghost use Prim.Native.Nat.{_≤_};
+ghost use lib.ListN.{length};
+use answers::answer_number;
+use answers::ending_number;
+use answers::refusal_number;
+use answers::verdict_number;
+use answers::verdict_offender;
+use answers::verdict_rule;
+use card::readers::set_at;
+use meaning::Answer;
+use meaning::Checked;
+use meaning::Configuration;
+
+// A byte of the input, unless it has ended.
+enum Byte {
+    Is(u8),
+    Ended,
+}
+
+// A number of two bytes.
+enum Number {
+    Is(u16),
+    Ended,
+}
+
+// A configuration, and whether its image was whole.
+struct Asked {
+    whole: bool,
+    configuration: Configuration,
+}
+
+// After a request: how many bytes the card has now, or the end.
+enum After {
+    Goes(u16),
+    Ends,
+}
+
+fn joined(low: u8, high: u8) -> u16 {
+    low as u16 + 256 * (high as u16)
+}
+
+// ---- what a request is made of
+
+fn next_byte() -> Byte {
+    let mut one = [0u8; 1];
+    let got = io::read_full(0, &mut one);
+    if got < 1 {
+        return Byte::Ended;
+    }
+    Byte::Is(one[0])
+}
+
+fn next_number() -> Number {
+    let mut two = [0u8; 2];
+    let got = io::read_full(0, &mut two);
+    if got < 2 {
+        return Number::Ended;
+    }
+    Number::Is(joined(two[0], two[1]))
+}
+
+// Every byte of a slice; whether there were so many.
+fn fill(bytes: &mut [u8]) -> bool {
+    let got = io::read_full(0, bytes);
+    bytes.len() <= got
+}
+
+// A plan's array with nothing in it.
+fn no_plan() -> [u8; 1024]
+    ensures { λ r. ⌜ 1024 ≡ length r ⌝ }
+{
+    [0u8; 1024]
+}
+
+// "beliefs (16 bytes), goals (16), plan length (2), phase (1), m (2, at most 1,024), and the first m bytes of the plan's array; the
+// rest of the array is zero"
+fn next_image() -> Asked {
+    let mut head = [0u8; 37];
+    let mut plan = no_plan();
+    let mut whole = false;
+    let got = io::read_full(0, &mut head);
+    let m = joined(head[35], head[36]);
+    if m <= 1024 {
+        let filled = fill(&mut plan[..m as usize]);
+        whole = (37 <= got) & filled;
+    }
+    let beliefs = set_at(&head, 0);
+    let goals = set_at(&head, 16);
+    Asked {
+        whole: whole,
+        configuration: Configuration {
+            beliefs: beliefs,
+            goals: goals,
+            plan: plan,
+            length: joined(head[32], head[33]),
+            phase: head[34],
+        },
+    }
+}
+
+// ---- what an answer is made of
+
+fn low(n: u16) -> u8 {
+    (n % 256) as u8
+}
+
+fn high(n: u16) -> u8 {
+    (n / 256) as u8
+}
+
+fn tell(n: u16) {
+    let two = [low(n), high(n)];
+    io::write_all(1, &two);
+}
+
+// "In an answer m is the least that serves": how many bytes there are up to the last that is not zero.
+fn least(plan: &[u8; 1024]) -> usize
+    ensures { λ r. ⌜ r ≤ 1024 ⌝ }
+{
+    let mut m: usize = 1024;
+    while 0 < m {
+        if plan[m - 1] != 0 {
+            return m;
+        }
+        m -= 1;
+    }
+    0
+}
+
+// The first m bytes of a slice.
+fn tell_first(bytes: &[u8], m: usize) {
+    if m <= bytes.len() {
+        io::write_all(1, &bytes[..m]);
+    }
+}
+
+fn tell_plan(plan: &[u8; 1024]) {
+    tell_first(plan, least(plan));
+}
+
+fn tell_image(c: Configuration) {
+    let beliefs = c.beliefs;
+    let goals = c.goals;
+    let plan = c.plan;
+    let n = c.length;
+    let m = least(&plan);
+    let rest = [low(n), high(n), c.phase, low(m as u16), high(m as u16)];
+    io::write_all(1, &beliefs);
+    io::write_all(1, &goals);
+    io::write_all(1, &rest);
+    tell_plan(&plan);
+}
+
+// ---- the calls; each says whether the program goes on
+
+fn check(card: &[u8]) -> bool {
+    let v = guide::check(card);
+    match v {
+        Checked::Good(_) => tell(0),
+        Checked::Refused(refusal) => tell(refusal_number(refusal)),
+    }
+    true
+}
+
+fn load(card: &[u8]) -> bool {
+    let r = guide::load(card);
+    let a = r.answer;
+    let c = r.configuration;
+    tell(answer_number(a));
+    tell_image(c);
+    true
+}
+
+// "verdict (1: 0 bounded, 1 open), offender (1: 0 none, 1 initial plan, 2 selection, 3 revision), its number (2)"
+fn tell_verdict(verdict: u8, offender: u8, rule: u16) {
+    let four = [verdict, offender, low(rule), high(rule)];
+    io::write_all(1, &four);
+}
+
+// "What a refusal leaves open in document 01 (an ending, a verdict) is written as 0 here."
+fn grade(card: &[u8]) -> bool {
+    let r = guide::grade(card);
+    let a = r.answer;
+    let v = r.verdict;
+    let rule = verdict_rule(v);
+    tell(answer_number(a));
+    let Answer::Done = a else {
+        tell_verdict(0, 0, 0);
+        return true;
+    };
+    tell_verdict(verdict_number(v), verdict_offender(v), rule);
+    true
+}
+
+// "It is lent filled with EEEE hex; room is at most 1,024"
+fn lent_list() -> [u16; 1024]
+    ensures { λ r. ⌜ 1024 ≡ length r ⌝ }
+{
+    [0xEEEEu16; 1024]
+}
+
+// Each entry of a list in two bytes.
+fn entries(list: &[u16]) -> [u8; 2048]
+    ensures { λ r. ⌜ 2048 ≡ length r ⌝ }
+{
+    let mut bytes = lent_bytes();
+    if 1024 < list.len() {
+        return bytes;
+    }
+    let mut i: usize = 0;
+    while i < list.len() {
+        bytes[2 * i] = low(list[i]);
+        bytes[2 * i + 1] = high(list[i]);
+        i += 1;
+    }
+    bytes
+}
+
+fn list_into(card: &[u8], c: Configuration, out: &mut [u16]) {
+    let w = guide::list(card, c, out);
+    let a = w.answer;
+    let n = out.len();
+    let bytes = entries(out);
+    tell(answer_number(a));
+    tell(w.count);
+    if n <= 1024 {
+        tell_first(&bytes, 2 * n);
+    }
+}
+
+fn list(card: &[u8]) -> bool {
+    let asked = next_image();
+    if !asked.whole {
+        return false;
+    }
+    let c = asked.configuration;
+    let size = next_number();
+    let Number::Is(room) = size else {
+        return false;
+    };
+    if 1024 < room {
+        return false;
+    }
+    let mut out = lent_list();
+    list_into(card, c, &mut out[..room as usize]);
+    true
+}
+
+fn take(card: &[u8]) -> bool {
+    let asked = next_image();
+    if !asked.whole {
+        return false;
+    }
+    let c = asked.configuration;
+    let code = next_number();
+    let Number::Is(choice) = code else {
+        return false;
+    };
+    let r = guide::take(card, c, choice);
+    let a = r.answer;
+    let next = r.configuration;
+    tell(answer_number(a));
+    tell_image(next);
+    true
+}
+
+// "ending (1: 0 spent, 1 rest, 2 full)"
+fn run(card: &[u8]) -> bool {
+    let asked = next_image();
+    if !asked.whole {
+        return false;
+    }
+    let c = asked.configuration;
+    let most = next_number();
+    let Number::Is(budget) = most else {
+        return false;
+    };
+    let r = guide::run(card, c, budget);
+    let a = r.answer;
+    let e = r.ending;
+    let reached = r.configuration;
+    let n = r.count;
+    tell(answer_number(a));
+    tell_image(reached);
+    let told = [low(n), high(n), ending_number(e)];
+    io::write_all(1, &told);
+    true
+}
+
+// "room bytes, lent filled with EE hex; room is at most 2,048"
+fn lent_bytes() -> [u8; 2048]
+    ensures { λ r. ⌜ 2048 ≡ length r ⌝ }
+{
+    [0xEEu8; 2048]
+}
+
+fn save_into(card: &[u8], c: Configuration, out: &mut [u8]) {
+    let w = guide::save(card, c, out);
+    let a = w.answer;
+    tell(answer_number(a));
+    io::write_all(1, out);
+}
+
+fn save(card: &[u8]) -> bool {
+    let asked = next_image();
+    if !asked.whole {
+        return false;
+    }
+    let c = asked.configuration;
+    let size = next_number();
+    let Number::Is(room) = size else {
+        return false;
+    };
+    if 2048 < room {
+        return false;
+    }
+    let mut out = lent_bytes();
+    save_into(card, c, &mut out[..room as usize]);
+    true
+}
+
+fn restore_from(card: &[u8], place: &mut [u8]) -> bool {
+    if !fill(place) {
+        return false;
+    }
+    let r = guide::restore(card, place);
+    let a = r.answer;
+    let c = r.configuration;
+    tell(answer_number(a));
+    tell_image(c);
+    true
+}
+
+// "length n (2, at most 4,096), n bytes"
+fn restore(card: &[u8]) -> bool {
+    let size = next_number();
+    let Number::Is(n) = size else {
+        return false;
+    };
+    if 4096 < n {
+        return false;
+    }
+    let mut place = io::buffer();
+    restore_from(card, &mut place[..n as usize])
+}
+
+// ---- the requests
+
+// Request 0: "it is the card of the requests that follow".
+fn take_card(card: &mut [u8]) -> After {
+    let size = next_number();
+    let Number::Is(n) = size else {
+        return After::Ends;
+    };
+    if card.len() < n as usize {
+        return After::Ends;
+    }
+    if !fill(&mut card[..n as usize]) {
+        return After::Ends;
+    }
+    After::Goes(n)
+}
+
+// The calls by their number.
+fn answer(card: &[u8], request: u8) -> bool {
+    match request {
+        1 => check(card),
+        2 => load(card),
+        3 => grade(card),
+        4 => list(card),
+        5 => take(card),
+        6 => run(card),
+        7 => save(card),
+        8 => restore(card),
+        _ => false,
+    }
+}
+
+// One request, with a card of n bytes.
+fn turn(card: &mut [u8], n: u16) -> After {
+    let asked = next_byte();
+    let Byte::Is(request) = asked else {
+        return After::Ends;
+    };
+    if request == 0 {
+        return take_card(card);
+    }
+    if card.len() < n as usize {
+        return After::Ends;
+    }
+    if !answer(&card[..n as usize], request) {
+        return After::Ends;
+    }
+    After::Goes(n)
+}
+
+// Room for every card that a request can hand in.
+fn room() -> [u8; 65535]
+    ensures { λ r. ⌜ 65535 ≡ length r ⌝ }
+{
+    [0u8; 65535]
+}
+
+// "at first the card of no bytes"
+fn main() {
+    let mut card = room();
+    let mut n: u16 = 0;
+    let mut turns: u64 = 0;
+    while turns < 18446744073709551615 {
+        let after = turn(&mut card, n);
+        let After::Goes(k) = after else {
+            return;
+        };
+        n = k;
+        turns += 1;
+    }
+}
