@@ -18,6 +18,7 @@ import guide
 REQUEST_LIMIT = 40
 CALL_NAMES = ("check", "load", "grade", "list", "take", "run", "save", "restore")
 ANSWER_NUMBERS = range(14)
+CALLS_ON_CONFIGURATIONS = (drill.LIST, drill.TAKE, drill.RUN, drill.SAVE)
 
 
 class Case(NamedTuple):
@@ -42,11 +43,22 @@ def request_plain(kind):
     return bytes([kind])
 
 
+def plain_requests():
+    """Check, load and grade."""
+    return [request_plain(kind) for kind in (drill.CHECK, drill.LOAD, drill.GRADE)]
+
+
 def request_about(random, kind, configuration, value):
     """4 list, 5 take, 6 run, 7 save: an image and a number. The image's m is the
     least that serves or a greater one."""
     m = random.choice((0, 0, 0, min(configuration.length, 1024), 1024))
     return bytes([kind]) + drill.image(configuration, m) + drill.two(value)
+
+
+def read_about(request):
+    """The kind, the configuration and the number of a request 4 to 7."""
+    reader = drill.Reader(request)
+    return reader.byte(), reader.image(), reader.number()
 
 
 def request_restore(place):
@@ -188,9 +200,8 @@ def full_requests(random, accepted):
     return made
 
 
-def call_on(random, configuration):
-    """One of the four calls on a configuration, with some number."""
-    kind = random.choice((drill.LIST, drill.TAKE, drill.RUN, drill.SAVE))
+def call_of_kind(random, kind, configuration):
+    """A list, take, run or save on a configuration, with some number."""
     value = {
         drill.LIST: (0, 1, 5),
         drill.TAKE: (0, 256, 512, 65535),
@@ -198,6 +209,11 @@ def call_on(random, configuration):
         drill.SAVE: (0, 44, 50, 1068, 1069),
     }[kind]
     return request_about(random, kind, configuration, random.choice(value))
+
+
+def call_on(random, configuration):
+    """One of the four calls on a configuration, with some number."""
+    return call_of_kind(random, random.choice(CALLS_ON_CONFIGURATIONS), configuration)
 
 
 def damaged_configuration_requests(random, accepted, held):
@@ -242,7 +258,7 @@ def damaged_place_requests(random, accepted, held):
 def good_requests(random, card):
     """The requests about a good card, 40 at most."""
     _, accepted = guide.judge(card)
-    made = [request_plain(kind) for kind in (drill.CHECK, drill.LOAD, drill.GRADE)]
+    made = plain_requests()
     held = some_configurations(random, card, accepted)
     made += full_requests(random, accepted)
     made += damaged_configuration_requests(random, accepted, held)
@@ -262,8 +278,8 @@ def damaged_requests(random, base):
     and places of the card before the damage, themselves now and then damaged."""
     _, accepted = guide.judge(base)
     _, loaded = guide.load(base)
-    made = [request_plain(kind) for kind in (drill.CHECK, drill.LOAD, drill.GRADE)]
-    for kind in (drill.LIST, drill.TAKE, drill.RUN, drill.SAVE):
+    made = plain_requests()
+    for kind in CALLS_ON_CONFIGURATIONS:
         held = random.choice((guide.EMPTY, loaded, random_configuration(random, accepted)))
         if random.random() < 0.4:
             one = random.choice(damage.CONFIGURATION_DAMAGES)

@@ -1,5 +1,6 @@
 """Tests of the oracle: document 01's cases P1 to P13, its program's lines, the
-damages' numbers, the drill's bytes, and that a seed gives the same bytes."""
+damages' numbers, the drill's bytes, that a seed gives the same bytes, and what
+the stored requests hold."""
 
 import time
 import unittest
@@ -11,6 +12,7 @@ import damage
 import drill
 import guide
 import program
+import stored
 
 STRIPE = cards.card(cards.stripe_card())
 
@@ -335,6 +337,156 @@ class Cases(unittest.TestCase):
             for request in case.requests:
                 met[guide.number(drill.answer(case.card, request), 0)] += 1
         self.assertGreaterEqual(min(met), 10, met)
+
+
+class Stored(unittest.TestCase):
+    """The stored requests of crates/drill."""
+
+    # "They are tested in the table's order, the card first with 1 to 9, then a
+    # place or a configuration; then the rest": what each call can answer.
+    POSSIBLE = {
+        "check": set(range(10)),
+        "load": set(range(10)),
+        "grade": set(range(10)),
+        "list": set(range(10)) | {12, 13},
+        "take": set(range(10)) | {10, 11, 13},
+        "run": set(range(10)) | {13},
+        "save": set(range(10)) | {12, 13},
+        "restore": set(range(10)),
+    }
+
+    @classmethod
+    def setUpClass(cls):
+        """The files and the table, the cases, and the first case of each name."""
+        cls.files, cls.met = stored.make_files()
+        cls.cases = list(stored.stored_cases())
+        cls.named = {case.name: case for case in reversed(cls.cases)}
+
+    def numbers(self, case):
+        """The numbers of the answers to a case's requests."""
+        return [guide.number(drill.answer(case.card, asked), 0) for asked in case.requests]
+
+    def each(self, kind):
+        """Each request of a kind about a card that is good, and the answer to
+        it."""
+        for case in self.cases:
+            for asked in case.requests:
+                if asked[0] == kind and guide.check(case.card) == 0:
+                    yield case.card, asked, drill.answer(case.card, asked)
+
+    def test_same_bytes(self):
+        """The bytes are the same each time, 3,000 requests at least, in files of
+        less than a million bytes."""
+        self.assertEqual(stored.make_files(), (self.files, self.met))
+        self.assertGreaterEqual(sum(map(sum, self.met)), 3000)
+        self.assertLess(max(map(len, self.files.values())), 1000000)
+
+    def test_one_stream(self):
+        """The drill's answers to the one file are the other."""
+        self.assertEqual(drill.answers(self.files[stored.REQUESTS]), self.files[stored.ANSWERS])
+
+    def test_before_any_card(self):
+        """The first eight requests are the eight calls, and no request 0."""
+        first, requests = self.cases[0], self.files[stored.REQUESTS]
+        self.assertTrue(requests.startswith(b"".join(first.requests) + b"\0"))
+        self.assertEqual([asked[0] for asked in first.requests], list(range(1, 9)))
+        self.assertEqual(self.numbers(first), [1] * 8)
+        self.assertEqual(self.named["a card of no bytes"].card, b"")
+
+    def test_every_clause_alone(self):
+        """Each damage and each range of a card, a configuration and a place is a
+        case, with the number that the document gives."""
+        for one in damage.CARD_DAMAGES + damage.CARD_RANGES:
+            case = self.named[one.name]
+            self.assertEqual(case.requests[0], bytes([drill.CHECK]), one.name)
+            self.assertEqual(self.numbers(case)[0], one.number, one.name)
+        for one in damage.PLACE_DAMAGES + damage.PLACE_RANGES:
+            self.assertEqual(self.numbers(self.named[one.name]), [one.number], one.name)
+        for one in damage.CONFIGURATION_DAMAGES:
+            case = self.named[one.name]
+            self.assertEqual({asked[0] for asked in case.requests}, {4, 5, 6, 7}, one.name)
+            self.assertEqual(set(self.numbers(case)), {13}, one.name)
+        for one in damage.CONFIGURATION_RANGES:
+            self.assertNotIn(13, self.numbers(self.named[one.name]), one.name)
+
+    def test_named_cards(self):
+        """The named cards, the maximal one among them, each with some requests."""
+        for name, _ in cases.NAMED_CARDS:
+            self.assertGreaterEqual(len(self.named[name].requests), 8, name)
+
+    def test_unknown_atoms(self):
+        """An atom past those of the card, in any byte of a set: 13, and 9 for the
+        place."""
+        for name in ("beliefs", "goals"):
+            for atom in stored.SET_ATOMS:
+                case = self.named["atom %d in the %s" % (atom, name)]
+                self.assertEqual(self.numbers(case), [13, 13, 13, 13, 9], case.name)
+
+    def test_every_two_rows(self):
+        """Each two rows of a card and of a place at once, the lower answers."""
+        for damages, pairs in (
+            (damage.CARD_DAMAGES, damage.CARD_PAIRS),
+            (damage.PLACE_DAMAGES, damage.PLACE_PAIRS),
+        ):
+            number = {one.name: one.number for one in damages}
+            met = set()
+            for case in self.cases:
+                rows = sorted(number.get(name, 0) for name in case.name.split(" and "))
+                if len(rows) == 2 and rows[0] > 0:
+                    self.assertEqual(self.numbers(case)[0], rows[0], case.name)
+                    met.add(tuple(rows))
+            self.assertEqual(met, set(pairs))
+
+    def test_every_answer_of_each_call(self):
+        """Each call is given every answer that it can be given, and no other."""
+        for name, column in zip(cases.CALL_NAMES, self.met):
+            met = {number for number, count in enumerate(column) if count}
+            self.assertEqual(met, self.POSSIBLE[name], name)
+
+    def test_budgets_and_endings(self):
+        """The budgets 0, 1, 1,000 and 65,535, each ending with more than one of
+        them, and 65,535 transitions in one run."""
+        met = set()
+        for _, asked, answer in self.each(drill.RUN):
+            budget = cases.read_about(asked)[2]
+            met.add((budget, guide.number(answer, len(answer) - 3), answer[-1]))
+        for budget in (1, 1000, 65535):
+            self.assertIn((budget, budget, guide.SPENT), met)
+            for ending in (guide.REST, guide.FULL):
+                self.assertTrue([one for one in met if one[0] == budget and one[2] == ending])
+        self.assertEqual({one for one in met if one[0] == 0}, {(0, 0, 0)})
+
+    def test_verdicts(self):
+        """Bounded and open cards, with each kind of offender, the first rule of
+        its kind and a later one."""
+        met = {tuple(answer[2:5]) for _, _, answer in self.each(drill.GRADE)}
+        for verdict in ((0, 0, 0), (1, 1, 0), (1, 2, 0), (1, 2, 1), (1, 3, 0), (1, 3, 1)):
+            self.assertIn(verdict, met)
+
+    def test_rooms(self):
+        """Lists and saves with exactly the room needed, one less, one more and
+        none, and the longest ones."""
+        for kind, most in ((drill.LIST, drill.LIST_LIMIT), (drill.SAVE, drill.SAVE_LIMIT)):
+            spare, rooms = set(), set()
+            for card, asked, _ in self.each(kind):
+                _, held, room = cases.read_about(asked)
+                needed = 44 + held.length
+                if kind == drill.LIST:
+                    needed = guide.list_choices(card, held, most)[1]
+                spare.add(room - needed if needed else None)
+                rooms.add(room)
+            self.assertLessEqual({-1, 0, 1}, spare)
+            self.assertLessEqual({0, most}, rooms)
+
+    def test_long_plans(self):
+        """Plans of 1,022, 1,023 and 1,024 actions in every call that takes one,
+        a move that leaves 1,024, and one that would leave 1,025."""
+        for kind in cases.CALLS_ON_CONFIGURATIONS:
+            lengths = {cases.read_about(asked)[1].length for _, asked, _ in self.each(kind)}
+            self.assertLessEqual({1022, 1023, 1024}, lengths)
+        taken = [(guide.number(a, 0), guide.number(a, 34)) for _, _, a in self.each(drill.TAKE)]
+        self.assertIn((0, 1024), taken)
+        self.assertIn((11, 1024), taken)
 
 
 class DrillBytes(unittest.TestCase):

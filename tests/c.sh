@@ -1,7 +1,7 @@
 #!/bin/sh
 # The library as C sees it: include/rigtemple.h as C99 and as C++, the eight calls with a turned
-# screen, and the drill over the header against the oracle, byte for byte. The last line is
-# 'N passed, M failed'.
+# screen, and the drill over the header against the oracle, byte for byte: on the stored requests of
+# crates/drill, and on requests by seed. The last line is 'N passed, M failed'.
 #
 #   tests/c.sh [--engine] [--seed N] [--cards N] [--largest BYTES]
 #
@@ -75,20 +75,29 @@ case $last in
     ;;
 esac
 
-# The drill over the header, and the oracle's answers: a check for each request.
+# The drill over the header, and the oracle's answers: a check for each request. The table that the
+# oracle prints ends with their number.
 "$tests/build_c.sh" "$work/header_drill" "$tests/header_drill.c" "$archive"
-python3 "$root/oracle/cases.py" --seed "$seed" --cards "$cards" --largest "$largest" \
+held() { # WHAT TABLE REQUESTS ANSWERS
+    requests=$(awk 'END { print $NF }' "$2")
+    printf '%s, %s requests\n' "$1" "$requests"
+    "$tests/run_c.sh" "$work/header_drill" <"$3" >"$work/got" ||
+        printf 'header_drill ended before its input\n'
+    if cmp "$4" "$work/got"; then
+        passed=$((passed + requests))
+    else
+        printf 'failed: the drill over the header answers otherwise than the oracle\n'
+        failed=$((failed + 1))
+    fi
+}
+
+# The stored requests of crates/drill, then those of the seed.
+stored=$root/crates/drill
+python3 -B "$root/oracle/stored.py" --check >"$work/stored.out" || die "the stored requests are others"
+held 'the stored requests' "$work/stored.out" "$stored/stdin" "$stored/stdout"
+python3 -B "$root/oracle/cases.py" --seed "$seed" --cards "$cards" --largest "$largest" \
     --requests "$work/requests" --answers "$work/answers" >"$work/cases.out"
-requests=$(awk 'END { print $NF }' "$work/cases.out")
-printf 'seed %s, %s cards, %s requests\n' "$seed" "$cards" "$requests"
-"$tests/run_c.sh" "$work/header_drill" <"$work/requests" >"$work/got" ||
-    printf 'header_drill ended before its input\n'
-if cmp "$work/answers" "$work/got"; then
-    passed=$((passed + requests))
-else
-    printf 'failed: the drill over the header answers otherwise than the oracle\n'
-    failed=$((failed + 1))
-fi
+held "seed $seed, $cards cards" "$work/cases.out" "$work/requests" "$work/answers"
 
 printf '%s passed, %s failed\n' "$passed" "$failed"
 [ "$failed" -eq 0 ]

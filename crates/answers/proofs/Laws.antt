@@ -18,7 +18,7 @@ use Rattle.meaning.specs.Calls.{graded, grades}
 use Rattle.meaning.proofs.Calls.{grades-good, grades-refused}
 use Rattle.meaning.proofs.Accepted.{length-entries}
 use Rattle.card.proofs.GoodCard.{good-card}
-use Rattle.answers.specs.Numbers.{offenderRule, verdictRule}
+use Rattle.meaning.specs.Numbers.{offenderRule, verdictRule}
 
 module _ {R : Type 0} (good : R → Bool) (name : ℕ → Offender) (named : (k : ℕ) → offenderRule (name k) ≡ k) (otherwise : Verdict) (o : verdictRule otherwise < 65536) where
   pub first-narrow : (n : ℕ) (rs : List R) → n + length rs ≤ 256 → verdictRule (firstOffender good name n rs otherwise) < 65536

@@ -2,7 +2,7 @@
 ghost use mathlib.Core.Path.{_≡_};
 ghost use Prim.Native.Nat.{_<_};
 ghost use Rattle.meaning.specs.Refusals.{numberOf, answerNumber};
-ghost use Rattle.answers.specs.Numbers.{endingNumber, verdictNumber, offenderNumber, offenderRule, verdictOffender, verdictRule};
+ghost use Rattle.meaning.specs.Numbers.{endingNumber, verdictNumber, offenderNumber, offenderRule, verdictOffender, verdictRule};
 use house::Ending;
 use house::Offender;
 use house::Verdict;

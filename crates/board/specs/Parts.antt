@@ -10,7 +10,7 @@ use Rattle.meaning.specs.declared.Written.{Written}
 use Rattle.meaning.specs.declared.Ran.{Ran}
 use Rattle.meaning.specs.Card.{Bytes}
 use Rattle.meaning.specs.Refusals.{numberOf, answerNumber}
-use Rattle.answers.specs.Numbers.{endingNumber, verdictNumber, verdictOffender, verdictRule}
+use Rattle.meaning.specs.Numbers.{endingNumber, verdictNumber, verdictOffender, verdictRule}
 
 -- What `check` returns: 0 for "done: none of those below", or the refusal's number.
 unfoldable pub checkedNumber : Checked → ℕ

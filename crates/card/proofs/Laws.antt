@@ -1,17 +1,21 @@
 -- Laws that the card's functions share.
-use mathlib.Core.Path.{_≡_, refl, sym, _∙_}
-use mathlib.Core.Bool.{Bool, true, false}
-use mathlib.Core.List.{List}
+use mathlib.Core.Path.{_≡_, refl, sym, ap, _∙_}
+use mathlib.Core.Bool.{Bool, true, false, not, _&&_, _||_}
+use mathlib.Core.List.{List, [], _∷_}
 use mathlib.Core.Logic.{_⊎_, inl, inr}
-use Prim.Native.Nat.{ℕ, zero, suc, _+_, _≤_, _<_}
-use native.Mathlib.Decide.{decLe}
+use Prim.Native.Nat.{ℕ, zero, suc, _+_, _-_, _≤_, _<_, min}
+use native.Mathlib.Decide.{decLe, decLt}
 use native.Mathlib.Omega.{arith}
-use lib.ListN.{getD, replicate}
+use borrow.Author.Tests.{lt-ltb, le-ltb, le-leb, lt-leb, ne-eqb}
+use lib.Dec.{eqb, leb, ltb}
+use lib.ListN.{length, getD, set, replicate, length-set, length-replicate}
+use lib.Seq.{getD-set-other}
+use Rattle.sets.proofs.Loops.{below-turn}
 use Rattle.meaning.specs.declared.Layout.{Layout}
 use Rattle.meaning.specs.Card.{Bytes}
-use Rattle.meaning.specs.Refusals.{nodesGood, containsOf, containing}
+use Rattle.meaning.specs.Refusals.{all, nodesGood, containsOf, containing, conditionGood}
 use Rattle.meaning.proofs.Nodes.{node-rule, contains-children, contains-at}
-use Rattle.card.specs.Laid.{kindOf, aOf, bOf}
+use Rattle.card.specs.Laid.{kindOf, aOf, bOf, Marks}
 
 -- one of two neighbours
 pub either-of : (m n : ℕ) → m ≤ n → n ≤ m + 1 → (n ≡ m) ⊎ (n ≡ m + 1)
@@ -22,6 +26,11 @@ replicate-at zero i x = refl
 replicate-at (suc n) zero x = refl
 replicate-at (suc n) (suc i) x = replicate-at n i x
 
+pub replicate-in : {X : Type 0} (n i : ℕ) (x y : X) → i < n → getD (replicate n x) i y ≡ x
+replicate-in zero i x y h = absurd (omega arith)
+replicate-in (suc n) zero x y h = refl
+replicate-in (suc n) (suc i) x y h = replicate-in n i x y (omega arith)
+
 -- what is found at node i by the marks of the lower nodes
 pub contains-next : (l : Layout) (b : Bytes) → nodesGood l b ≡ true → (kind i : ℕ) → i < l .nodes .count → (marks : List Bool)
     → ((j : ℕ) → j < i → getD marks j false ≡ getD (containing kind l b) j false)
@@ -31,3 +40,55 @@ contains-next l b good kind i h marks same =
     contains-children kind (kindOf l b i) (aOf l b i) (bOf l b i) (λ j. getD marks j false) (λ j. getD (containing kind l b) j false)
     (λ k. same (aOf l b i) (r .first k)) (λ k. same (bOf l b i) (r .second k))
     ∙ sym (contains-at l b good i h kind)
+
+-- the last action and the number of actions tell the same of a byte
+pub known-by-last : (x actions : ℕ) → 1 ≤ actions → x ≤ 255 → leb x (min 255 (actions - 1)) ≡ ltb x actions
+known-by-last x actions h k = elim (decLt x actions) [
+  | yes e ↦ le-leb x (min 255 (actions - 1)) (omega arith) ∙ sym (lt-ltb x actions e)
+  | no e ↦ lt-leb x (min 255 (actions - 1)) (omega arith) ∙ sym (le-ltb x actions (omega arith))
+]
+
+-- of no actions only the empty plan is
+pub of-none : (π : List ℕ) → eqb (length π) 0 ≡ all (λ a. ltb a 0) π
+of-none [] = refl
+of-none (a ∷ π) = rw (le-ltb a 0 (omega arith)) (ne-eqb (suc (length π)) 0 (λ e. absurd (omega arith)))
+
+or-false : (a : Bool) → (a || false) ≡ a
+or-false true = refl
+or-false false = refl
+
+-- containsOf, asked of all kinds at once
+pub contains-flat : (kind k a b : ℕ) (f : ℕ → Bool)
+    → (((eqb k 1 && eqb kind 1) || (eqb k 2 && eqb kind 2)) || ((leb 3 k && f a) || (leb 4 k && f b))) ≡ containsOf kind k a b f
+contains-flat kind zero a b f = refl
+contains-flat kind (suc zero) a b f = or-false (eqb kind 1 || false) ∙ or-false (eqb kind 1)
+contains-flat kind (suc (suc zero)) a b f = or-false (eqb kind 2)
+contains-flat kind (suc (suc (suc zero))) a b f = or-false (f a)
+contains-flat kind (suc (suc (suc (suc k)))) a b f =
+    let n = suc (suc (suc (suc k))) in
+    rw (ne-eqb n 1 (λ e. absurd (omega arith)), ne-eqb n 2 (λ e. absurd (omega arith)), le-leb 3 n (omega arith), le-leb 4 n (omega arith))
+
+-- the marks after i nodes: those of the nodes below i tell what their conditions contain, and all others are set
+abbrev pub MarkedTo : ℕ → Layout → Bytes → List Bool → ℕ → Type 0
+MarkedTo kind l b marks i =
+    (length marks ≡ 256)
+    × ((j : ℕ) → j < i → getD marks j false ≡ getD (containing kind l b) j false)
+    × ((j : ℕ) → i ≤ j → j < 256 → getD marks j false ≡ true)
+
+pub marked-start : (kind : ℕ) (l : Layout) (b : Bytes) (marks : List Bool) → marks ≡ replicate 256 true → MarkedTo kind l b marks 0
+marked-start kind l b marks e = (ap length e ∙ length-replicate 256 true, λ j h. absurd (omega arith), λ j h k. ap (λ m. getD m j false) e ∙ replicate-in 256 j true false k)
+
+pub marked-turn : (kind : ℕ) (l : Layout) (b : Bytes) → nodesGood l b ≡ true → (marks : List Bool) (i : ℕ) (mark : Bool) → i < l .nodes .count → i < 256
+    → mark ≡ containsOf kind (kindOf l b i) (aOf l b i) (bOf l b i) (λ j. getD marks j false)
+    → MarkedTo kind l b marks i → MarkedTo kind l b (set marks i mark) (i + 1)
+marked-turn kind l b good marks i mark h k e m = (
+  simp length-set (m .0),
+  below-turn (λ j. getD (containing kind l b) j false) marks i mark false (let r = m .0 in omega arith) (m .1) (e ∙ contains-next l b good kind i h marks (m .1)),
+  λ j p q. getD-set-other marks i j mark false (omega arith) ∙ m .2 j (omega arith) q,
+)
+
+pub marked-all : (kind : ℕ) (l : Layout) (b : Bytes) (marks : List Bool) → MarkedTo kind l b marks (l .nodes .count) → Marks kind l b marks
+marked-all kind l b marks m i h = elim (decLt i (l .nodes .count)) [
+  | yes k ↦ rw (m .1 i k, lt-ltb i (l .nodes .count) k)
+  | no k ↦ rw (m .2 i (omega arith) h, le-ltb i (l .nodes .count) (omega arith))
+]

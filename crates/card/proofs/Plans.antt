@@ -1,18 +1,23 @@
--- A plan filled into its room, and its weight one action after the other.
-use mathlib.Core.Path.{_≡_, refl, ap, ap₂, _∙_, sym}
-use mathlib.Core.List.{List, [], _∷_, _++_}
-use Prim.Native.Nat.{ℕ, _+_, _-_, _≤_, _<_}
+-- A plan filled into its room; weights, one action after the other and one part of a card after the other.
+use mathlib.Core.Path.{_≡_, refl, ap, ap₂, _∙_, sym, subst}
+use mathlib.Core.List.{List, [], _∷_, _++_, map}
+use Prim.Native.Nat.{ℕ, zero, suc, _+_, _-_, _*_, _≤_, _<_}
 use native.Mathlib.Nat.{zero-add}
 use native.Mathlib.Numerals.{add-one}
-use lib.ListN.{length, getD, drop, replicate, drop-of-length-le}
-use lib.Seq.{take-append-seam, drop-cons}
+use native.Mathlib.Decide.{decLt}
+use native.Mathlib.Omega.{arith}
+use lib.ListN.{length, getD, take, drop, replicate, drop-of-length-le, List·getD-eq-default}
+use lib.Seq.{take-append-seam, drop-cons, take-add, drop-drop}
 use Rattle.house.specs.Weight.{weigh}
 use Rattle.house.specs.Order.{numbers}
-use Rattle.house.proofs.Numbers.{made-at}
-use Rattle.meaning.specs.Card.{Bytes, layout, weightAt, weights, weight}
+use Rattle.house.proofs.Numbers.{length-made, made-at}
+use Rattle.house.proofs.Weight.{weigh-append}
+use Rattle.meaning.specs.declared.Layout.{Layout}
+use Rattle.meaning.specs.Card.{Bytes, part, layout, weightAt, weights, weight}
 use Rattle.meaning.specs.Configurations.{padded}
 use Rattle.sets.proofs.Loops.{filled}
 use Rattle.plans.proofs.Laws.{drop-replicate}
+use Rattle.card.specs.GoodCard.{GoodCard}
 
 -- zeros filled with a plan are the plan, padded
 pub filled-padded : (π : List ℕ) (n : ℕ) → n ≡ length π → filled (padded π) (padded []) n ≡ padded π
@@ -33,3 +38,34 @@ weigh-next w π i h = rw (add-one, drop-cons π i 0 h)
 pub weigh-done : (w : ℕ → ℕ) (π : List ℕ) (i : ℕ) → length π ≤ i → weigh w (drop i π) ≡ 0
 unfolding weigh
 weigh-done w π i h = rw (drop-of-length-le π h)
+
+-- m actions and the n behind them weigh together what both weigh
+pub weigh-part : (w : ℕ → ℕ) (b : Bytes) (at m n : ℕ) → weigh w (part b at (m + n)) ≡ weigh w (part b at m) + weigh w (part b (at + m) n)
+unfolding part
+weigh-part w b at m n =
+    ap (weigh w) (take-add m n (drop at b) ∙ ap (λ x. take m (drop at b) ++ take n x) (drop-drop m at b))
+    ∙ weigh-append w (take m (drop at b)) (take n (drop (at + m) b))
+
+pub weigh-no-part : (w : ℕ → ℕ) (b : Bytes) (at n : ℕ) → n ≡ 0 → weigh w (part b at n) ≡ 0
+unfolding part weigh
+weigh-no-part w b at n e = ap (λ k. weigh w (part b at k)) e
+
+-- of actions that weigh at most 1,024 each, n weigh at most 1,024 times n
+weigh-most : (w : ℕ → ℕ) → ((a : ℕ) → w a ≤ 1024) → (n : ℕ) (π : List ℕ) → weigh w (take n π) ≤ 1024 * n
+unfolding weigh
+weigh-most w most zero π = omega arith
+weigh-most w most (suc n) [] = omega arith
+weigh-most w most (suc n) (a ∷ π) = let h = weigh-most w most n π in omega (arith, most a)
+
+weight-most : (l : Layout) (b : Bytes) → GoodCard l b → (a : ℕ) → weight b a ≤ 1024
+unfolding weight weights
+weight-most l b g a = elim (decLt a (layout b .actions)) [
+  | yes h ↦ rw (weight-known b a h) (g .weights a (subst (λ (x : Layout). a < x .actions) (sym (g .laid .says)) h) .most)
+  | no h ↦
+      let past : length (map (weightAt b) (numbers 0 (layout b .actions))) ≤ a = rw (length-made (weightAt b) 0 (layout b .actions)) (omega arith) in
+      rw (List·getD-eq-default (map (weightAt b) (numbers 0 (layout b .actions))) 1 past) (omega arith)
+]
+
+pub part-most : (l : Layout) (b : Bytes) → GoodCard l b → (at n : ℕ) → weigh (weight b) (part b at n) ≤ 1024 * n
+unfolding part
+part-most l b g at n = weigh-most (weight b) (weight-most l b g) n (drop at b)

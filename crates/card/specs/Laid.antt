@@ -1,14 +1,14 @@
 -- What is known of a layout: its numbers are of two bytes; and, once rows 1, 3 and 4 have passed, where everything lies.
 use mathlib.Core.Path.{_≡_}
-use Prim.Native.Nat.{ℕ, _+_, _*_, _≤_}
-use mathlib.Core.Bool.{Bool, false}
+use Prim.Native.Nat.{ℕ, _+_, _*_, _≤_, _<_}
+use mathlib.Core.Bool.{Bool, false, not}
 use mathlib.Core.List.{List}
 use lib.ListN.{length, getD}
 use Rattle.meaning.specs.declared.Section.{Section}
 use Rattle.meaning.specs.declared.Span.{Span}
 use Rattle.meaning.specs.declared.Layout.{Layout}
 use Rattle.meaning.specs.Card.{Bytes, byte, layout, entryAt}
-use Rattle.meaning.specs.Refusals.{containing}
+use Rattle.meaning.specs.Refusals.{containing, conditionGood}
 
 pub record NarrowSection (s : Section) : Type 0 where
   pub count : s .count ≤ 65535
@@ -57,6 +57,6 @@ aOf l b i = byte b (entryAt 4 (l .nodes) i + 1)
 abbrev pub bOf : Layout → Bytes → ℕ → ℕ
 bOf l b i = byte b (entryAt 4 (l .nodes) i + 2)
 
--- Marks tell, for each node, whether an atom of a kind stands in its condition.
+-- Marks bar nodes from a condition: the unknown ones, and those in whose condition an atom of a kind stands.
 abbrev pub Marks : ℕ → Layout → Bytes → List Bool → Type 0
-Marks kind l b marks = (i : ℕ) → getD marks i false ≡ getD (containing kind l b) i false
+Marks kind l b marks = (i : ℕ) → i < 256 → not (getD marks i false) ≡ conditionGood l (containing kind l b) i

@@ -1,3 +1,4 @@
 pub mod Laid
 pub mod Stair
 pub mod GoodCard
+pub mod Summed

@@ -1,14 +1,12 @@
 // What the sections hold: rows 5, 8 and 9 of the refusal table.
 ghost use mathlib.Core.Path.{_≡_};
-ghost use mathlib.Core.Bool.{Bool, true, false, _&&_};
-ghost use Prim.Native.Nat.{ℕ, _+_, _*_, _≤_, _<_};
+ghost use mathlib.Core.Bool.{Bool, true, false};
+ghost use Prim.Native.Nat.{ℕ, _+_, _-_, _*_, _≤_, _<_, min};
 ghost use lib.ListN.{length};
 ghost use Rattle.meaning.specs.Card.{part};
-ghost use Rattle.meaning.specs.Refusals.{everyEntry, weightsGood, actionsGood, pool, setGood, setsGood};
-ghost use Rattle.sets.specs.Sets.{below};
+ghost use Rattle.meaning.specs.Refusals.{weightsGood, actionsGood, pool, setGood, setsGood};
 ghost use Rattle.card.specs.Laid.{Laid};
 use crate::header::in_range;
-use crate::readers::byte_below;
 use crate::readers::number_at;
 use crate::readers::set_at;
 use meaning::Layout;
@@ -29,16 +27,30 @@ pub fn weights_good(card: &[u8], l: Layout) -> bool
     good
 }
 
+// The last of so many actions, as far as a byte goes.
+fn last_action(actions: usize) -> u8
+    requires { ⌜ 1 ≤ actions ⌝ }
+    ensures { λ r. ⌜ r ≡ min 255 (actions - 1) ⌝ }
+{
+    if 256 <= actions {
+        return 255;
+    }
+    (actions - 1) as u8
+}
+
 // Whether each of n bytes from a place on is an action.
 pub fn actions_good(bytes: &[u8], from: usize, n: usize, actions: usize) -> bool
     requires { ⌜ from + n ≤ length (now bytes) ⌝ }
     ensures { λ r. ⌜ r ≡ actionsGood actions (part (now (bytes .entry)) from n) ⌝ }
 {
+    if actions == 0 {
+        return n == 0;
+    }
+    let last = last_action(actions);
     let mut good = true;
     let mut i: usize = 0;
     while i < n {
-        let known = byte_below(bytes[from + i], actions);
-        good = good & known;
+        good = good & (bytes[from + i] <= last);
         i += 1;
     }
     good
@@ -53,33 +65,32 @@ pub fn pool_good(card: &[u8], l: Layout) -> bool
     actions_good(card, pool.offset, pool.count, l.actions)
 }
 
-// Whether the set at a place has only atoms below a number, of which it is given the set.
-fn set_good(card: &[u8], at: usize, atoms: usize, known: [u8; 16]) -> bool
-    requires { ⌜ (at + 16 ≤ length (now card)) × (atoms ≤ 128) × (known ≡ below atoms) ⌝ }
-    ensures { λ r. ⌜ r ≡ setGood atoms (part (now (card .entry)) at 16) ⌝ }
+// Whether a set has only atoms below a number.
+fn set_good(s: [u8; 16], atoms: usize) -> bool
+    requires { ⌜ atoms ≤ 128 ⌝ }
+    ensures { λ r. ⌜ r ≡ setGood atoms s ⌝ }
 {
-    sets::only(set_at(card, at), known)
+    sets::only(s, sets::below_number(atoms))
 }
 
-// Each Add and each Del.
-fn specification_sets_good(card: &[u8], l: Layout, known: [u8; 16]) -> bool
-    requires { ⌜ Laid l (now card) × (known ≡ below (l .atoms)) ⌝ }
-    ensures { λ r. ⌜ r ≡ everyEntry 36 (l .specifications) (λ at. setGood (l .atoms) (part (now (card .entry)) (at + 4) 16) && setGood (l .atoms) (part (now (card .entry)) (at + 20) 16)) ⌝ }
+// The atoms of all the card's sets: the initial beliefs and goals, and each Add and Del.
+fn all_sets(card: &[u8], l: Layout) -> [u8; 16]
+    requires { ⌜ Laid l (now card) ⌝ }
+    ensures { λ r. ⌜ setGood (l .atoms) r ≡ setsGood l (now (card .entry)) ⌝ }
 {
     let section = l.specifications;
     let n = section.count;
     let from = section.offset;
-    let atoms = l.atoms;
-    let mut good = true;
+    let mut all = sets::union(set_at(card, 32), set_at(card, 48));
     let mut i: usize = 0;
     while i < n {
         let at = from + 36 * i;
-        let add = set_good(card, at + 4, atoms, known);
-        let del = set_good(card, at + 20, atoms, known);
-        good = good & (add & del);
+        let both = sets::union(set_at(card, at + 4), set_at(card, at + 20));
+        let more = sets::union(all, both);
+        all = more;
         i += 1;
     }
-    good
+    all
 }
 
 // Row 9: no set has an atom at or above the number of atoms.
@@ -87,10 +98,5 @@ pub fn sets_good(card: &[u8], l: Layout) -> bool
     requires { ⌜ Laid l (now card) ⌝ }
     ensures { λ r. ⌜ r ≡ setsGood l (now (card .entry)) ⌝ }
 {
-    let atoms = l.atoms;
-    let known = sets::below_number(atoms);
-    let beliefs = set_good(card, 32, atoms, known);
-    let goals = set_good(card, 48, atoms, known);
-    let others = specification_sets_good(card, l, known);
-    beliefs & (goals & others)
+    set_good(all_sets(card, l), l.atoms)
 }

@@ -40,17 +40,15 @@ pub fn nodes_good(card: &[u8], l: Layout) -> bool
     good
 }
 
-// Whether an atom of a kind stands in a condition of the kind k with the parts a and b, by the marks of the lower nodes.
+// Whether an atom of a kind stands in a condition of the kind k with the parts a and b, by the marks of the lower nodes. Kinds
+// follow each other at random, so there is no jump on them.
 fn contains(kind: u8, k: u8, a: u8, b: u8, marks: &[bool; 256]) -> bool
     ensures { λ r. ⌜ r ≡ containsOf kind k a b (λ j. getD (now (marks .entry)) j false) ⌝ }
 {
-    match k {
-        0 => false,
-        1 => kind == 1,
-        2 => kind == 2,
-        3 => marks[a as usize],
-        _ => marks[a as usize] | marks[b as usize],
-    }
+    let own = ((k == 1) & (kind == 1)) | ((k == 2) & (kind == 2));
+    let first = marks[a as usize];
+    let second = marks[b as usize];
+    own | (((3 <= k) & first) | ((4 <= k) & second))
 }
 
 // The same of node i.
@@ -70,19 +68,26 @@ pub fn no_marks() -> [bool; 256]
     [false; 256]
 }
 
-// For each node, whether an atom of a kind stands in its condition.
-pub fn marks_of(card: &[u8], l: Layout, kind: u8) -> [bool; 256]
-    requires { ⌜ Laid l (now card) × (nodesGood l (now card) ≡ true) ⌝ }
-    ensures { λ r. ⌜ Marks kind l (now (card .entry)) r ⌝ }
+// Every node is marked.
+pub fn all_marks() -> [bool; 256]
+    ensures { λ r. ⌜ r ≡ replicate 256 true ⌝ }
+{
+    [true; 256]
+}
+
+// The nodes that a goal condition bars, and those that a belief condition bars, where all are marked at first: in one pass.
+pub fn mark_nodes(card: &[u8], l: Layout, beliefs: &mut [bool; 256], goals: &mut [bool; 256])
+    requires { ⌜ Laid l (now card) × (nodesGood l (now card) ≡ true) × (now beliefs ≡ replicate 256 true) × (now goals ≡ replicate 256 true) ⌝ }
+    ensures { λ r. ⌜ Marks 1 l (now (card .entry)) (now (beliefs .exit)) × Marks 2 l (now (card .entry)) (now (goals .exit)) ⌝ }
 {
     let nodes = l.nodes;
     let n = nodes.count;
-    let mut marks = no_marks();
     let mut i: usize = 0;
     while i < n {
-        let mark = contains_at(card, l, kind, i, &marks);
-        marks[i] = mark;
+        let belief = contains_at(card, l, 1, i, beliefs);
+        let goal = contains_at(card, l, 2, i, goals);
+        beliefs[i] = belief;
+        goals[i] = goal;
         i += 1;
     }
-    marks
 }

@@ -9,18 +9,18 @@ ghost use Rattle.meaning.specs.Refusals.{within, everyEntry, nodesGood, contain
 ghost use Rattle.card.specs.Laid.{Laid, NarrowSpan, Marks};
 use crate::header::in_range;
 use crate::header::read_span;
-use crate::nodes::marks_of;
+use crate::nodes::all_marks;
+use crate::nodes::mark_nodes;
 use crate::readers::byte_below;
 use crate::readers::number_at;
 use meaning::Layout;
 use meaning::Span;
 
-// A known node whose condition contains no atom of the other kind.
-fn condition_good(count: usize, others: &[bool; 256], node: u8) -> bool
-    ensures { λ r. ⌜ r ≡ (ltb node count && not (getD (now (others .entry)) node false)) ⌝ }
+// A node that is not barred.
+fn condition_good(barred: &[bool; 256], node: u8) -> bool
+    ensures { λ r. ⌜ r ≡ not (getD (now (barred .entry)) node false) ⌝ }
 {
-    let n = node as usize;
-    (n < count) & !others[n]
+    !barred[node as usize]
 }
 
 // A plan of a length from least to 1,024 that lies within the pool's bytes.
@@ -36,11 +36,9 @@ fn specification_good(card: &[u8], l: Layout, goals: &[bool; 256], at: usize) ->
     requires { ⌜ (at + 36 ≤ length (now card)) × Marks 2 l (now card) (now goals) ⌝ }
     ensures { λ r. ⌜ r ≡ specificationGood (containing 2 l (now (card .entry))) l (now (card .entry)) at ⌝ }
 {
-    let nodes = l.nodes;
-    let count = nodes.count;
     let actions = l.actions;
     let action = byte_below(card[at], actions);
-    let condition = condition_good(count, goals, card[at + 1]);
+    let condition = condition_good(goals, card[at + 1]);
     action & (condition & ((card[at + 2] == 0) & (card[at + 3] == 0)))
 }
 
@@ -55,12 +53,10 @@ fn selection_good(
     requires { ⌜ (at + 8 ≤ length (now card)) × Marks 1 l (now card) (now beliefs) × Marks 2 l (now card) (now goals) ⌝ }
     ensures { λ r. ⌜ r ≡ selectionGood (containing 1 l (now (card .entry))) (containing 2 l (now (card .entry))) l (now (card .entry)) at ⌝ }
 {
-    let nodes = l.nodes;
-    let count = nodes.count;
     let pool = l.pool;
     let bytes = pool.count;
-    let belief = condition_good(count, goals, card[at]);
-    let goal = condition_good(count, beliefs, card[at + 1]);
+    let belief = condition_good(goals, card[at]);
+    let goal = condition_good(beliefs, card[at + 1]);
     let plan = span_good(bytes, 1, read_span(card, at + 2));
     let zero = number_at(card, at + 6);
     belief & (goal & (plan & (zero == 0)))
@@ -71,11 +67,9 @@ fn revision_good(card: &[u8], l: Layout, goals: &[bool; 256], at: usize) -> bool
     requires { ⌜ (at + 12 ≤ length (now card)) × Marks 2 l (now card) (now goals) ⌝ }
     ensures { λ r. ⌜ r ≡ revisionGood (containing 2 l (now (card .entry))) l (now (card .entry)) at ⌝ }
 {
-    let nodes = l.nodes;
-    let count = nodes.count;
     let pool = l.pool;
     let bytes = pool.count;
-    let belief = condition_good(count, goals, card[at]);
+    let belief = condition_good(goals, card[at]);
     let first = card[at + 1];
     let head = span_good(bytes, 1, read_span(card, at + 2));
     let body = span_good(bytes, 0, read_span(card, at + 6));
@@ -141,8 +135,9 @@ pub fn rules_good(card: &[u8], l: Layout) -> bool
 {
     let pool = l.pool;
     let initial = l.initial;
-    let beliefs = marks_of(card, l, 1);
-    let goals = marks_of(card, l, 2);
+    let mut beliefs = all_marks();
+    let mut goals = all_marks();
+    mark_nodes(card, l, &mut beliefs, &mut goals);
     let specifications = specifications_good(card, l, &goals);
     let selections = selections_good(card, l, &beliefs, &goals);
     let revisions = revisions_good(card, l, &goals);

@@ -1,4 +1,4 @@
--- Choices and the guide's order (document 01, "A configuration and its transitions").
+-- Choices and the guide's order (01, "A configuration and its transitions").
 use mathlib.Core.Bool.{Bool, true, false}
 use mathlib.Core.List.{List, [], _∷_, _++_, map}
 use mathlib.Core.Option.{Option, none, some}
@@ -8,52 +8,60 @@ use Rattle.paper.specs.Language.{Agent, Config}
 use Rattle.paper.specs.Transitions.{Choice, select, act, revise}
 use Rattle.paper.specs.Next.{next, enabled}
 
--- "A configuration is a set of believed atoms, a set of goal atoms, a plan … and a phase 0, 1 or 2. The phase is ours; the
--- rest is 004's Definition 7."
+-- 01, "A configuration and its transitions": "A configuration is a set of believed atoms, a set of goal atoms, a plan (0 to
+-- 1,024 action numbers) and a phase 0, 1 or 2."
 pub record State : Type 0 where
+  -- 01, "A configuration and its transitions": "the rest is 004's Definition 7"
   pub mental : Config
+  -- 01, "A configuration and its transitions": "a phase 0, 1 or 2. The phase is ours"
   pub phase : ℕ
 
--- "A choice is coded as 256 times the kind (0 selection, 1 action, 2 revision) plus the number of the rule or
--- specification, from 0."
+-- 01, "A configuration and its transitions": "the kind (0 selection, 1 action, 2 revision)"
 unfoldable pub kind : Choice → ℕ
 kind (select n) = 0
 kind (act n) = 1
 kind (revise n) = 2
 
+-- 01, "A configuration and its transitions": "the number of the rule or specification, from 0"
 unfoldable pub number : Choice → ℕ
 number (select n) = n
 number (act n) = n
 number (revise n) = n
 
+-- 01, "A configuration and its transitions": "A choice is coded as 256 times the kind (0 selection, 1 action, 2 revision) plus
+-- the number of the rule or specification, from 0."
 unfoldable pub code : Choice → ℕ
 code k = 256 * kind k + number k
 
--- the m numbers from k on
+-- The m numbers from k on. Serves ofKind, and in meaning what goes over entries, actions or atoms by their numbers.
 unfoldable pub numbers : ℕ → ℕ → List ℕ
 numbers k zero = []
 numbers k (suc m) = k ∷ numbers (suc k) m
 
--- an agent's choices of a kind, the lowest number first
+-- An agent's choices of a kind, the lowest number first. Serves inTurn: 01, "A configuration and its transitions", The guide's
+-- order: "the lowest number is taken".
 unfoldable pub ofKind : Agent → ℕ → List Choice
 ofKind A zero = map select (numbers 0 (length (A .PS)))
 ofKind A (suc zero) = map act (numbers 0 (length (A .AS)))
 ofKind A (suc (suc k)) = map revise (numbers 0 (length (A .PR)))
 
--- "From phase p the kinds p, p+1, p+2 (modulo 3) are tried in turn."
+-- 01, "A configuration and its transitions", The guide's order: "From phase p the kinds p, p+1, p+2 (modulo 3) are tried in
+-- turn." All three are modulo 3 (docs/DECISIONS.md, "Kinds for a phase over 2").
 unfoldable pub inTurn : Agent → ℕ → List Choice
 inTurn A p = ofKind A (p % 3) ++ (ofKind A ((p + 1) % 3) ++ ofKind A ((p + 2) % 3))
 
--- "After any transition, the guide's or a chosen one, the phase is the kind taken plus 1, modulo 3."
+-- 01, "A configuration and its transitions", The guide's order: "After any transition, the guide's or a chosen one, the phase
+-- is the kind taken plus 1, modulo 3."
 unfoldable pub after : Choice → Config → State
 after k c = record { mental = c; phase = (kind k + 1) % 3 }
 
--- a choice with the state that it leads to
+-- A choice with the state that it leads to. Serves guide: 01, "A configuration and its transitions", The guide's order: "the
+-- lowest number is taken".
 pub record Move : Type 0 where
   pub choice : Choice
   pub to : State
 
--- the first transition among some choices
+-- The first transition among some choices. Serves guide.
 unfoldable pub firstMove : Agent → Config → List Choice → Option Move
 firstMove A c [] = none
 firstMove A c (k ∷ ks) = elim (next A c k) [
@@ -61,15 +69,17 @@ firstMove A c (k ∷ ks) = elim (next A c k) [
   | some c′ ↦ some (record { choice = k; to = after k c′ })
 ]
 
--- "In the first kind with an enabled transition, the lowest number is taken."
+-- 01, "A configuration and its transitions", The guide's order: "In the first kind with an enabled transition, the lowest
+-- number is taken." "If no kind has one the guide is at rest and nothing changes."
 unfoldable pub guide : Agent → State → Option Move
 guide A s = firstMove A (s .mental) (inTurn A (s .phase))
 
--- what of a list passes a test
+-- What of a list passes a test. Serves enabledCodes.
 abbrev pub keep : {X : Type 0} → (X → Bool) → List X → List X
 keep t [] = []
 keep t (x ∷ xs) = elim (t x) [ true ↦ x ∷ keep t xs | false ↦ keep t xs ]
 
--- "The list of enabled choices goes as two-byte numbers, rising, each once" (document 01, "Numbers the guide may answer")
+-- 01, "Numbers the guide may answer": "The list of enabled choices goes as two-byte numbers, rising, each once". "Whether a
+-- result fits doesn't matter to the list."
 unfoldable pub enabledCodes : Agent → Config → List ℕ
 enabledCodes A c = map code (keep (enabled A c) (inTurn A 0))

@@ -1,4 +1,4 @@
--- Weight and grading (document 01, "Weight and grading").
+-- Weight and grading (01, "Weight and grading").
 use mathlib.Core.Path.{_≡_}
 use mathlib.Core.Bool.{Bool, true, false}
 use mathlib.Core.List.{List, [], _∷_}
@@ -9,19 +9,23 @@ use Rattle.paper.specs.Transitions.{Choice, select, act, revise, Entry}
 use Rattle.house.specs.declared.Offender.{Offender}
 use Rattle.house.specs.declared.Verdict.{Verdict}
 
--- "A plan weighs the sum of its actions, each occurrence counted." w gives each action's weight.
+-- 01, "Weight and grading": "A plan weighs the sum of its actions, each occurrence counted." w gives each action's weight.
 unfoldable pub weigh : (ℕ → ℕ) → Plan → ℕ
 weigh w [] = 0
 weigh w (a ∷ π) = w a + weigh w π
 
--- "A card is bounded exactly if the initial plan and every selection plan weigh at most 1,024 and every revision body
--- weighs less than its head."
+-- 01, "Weight and grading": "A card is bounded exactly if the initial plan and every selection plan weigh at most 1,024 and
+-- every revision body weighs less than its head."
 pub record Bounded (w : ℕ → ℕ) (A : Agent) (initial : Plan) : Type 0 where
+  -- 01, "Weight and grading": "the initial plan … weigh at most 1,024"
   pub start : weigh w initial ≤ 1024
+  -- 01, "Weight and grading": "every selection plan weigh at most 1,024"
   pub selections : (n : ℕ) (r : Selection) → Entry (A .PS) n r → weigh w (r .π) ≤ 1024
+  -- 01, "Weight and grading": "every revision body weighs less than its head"
   pub revisions : (n : ℕ) (r : Revision) → Entry (A .PR) n r → weigh w (r .πb) < weigh w (r .πₕ)
 
--- The first entry of a list that fails a test is the offender; without one the verdict is another's.
+-- 01, "Weight and grading": "the first offender": the first entry of a list, numbered from n on, that fails a test; without one
+-- the verdict is another's. Serves verdict.
 abbrev pub firstOffender : {R : Type 0} → (R → Bool) → (ℕ → Offender) → ℕ → List R → Verdict → Verdict
 firstOffender good name n [] otherwise = otherwise
 firstOffender good name n (r ∷ rs) otherwise = elim (good r) [
@@ -29,14 +33,16 @@ firstOffender good name n (r ∷ rs) otherwise = elim (good r) [
   | false ↦ Verdict.Open (name n)
 ]
 
+-- 01, "Weight and grading": "weigh at most 1,024", as a test. Serves verdict.
 abbrev pub light : (ℕ → ℕ) → Plan → Bool
 light w π = leb (weigh w π) 1024
 
+-- 01, "Weight and grading": "every revision body weighs less than its head", as a test of one revision. Serves verdict.
 abbrev pub lowers : (ℕ → ℕ) → Revision → Bool
 lowers w r = ltb (weigh w (r .πb)) (weigh w (r .πₕ))
 
--- "Otherwise it is open, and the verdict carries the first offender: the initial plan, then selection rule n, then
--- revision rule n, in that order."
+-- 01, "Weight and grading": "Otherwise it is open, and the verdict carries the first offender: the initial plan, then selection
+-- rule n, then revision rule n, in that order."
 unfoldable pub verdict : (ℕ → ℕ) → Agent → Plan → Verdict
 verdict w A initial = elim (light w initial) [
   | true ↦
@@ -45,12 +51,13 @@ verdict w A initial = elim (light w initial) [
   | false ↦ Verdict.Open Offender.InitialPlan
 ]
 
--- how many of some choices are selections
+-- 1 for a selection, else 0. Serves selections.
 unfoldable pub isSelection : Choice → ℕ
 isSelection (select n) = 1
 isSelection (act n) = 0
 isSelection (revise n) = 0
 
+-- 00, demand 3: "a run with S selections": how many of its choices are selections.
 unfoldable pub selections : List Choice → ℕ
 selections [] = 0
 selections (k ∷ ks) = isSelection k + selections ks

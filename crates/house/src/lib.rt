@@ -1,20 +1,23 @@
 // The house's part: the words in which document 01 speaks of a run's end and of a card's grade. It holds no code.
 
-// How a run ends: the budget is spent, no transition exists, or the next plan would be too long.
+// 01, "A configuration and its transitions": "one of three endings".
 pub enum Ending {
+    // "when the count has reached" the budget
     Spent,
+    // "when no transition exists"
     Rest,
+    // "when the transition to be taken would leave more than 1,024 actions, which is then not taken"
     Full,
 }
 
-// What keeps a card from being bounded: the initial plan, a selection rule or a revision rule, by its number.
+// 01, "Weight and grading": "the first offender: the initial plan, then selection rule n, then revision rule n, in that order".
 pub enum Offender {
     InitialPlan,
     Selection(usize),
     Revision(usize),
 }
 
-// A card's grade: bounded, or open with the first offender.
+// 01, "Weight and grading": "A card is bounded exactly if …"; "Otherwise it is open, and the verdict carries the first offender".
 pub enum Verdict {
     Bounded,
     Open(Offender),

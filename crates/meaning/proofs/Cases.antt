@@ -2,11 +2,12 @@
 use mathlib.Core.Path.{refl}
 use mathlib.Core.List.{flatten}
 use Rattle.meaning.specs.Stripe.{assembled, set, specification, selection, revision, stripeWith, stripe, stripe-P4, stripe-P5, stripe-P9, stripe-P10, stripe-P13}
-use Rattle.meaning.specs.Cases.{endingNumber, verdictNumbers, shown, shownCheck, shownReply, shownGrade, shownWritten, shownRun, configuration, loaded, afterSteps, planLine, chosen, placeP7, resting, PCases}
+use Rattle.meaning.specs.Numbers.{endingNumber, verdictNumber, verdictOffender, verdictRule, offenderNumber, offenderRule}
+use Rattle.meaning.specs.Cases.{shown, shownCheck, shownReply, shownGrade, shownWritten, shownRun, configuration, loaded, afterSteps, guideCode, stepLine, chosen, placeP7, resting, PCases}
 use Rattle.meaning.proofs.Computing.{computing}
 
 pub P-cases : PCases
-unfolding computing flatten assembled set specification selection revision stripeWith stripe stripe-P4 stripe-P5 stripe-P9 stripe-P10 stripe-P13 endingNumber verdictNumbers shown shownCheck shownReply shownGrade shownWritten shownRun configuration loaded afterSteps planLine chosen placeP7 resting
+unfolding computing flatten assembled set specification selection revision stripeWith stripe stripe-P4 stripe-P5 stripe-P9 stripe-P10 stripe-P13 endingNumber verdictNumber verdictOffender verdictRule offenderNumber offenderRule shown shownCheck shownReply shownGrade shownWritten shownRun configuration loaded afterSteps guideCode stepLine chosen placeP7 resting
 P-cases =
     record {
       accepted = refl;
@@ -30,5 +31,6 @@ P-cases =
       P12-start = refl;
       P12-no-room = refl;
       P12-rest = refl;
+      P12-rest-no-room = refl;
       P13 = refl;
     }

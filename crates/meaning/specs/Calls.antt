@@ -1,6 +1,7 @@
 -- What each of the eight calls answers, on all bytes and numbers, refusals too; and what a lent buffer holds afterwards.
--- "A refusal answers the number and the configuration as it came in; load, restore and grading, which have none, answer the
--- empty one (no atoms, empty plan, phase 0). Any count in a refusal is 0. No lent buffer is written." (document 01)
+-- 01, "Numbers the guide may answer": "A refusal answers the number and the configuration as it came in; load, restore and
+-- grading, which have none, answer the empty one (no atoms, empty plan, phase 0). Any count in a refusal is 0. No lent buffer
+-- is written."
 use mathlib.Core.Bool.{Bool, true, false}
 use mathlib.Core.List.{List, [], _∷_, _++_}
 use mathlib.Core.Option.{Option, none, some}
@@ -32,52 +33,71 @@ use Rattle.meaning.specs.Refusals.{cardAnswer, placeAnswer, configuratio
 
 -- ---- check, load, grade
 
+-- 01, "What the guide does": "check a card": its layout, or the refusal (docs/DECISIONS.md, "What check answers").
 unfoldable pub checks : Bytes → Checked
 checks b = elim (cardAnswer b) [ Done ↦ Checked.Good (layout b) | Refused r ↦ Checked.Refused r ]
 
+-- What load, take and restore answer: 01, "Numbers the guide may answer": "the number and the configuration". Serves loads,
+-- takes and restores.
 abbrev pub reply : Answer → Configuration → Reply
 reply a c = record { answer = a; configuration = c }
 
+-- 01, "A configuration and its transitions": "Loading answers the card's initial beliefs, goals and plan with phase 0".
+-- Refused: 01, "Numbers the guide may answer": "load, restore and grading, which have none, answer the empty one".
 unfoldable pub loads : Bytes → Reply
 loads b = elim (cardAnswer b) [
   | Done ↦ reply Done (configurationOf (start b))
   | Refused r ↦ reply (Refused r) empty
 ]
 
+-- What grading answers, with the empty configuration in any case (docs/DECISIONS.md, "What grading answers as configuration
+-- when done"). Serves grades.
 abbrev pub graded : Answer → Verdict → Graded
 graded a v = record { answer = a; verdict = v; configuration = empty }
 
--- A refused grading never says bounded.
+-- 01, "Weight and grading": "A card is bounded exactly if …" and "Otherwise it is open". A refused grading never says bounded
+-- (docs/DECISIONS.md, "What a refused grading says").
 unfoldable pub grades : Bytes → Graded
 grades b = elim (cardAnswer b) [
   | Done ↦ graded Done (verdict (weight b) (agent b) (initialPlan b))
   | Refused r ↦ graded (Refused r) (Verdict.Open Offender.InitialPlan)
 ]
 
--- ---- list: the answer, and the lent list afterwards. "12 no room: the lent list … is too short"
+-- ---- list: the answer, and the lent list afterwards
 
+-- What list and save answer, with the configuration as it came in (docs/DECISIONS.md, "What list and save hand back"). Serves
+-- lists and saves.
 abbrev pub written : Answer → ℕ → Configuration → Written
 written a n c = record { answer = a; count = n; configuration = c }
 
--- The room is looked at once what is to be written is known. What lies after it stays.
+-- 01, "Numbers the guide may answer", row 12: "the lent list or place buffer is too short": the room is looked at once what is
+-- to be written is known (docs/DECISIONS.md, "Room").
 abbrev pub roomFor : List ℕ → List ℕ → Answer
 roomFor xs out = elim (leb (length xs) (length out)) [ true ↦ Done | false ↦ Refused Refusal.NoRoom ]
 
+-- A lent buffer with something written at its front: 01, "Numbers the guide may answer": "what lies after them stays". Serves
+-- listLeaves and saveLeaves.
 abbrev pub over : List ℕ → List ℕ → List ℕ
 over xs out = xs ++ drop (length xs) out
 
+-- 01, "Numbers the guide may answer": "They are tested in the table's order": rows 1 to 9, then 13, then 12. Serves lists and
+-- listLeaves.
 abbrev pub listAnswer : Bytes → Configuration → List ℕ → Answer
 listAnswer b c out = elim (configurationAnswer b c) [
   | Done ↦ roomFor (enabledCodes (agent b) (stateOf c .mental)) out
   | Refused r ↦ Refused r
 ]
 
+-- 01, "Numbers the guide may answer": "The list of enabled choices …; the answer tells how many". "Any count in a refusal is
+-- 0."
 unfoldable pub lists : Bytes → Configuration → List ℕ → Written
 lists b c out = elim (listAnswer b c out) [
   | Done ↦ written Done (length (enabledCodes (agent b) (stateOf c .mental))) c
   | Refused r ↦ written (Refused r) 0 c
 ]
 
+-- 01, "Numbers the guide may answer": "The list of enabled choices goes …, rising, each once, into the lent list; …, and what
+-- lies after them stays." "No lent buffer is written" by a refusal.
 unfoldable pub listLeaves : Bytes → Configuration → List ℕ → List ℕ
 listLeaves b c out = elim (listAnswer b c out) [
   | Done ↦ over (enabledCodes (agent b) (stateOf c .mental)) out
@@ -86,24 +106,29 @@ listLeaves b c out = elim (listAnswer b c out) [
 
 -- ---- take
 
--- "256 times the kind (0 selection, 1 action, 2 revision) plus the number"
+-- 01, "A configuration and its transitions": "the kind (0 selection, 1 action, 2 revision) plus the number". There is no kind 3
+-- (docs/DECISIONS.md, "Codes"). Serves choice.
 abbrev pub choiceOf : ℕ → ℕ → Option Choice
 choiceOf zero n = some (select n)
 choiceOf (suc zero) n = some (act n)
 choiceOf (suc (suc zero)) n = some (revise n)
 choiceOf (suc (suc (suc k))) n = none
 
+-- 01, "A configuration and its transitions": "A choice is coded as 256 times the kind (0 selection, 1 action, 2 revision) plus
+-- the number of the rule or specification, from 0."
 unfoldable pub choice : ℕ → Option Choice
 choice k = choiceOf (k / 256) (k % 256)
 
--- the state that a code leads to
+-- The state that a code leads to, if it is an enabled choice: 01, "A configuration and its transitions", The guide's order:
+-- "After any transition, the guide's or a chosen one, the phase is the kind taken plus 1, modulo 3." Serves takes.
 unfoldable pub leadsTo : Agent → State → ℕ → Option State
 leadsTo A s code = elim (choice code) [
   | none ↦ none
   | some k ↦ elim (next A (s .mental) k) [ none ↦ none | some c ↦ some (after k c) ]
 ]
 
--- "10 not enabled: the code is no enabled choice"; "11 plan full: the choice is enabled, but leaves more than 1,024 actions"
+-- 00, demand 2: "A chosen move is taken exactly if it is such a transition and its plan fits." 01, "Numbers the guide may
+-- answer", row 10: "the code is no enabled choice"; row 11: "the choice is enabled, but leaves more than 1,024 actions".
 unfoldable pub takes : Bytes → Configuration → ℕ → Reply
 takes b c code = elim (configurationAnswer b c) [
   | Refused r ↦ reply (Refused r) c
@@ -115,31 +140,42 @@ takes b c code = elim (configurationAnswer b c) [
 
 -- ---- run
 
+-- A run's outcome as it is answered: 01, "A configuration and its transitions": "the configuration reached, how many
+-- transitions were taken, and one of three endings". Serves runs.
 abbrev pub ran : Outcome → Ran
 ran o = record { answer = Done; count = o .count; ending = o .ending; configuration = configurationOf (o .state) }
 
+-- 01, "A configuration and its transitions": "A run takes a budget of 0 to 65,535 transitions and answers …". A refused one has
+-- count 0 and ends spent (docs/DECISIONS.md, "What a refused run says beside its number").
 unfoldable pub runs : Bytes → Configuration → ℕ → Ran
 runs b c budget = elim (configurationAnswer b c) [
   | Done ↦ ran (run (agent b) budget (stateOf c))
   | Refused r ↦ record { answer = Refused r; count = 0; ending = Ending.Spent; configuration = c }
 ]
 
--- ---- save: the answer, and the lent buffer afterwards. "Saving writes 44 + L bytes and no others."
+-- ---- save: the answer, and the lent buffer afterwards
 
+-- 01, "Numbers the guide may answer": "They are tested in the table's order": rows 1 to 9, then 13, then 12. Serves saves and
+-- saveLeaves.
 abbrev pub saveAnswer : Bytes → Configuration → Bytes → Answer
 saveAnswer b c out = elim (configurationAnswer b c) [ Done ↦ roomFor (place (stateOf c)) out | Refused r ↦ Refused r ]
 
+-- 01, "What the guide does": "save a place": how many bytes were written. 01, "Numbers the guide may answer": "Any count in a
+-- refusal is 0."
 unfoldable pub saves : Bytes → Configuration → Bytes → Written
 saves b c out = elim (saveAnswer b c out) [
   | Done ↦ written Done (length (place (stateOf c))) c
   | Refused r ↦ written (Refused r) 0 c
 ]
 
+-- 01, "Numbers the guide may answer": "Saving writes 44 + L bytes and no others." "No lent buffer is written" by a refusal.
 unfoldable pub saveLeaves : Bytes → Configuration → Bytes → Bytes
 saveLeaves b c out = elim (saveAnswer b c out) [ Done ↦ over (place (stateOf c)) out | Refused r ↦ out ]
 
 -- ---- restore
 
+-- 01, "What the guide does": "save a place and restore it". Refused: 01, "Numbers the guide may answer": "load, restore and
+-- grading, which have none, answer the empty one".
 unfoldable pub restores : Bytes → Bytes → Reply
 restores b p = elim (placeAnswer b p) [
   | Done ↦ reply Done (configurationOf (placed p))

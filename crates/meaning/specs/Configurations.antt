@@ -1,5 +1,4 @@
--- A configuration as it is handed in and out, and the state that it stands for (document 01, "A configuration and its
--- transitions").
+-- A configuration as it is handed in and out, and the state that it stands for (01, "A configuration and its transitions").
 use mathlib.Core.List.{List, [], _++_}
 use Prim.Native.Nat.{ℕ, _-_}
 use lib.ListN.{length, take, replicate}
@@ -8,13 +7,18 @@ use Rattle.house.specs.Order.{State}
 use Rattle.meaning.specs.Card.{Bytes}
 use Rattle.meaning.specs.declared.Configuration.{Configuration}
 
--- a plan in its 1,024 bytes, with zeros after its end
+-- A plan in its 1,024 bytes, with zeros after its end. Serves configurationOf: 01, "Numbers the guide may answer", row 13:
+-- "anything but zero after the plan's end" is refused.
 unfoldable pub padded : Plan → Bytes
 padded π = π ++ replicate (1024 - length π) 0
 
+-- 01, "A configuration and its transitions": "A configuration is a set of believed atoms, a set of goal atoms, a plan (0 to
+-- 1,024 action numbers) and a phase 0, 1 or 2.": the one that is handed in.
 unfoldable pub stateOf : Configuration → State
 stateOf c = record { mental = ⟨ c .beliefs / take (c .length) (c .plan) / c .goals ⟩; phase = c .phase }
 
+-- 01, "A configuration and its transitions": "A configuration is a set of believed atoms, a set of goal atoms, a plan (0 to
+-- 1,024 action numbers) and a phase 0, 1 or 2.": the one that is handed out, its plan with zeros after its end.
 unfoldable pub configurationOf : State → Configuration
 configurationOf s = record {
   beliefs = s .mental .σ;
@@ -24,6 +28,6 @@ configurationOf s = record {
   phase = s .phase;
 }
 
--- "the empty one (no atoms, empty plan, phase 0)"
+-- 01, "Numbers the guide may answer": "the empty one (no atoms, empty plan, phase 0)"
 unfoldable pub empty : Configuration
 empty = configurationOf (record { mental = ⟨ replicate 16 0 / [] / replicate 16 0 ⟩; phase = 0 })

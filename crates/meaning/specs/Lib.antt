@@ -3,6 +3,7 @@ pub mod Configurations
 pub mod Place
 pub mod Refusals
 pub mod Calls
+pub mod Numbers
 pub mod Theorems
 pub mod Stripe
 pub mod Cases

@@ -1,4 +1,4 @@
--- The place (document 01, "The place").
+-- The place (01, "The place").
 use mathlib.Core.List.{List, [], _∷_, _++_}
 use Prim.Native.Nat.{ℕ, _+_, _/_, _%_}
 use lib.ListN.{length, drop}
@@ -6,18 +6,19 @@ use Rattle.paper.specs.Language.{⟨_/_/_⟩}
 use Rattle.house.specs.Order.{State}
 use Rattle.meaning.specs.Card.{Bytes, number, part}
 
--- a number in two bytes, low byte first
+-- 01, "The card, edition 1": "Numbers are two bytes, low byte first"
 abbrev pub twoBytes : ℕ → Bytes
 twoBytes n = n % 256 ∷ n / 256 % 256 ∷ []
 
--- "Bytes 33 50 hex; edition 1 at 2; plan length L at 4; plan offset 44 at 6; phase at 8; zero at 10; beliefs at 12; goals
--- at 28; the plan's L bytes at 44. Exactly 44 + L bytes."
+-- 01, "The place": "Bytes 33 50 hex; edition 1 at 2; plan length L at 4; plan offset 44 at 6; phase at 8; zero at 10"
 unfoldable pub placeHeader : ℕ → ℕ → Bytes
 placeHeader L phase = 0x33 ∷ 0x50 ∷ (twoBytes 1 ++ (twoBytes L ++ (twoBytes 44 ++ (twoBytes phase ++ twoBytes 0))))
 
+-- 01, "The place": "beliefs at 12; goals at 28; the plan's L bytes at 44. Exactly 44 + L bytes."
 unfoldable pub place : State → Bytes
 place s = placeHeader (length (s .mental .π)) (s .phase) ++ (s .mental .σ ++ (s .mental .γ ++ s .mental .π))
 
--- the state that a place's bytes stand for
+-- 01, "The place": "phase at 8; …; beliefs at 12; goals at 28; the plan's L bytes at 44": the state that a place's bytes stand
+-- for.
 unfoldable pub placed : Bytes → State
 placed p = record { mental = ⟨ part p 12 16 / drop 44 p / part p 28 16 ⟩; phase = number p 8 }

@@ -1,23 +1,33 @@
--- The stripe card (document 01, "The stripe card"), put together from its parts, and the cards that its P cases vary.
+-- The stripe card (01, "The stripe card"), put together from its parts, and the cards that its P cases vary.
 use mathlib.Core.List.{List, [], _∷_, _++_, map, flatten}
 use Prim.Native.Nat.{ℕ, _+_, _*_}
 use lib.ListN.{length, replicate}
 use Rattle.meaning.specs.Card.{Bytes}
 use Rattle.meaning.specs.Place.{twoBytes}
 
--- the parts of a card, each entry as its bytes
+-- The parts of a card, each entry as its bytes. Serves assembled: 01, "The card, edition 1", the table.
 pub record Parts : Type 0 where
+  -- 01, "The card, edition 1", at 4: "atoms"
   pub atoms : ℕ
+  -- 01, "The card, edition 1", at 64: "weights, one for each action"; there are as many actions
   pub weights : List ℕ
+  -- 01, "The card, edition 1": "Node, 4 bytes"
   pub nodes : List Bytes
+  -- 01, "The card, edition 1": "Specification, 36 bytes"
   pub specifications : List Bytes
+  -- 01, "The card, edition 1": "Selection rule, 8 bytes"
   pub selections : List Bytes
+  -- 01, "The card, edition 1": "Revision rule, 12 bytes"
   pub revisions : List Bytes
+  -- 01, "The card, edition 1": "The pool is one byte an action."
   pub pool : Bytes
+  -- 01, "The card, edition 1", at 32: "initial beliefs"
   pub beliefs : Bytes
+  -- 01, "The card, edition 1", at 48: "initial goals"
   pub goals : Bytes
 
--- the card of some parts, with no initial plan (start 0, length 0)
+-- 01, "The card, edition 1": "counts and offsets in a header", "The sections follow the weights in the header's order with no
+-- gap; the card ends with the pool." 01, "The stripe card": "no initial plan" (start 0, length 0).
 unfoldable pub assembled : Parts → Bytes
 assembled p =
     let actions : ℕ = length (p .weights) in
@@ -39,65 +49,76 @@ assembled p =
     ++ (flatten (p .nodes) ++ (flatten (p .specifications)
     ++ (flatten (p .selections) ++ (flatten (p .revisions) ++ p .pool))))))))
 
--- 16 bytes: a set whose atoms are below 8, by its first byte
+-- 01, "The card, edition 1": "A set of atoms is 16 bytes": one whose atoms are below 8, by its first byte.
 unfoldable pub set : ℕ → Bytes
 set n = n ∷ replicate 15 0
 
+-- 01, "The card, edition 1": "Specification, 36 bytes: action, node, 0, 0, Add, Del."
 unfoldable pub specification : ℕ → ℕ → ℕ → ℕ → Bytes
 specification action node add del = action ∷ node ∷ 0 ∷ 0 ∷ (set add ++ set del)
 
+-- 01, "The card, edition 1": "Selection rule, 8 bytes: belief node, goal node, start, length (1..1,024), zero number."
 unfoldable pub selection : ℕ → ℕ → ℕ → ℕ → Bytes
 selection belief goal start len = belief ∷ goal ∷ (twoBytes start ++ (twoBytes len ++ twoBytes 0))
 
--- the node, then the head and the body, each by start and length
+-- 01, "The card, edition 1": "Revision rule, 12 bytes: node, 0, head start, head length (1..1,024), body start, body length
+-- (0..1,024), zero number."
 unfoldable pub revision : ℕ → ℕ → ℕ → ℕ → ℕ → Bytes
 revision node headStart headLen bodyStart bodyLen =
     node ∷ 0 ∷ (twoBytes headStart ++ (twoBytes headLen ++ (twoBytes bodyStart ++ (twoBytes bodyLen ++ twoBytes 0))))
 
--- The stripe card, but for what the cases vary: the weight of weave, node 0, the Del of weave, revision 1 and the pool.
+-- 01, "The stripe card", but for what the cases vary: the weight of weave, node 0, the Del of weave, revision 1 and the pool.
 unfoldable pub stripeWith : ℕ → Bytes → ℕ → Bytes → Bytes → Bytes
 stripeWith weave node0 del revision1 pool = assembled (record {
+  -- 01, "The stripe card": "Atoms: 0 threaded, 1 bobbin, 2 band, 3 broken."
   atoms = 4;
+  -- 01, "The stripe card": "Actions: 0 weave, 1 wind, 2 repair, 3 pick, 4 stripe; weights 1, 1, 1, 3, 5."
   weights = weave ∷ 1 ∷ 1 ∷ 3 ∷ 5 ∷ [];
-  -- 0 true; 1 believes 1; 2 believes 3; 3 not 2; 4 1 and 3; 5 has goal 2
+  -- 01, "The stripe card": "Nodes: 0 true; 1 believes 1; 2 believes 3; 3 not 2; 4 1 and 3; 5 has goal 2."
   nodes = node0 ∷ (1 ∷ 1 ∷ 0 ∷ 0 ∷ []) ∷ (1 ∷ 3 ∷ 0 ∷ 0 ∷ []) ∷ (3 ∷ 2 ∷ 0 ∷ 0 ∷ []) ∷ (4 ∷ 1 ∷ 3 ∷ 0 ∷ []) ∷ (2 ∷ 2 ∷ 0 ∷ 0 ∷ []) ∷ [];
-  -- 0 weave if node 4, Add {2}, Del {1}; 1 wind if true, Add {1}; 2 repair if node 2, Del {3}
+  -- 01, "The stripe card": "Specifications: 0 weave if node 4, Add {2}, Del {1}; 1 wind if true, Add {1}; 2 repair if node 2,
+  -- Del {3}."
   specifications = specification 0 4 4 del ∷ specification 1 0 2 0 ∷ specification 2 2 0 8 ∷ [];
-  -- true, node 5, plan 4
+  -- 01, "The stripe card": "Selection 0: true, node 5, plan 4."
   selections = selection 0 5 0 1 ∷ [];
-  -- 0: 4, true, becomes 1 3; 1: 3, node 2, becomes 2 0; 2: 3, node 3, becomes 0
+  -- 01, "The stripe card": "Revisions: 0: 4, true, becomes 1 3; 1: 3, node 2, becomes 2 0; 2: 3, node 3, becomes 0."
   revisions = revision 0 0 1 1 2 ∷ revision1 ∷ revision 3 2 1 4 1 ∷ [];
+  -- 01, "The stripe card": "Pool 4 1 3 2 0." or what a case has
   pool = pool;
-  -- beliefs {0, 3}, goals {2}
+  -- 01, "The stripe card": "Beliefs {0, 3}"
   beliefs = set 9;
+  -- 01, "The stripe card": "goals {2}"
   goals = set 4;
 })
 
+-- 01, "The stripe card": "Nodes: 0 true"
 abbrev true-node : Bytes
 true-node = 0 ∷ 0 ∷ 0 ∷ 0 ∷ []
 
+-- 01, "The stripe card": "Pool 4 1 3 2 0."
 abbrev its-pool : Bytes
 its-pool = 4 ∷ 1 ∷ 3 ∷ 2 ∷ 0 ∷ []
 
+-- 01, "The stripe card": "The card is 255 bytes."
 unfoldable pub stripe : Bytes
 stripe = stripeWith 1 (true-node) 2 (revision 2 2 1 3 2) its-pool
 
--- P4: weave's Del is {2}
+-- 01, P4: "Add {2}, Del {2}": weave's Del is {2}.
 unfoldable pub stripe-P4 : Bytes
 stripe-P4 = stripeWith 1 true-node 4 (revision 2 2 1 3 2) its-pool
 
--- P5: revision 1's head is 3 0, which stands at the end of a longer pool
+-- 01, P5: "head 3 0": revision 1's, which stands at the end of a longer pool.
 unfoldable pub stripe-P5 : Bytes
 stripe-P5 = stripeWith 1 true-node 2 (revision 2 5 2 3 2) (its-pool ++ (3 ∷ 0 ∷ []))
 
--- P9: revision 1's body is empty
+-- 01, P9: "a revision of 3 to the empty body": revision 1.
 unfoldable pub stripe-P9 : Bytes
 stripe-P9 = stripeWith 1 true-node 2 (revision 2 2 1 3 0) its-pool
 
--- P10: weave weighs 2, and so revision 1's body, 2 0, weighs 3
+-- 01, P10: "Revision 1's body weighing 3": weave weighs 2, and so the body, 2 0, weighs 3.
 unfoldable pub stripe-P10 : Bytes
 stripe-P10 = stripeWith 2 true-node 2 (revision 2 2 1 3 2) its-pool
 
--- P13: node 0 is "not 0"
+-- 01, P13: "Node 0 "not 0""
 unfoldable pub stripe-P13 : Bytes
 stripe-P13 = stripeWith 1 (3 ∷ 0 ∷ 0 ∷ 0 ∷ []) 2 (revision 2 2 1 3 2) its-pool

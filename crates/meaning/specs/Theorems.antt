@@ -17,58 +17,90 @@ use Rattle.meaning.specs.Configurations.{stateOf, configurationOf}
 use Rattle.meaning.specs.Place.{place, placed}
 use Rattle.meaning.specs.Refusals.{numberOf, Row, firstGiven, cardTable, configurationTable, cardShort, cardMark, countsGood, offsetsGood, weightsGood, nodesGood, containing, rulesGood, pool, actionsGood, setsGood, cardAnswer, placeTable, configurationGood}
 
--- A row of the table answers exactly when what it is given for holds and nothing of the rows before it does; the answer is
--- "done" exactly when no row's holds.
+-- 01, "Numbers the guide may answer": "given exactly when" and "tested in the table's order": a row answers when what it is
+-- given for holds and nothing of the rows before it does.
 pub record FirstRow {X : Type 0} (rows : List (Row X)) (x : X) (r : Refusal) : Type 0 where
+  -- the rows before it
   pub before : List (Row X)
+  -- the row that answers
   pub row : Row X
+  -- the rows behind it
   pub behind : List (Row X)
+  -- the table is these
   pub stands : rows ≡ before ++ (row ∷ behind)
+  -- 01, "Numbers the guide may answer": "tested in the table's order": nothing of the rows before it holds.
   pub passed : (q : Row X) → List·Memᴰ q before → q .when x ≡ false
+  -- 01, "Numbers the guide may answer": "given exactly when"
   pub holds : row .when x ≡ true
+  -- 01, "Numbers the guide may answer": "A refusal answers the number"
   pub answers : row .refusal ≡ r
 
+-- 01, "Numbers the guide may answer": "given exactly when", of a whole table.
 pub record TableLaws {X : Type 0} (rows : List (Row X)) (x : X) : Type 0 where
+  -- 01, "Numbers the guide may answer": "given exactly when", and "tested in the table's order"
   pub refused-exactly : (r : Refusal) → (firstGiven rows x ≡ Refused r) ↔ FirstRow rows x r
+  -- 01, "Numbers the guide may answer", row 0: "none below holds"
   pub done-exactly : (firstGiven rows x ≡ Done) ↔ ((q : Row X) → List·Memᴰ q rows → q .when x ≡ false)
 
--- "They are tested in the table's order, the card first with 1 to 9, then a place with 1, 2, 3, 4, 8, 9 or a configuration with
--- 13": the rows of each table by their numbers.
+-- The rows of a table by their numbers: 01, "Numbers the guide may answer": "no.". Serves TableOrder.
 abbrev pub rowNumbers : {X : Type 0} → List (Row X) → List ℕ
 rowNumbers rows = map (λ q. numberOf (q .refusal)) rows
 
+-- 01, "Numbers the guide may answer": "They are tested in the table's order, the card first with 1 to 9, then a place with 1,
+-- 2, 3, 4, 8, 9 or a configuration with 13"
 pub record TableOrder : Type 0 where
+  -- 01, "Numbers the guide may answer": "the card first with 1 to 9"
   pub card : rowNumbers cardTable ≡ 1 ∷ 2 ∷ 3 ∷ 4 ∷ 5 ∷ 6 ∷ 7 ∷ 8 ∷ 9 ∷ []
+  -- 01, "Numbers the guide may answer": "then a place with 1, 2, 3, 4, 8, 9"
   pub place : (l : Layout) → rowNumbers (placeTable l) ≡ 1 ∷ 2 ∷ 3 ∷ 4 ∷ 8 ∷ 9 ∷ []
+  -- 01, "Numbers the guide may answer": "a configuration with 13"
   pub configuration : (l : Layout) → rowNumbers (configurationTable l) ≡ 13 ∷ []
 
--- what an accepted card has passed, row by row
+-- What an accepted card has passed, row by row: 01, "Numbers the guide may answer", row 0: "none below holds".
 pub record Accepted (b : Bytes) : Type 0 where
+  -- 01, "Numbers the guide may answer", row 1 does not hold: "card under 64 bytes"
   pub long-enough : cardShort b ≡ false
+  -- 01, "Numbers the guide may answer", row 2 does not hold: "first two bytes or edition differ"
   pub marked : cardMark b ≡ false
+  -- 01, "Numbers the guide may answer", row 3 does not hold: "the number of atoms, of actions or of a section's entries or
+  -- bytes is out of range"
   pub counts : countsGood (layout b) ≡ true
+  -- 01, "Numbers the guide may answer", row 4 does not hold: "an offset or the total length is not the required one"
   pub offsets : offsetsGood (layout b) (length b) ≡ true
+  -- 01, "Numbers the guide may answer", row 5 does not hold: "a weight is 0 or over 1,024"
   pub weights : weightsGood (layout b) b ≡ true
+  -- 01, "Numbers the guide may answer", row 6 does not hold: "a node breaks its rule above"
   pub nodes : nodesGood (layout b) b ≡ true
+  -- 01, "Numbers the guide may answer", row 7 does not hold: "an entry or the initial plan breaks its rule"
   pub rules : rulesGood (containing 1 (layout b) b) (containing 2 (layout b) b) (layout b) b ≡ true
+  -- 01, "Numbers the guide may answer", row 8 does not hold: "a pool … byte is not below the number of actions"
   pub pool : actionsGood (layout b .actions) (pool (layout b) b) ≡ true
+  -- 01, "Numbers the guide may answer", row 9 does not hold: "a set has a bit at or above the number of atoms"
   pub sets : setsGood (layout b) b ≡ true
 
+-- 00, demands 2 and 3: "On an accepted card", what holds of it.
 pub record CardLaws (b : Bytes) : Type 0 where
+  -- 01, "Numbers the guide may answer": the rows 1 to 9 that it has passed.
   pub accepted : Accepted b
-  -- no two of its choices have one code
+  -- 00, the machine: "256 action specifications, 256 rules for choosing a plan": no two of its choices have one code.
   pub numbered : Numbered (agent b)
-  -- demand 3 of the letter
+  -- 00, demand 3: "A card is graded bounded exactly if …", and what holds "Under such a card".
   pub demand3 : Demand3 (weight b) (agent b) (initialPlan b)
 
--- A configuration that passes row 13 is known by its state, and a state that fits by its configuration.
+-- 00, demand 2: "On an accepted card and configuration": one that passes row 13 is known by its state, and a state that fits by
+-- its configuration.
 pub record ConfigurationLaws : Type 0 where
+  -- 01, "A configuration and its transitions": "a plan (0 to 1,024 action numbers)": what is handed out stands for the state.
   pub of-state : (s : State) → length (s .mental .π) ≤ 1024 → stateOf (configurationOf s) ≡ s
+  -- 01, "Numbers the guide may answer", row 13: "anything but zero after the plan's end": what is handed in is nothing beside
+  -- its state.
   pub of-configuration : (l : Layout) (c : Configuration) → length (c .plan) ≡ 1024 → configurationGood l c ≡ true
       → configurationOf (stateOf c) ≡ c
 
--- "A place saved and restored is the same configuration; an accepted place, restored and saved, is the same bytes" (the
--- letter, demand 2). Sets are 16 bytes; a saved plan's length and phase fit two bytes.
+-- 00, demand 2: "A place saved and restored is the same configuration; an accepted place, restored and saved, is the same
+-- bytes", of the bytes and states themselves.
 pub record PlaceLaws : Type 0 where
+  -- 00, demand 2: "A place saved and restored is the same configuration", with sets of 16 bytes and a phase of at most 2.
   pub saved-restored : (s : State) → length (s .mental .σ) ≡ 16 → length (s .mental .γ) ≡ 16 → s .phase ≤ 2 → placed (place s) ≡ s
+  -- 00, demand 2: "an accepted place, restored and saved, is the same bytes"
   pub restored-saved : (l : Layout) (p : Bytes) → AreBytes p → firstGiven (placeTable l) p ≡ Done → place (placed p) ≡ p

@@ -3,7 +3,7 @@
 use house::Ending;
 use house::Verdict;
 
-// Why a call is refused: the rows of document 01's table, "Numbers the guide may answer", in its order.
+// 01, "Numbers the guide may answer": the rows of the table but the first, by their names, in its order.
 pub enum Refusal {
     Short,
     Mark,
@@ -20,25 +20,26 @@ pub enum Refusal {
     NoRoom,
 }
 
-// Done, or refused.
+// 01, "Numbers the guide may answer": "done", row 0, or one of the others.
 pub enum Answer {
     Done,
     Refused(Refusal),
 }
 
-// A section of a card: how many entries (the pool: bytes) it has, and where it starts.
+// 01, "The card, edition 1", the table: "nodes, offset" and the like: how many entries (the pool: bytes) a section has, and where it
+// starts.
 pub struct Section {
     pub count: usize,
     pub offset: usize,
 }
 
-// A plan in the pool.
+// 01, "The card, edition 1": "A plan is a start and a length in the pool".
 pub struct Span {
     pub start: usize,
     pub length: usize,
 }
 
-// What a card's header says.
+// 01, "The card, edition 1": "counts and offsets in a header", in the table's order.
 pub struct Layout {
     pub atoms: usize,
     pub actions: usize,
@@ -50,8 +51,8 @@ pub struct Layout {
     pub initial: Span,
 }
 
-// A configuration: sets of believed and of goal atoms, a plan of `length` actions with zeros after its end, and a phase.
-// What a caller hands in may be out of range.
+// 01, "A configuration and its transitions": "a set of believed atoms, a set of goal atoms, a plan (0 to 1,024 action numbers) and a
+// phase 0, 1 or 2". The plan's first `length` bytes are its actions. What a caller hands in may be out of range: row 13.
 pub struct Configuration {
     pub beliefs: [u8; 16],
     pub goals: [u8; 16],
@@ -60,33 +61,34 @@ pub struct Configuration {
     pub phase: u8,
 }
 
-// What `check` answers: the card's layout, or the refusal.
+// What `check` answers: 01, "Expected forms by place": "each check answers an enum": the card's layout, or the refusal.
 pub enum Checked {
     Good(Layout),
     Refused(Refusal),
 }
 
-// What `load`, `take` and `restore` answer.
+// What `load`, `take` and `restore` answer. 01, "Numbers the guide may answer": "the number and the configuration".
 pub struct Reply {
     pub answer: Answer,
     pub configuration: Configuration,
 }
 
-// What `grade` answers.
+// What `grade` answers. 01, "Numbers the guide may answer": "load, restore and grading … answer the empty one".
 pub struct Graded {
     pub answer: Answer,
     pub verdict: Verdict,
     pub configuration: Configuration,
 }
 
-// What `list` and `save` answer: how many choices, or bytes, were written.
+// What `list` and `save` answer. 01, "Numbers the guide may answer": "the answer tells how many"; "44 + L bytes and no others".
 pub struct Written {
     pub answer: Answer,
     pub count: u16,
     pub configuration: Configuration,
 }
 
-// What `run` answers.
+// What `run` answers. 01, "A configuration and its transitions": "the configuration reached, how many transitions were taken, and one of
+// three endings".
 pub struct Ran {
     pub answer: Answer,
     pub count: u16,

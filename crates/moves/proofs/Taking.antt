@@ -24,8 +24,8 @@ use Rattle.meaning.proofs.Configurations.{good, padded-take}
 use Rattle.moves.specs.declared.mind.Mind.{Mind}
 use Rattle.moves.specs.declared.mind.Next.{Next}
 use Rattle.moves.specs.declared.mind.Stepped.{Stepped}
-use Rattle.moves.specs.Minds.{stateIn, mindOf, mindIn, Held}
-use Rattle.moves.specs.Choosing.{Reached, nothing, full, to, fitting, moveBy, choiceAt, taking, told, left}
+use Rattle.moves.specs.Minds.{stateIn, mindOf, mindIn, configurationIn, Held}
+use Rattle.moves.specs.Choosing.{Reached, nothing, full, to, fitting, moveBy, choiceAt, answered, taking, told, left}
 use Rattle.moves.proofs.Making.{leads-to, leads-nowhere}
 use Rattle.moves.proofs.Turning.{fitting-yes, fitting-no, made-fits}
 
@@ -96,61 +96,24 @@ pub in-state : (A : Agent) (c : Configuration) (k : Choice) (m : Mind) → m ≡
 unfolding stateOf
 in-state A c k m e s p h = subst (λ (x : Mind). (s ≡ told (moveBy A (stateIn x (c .plan)) k) x) × (p ≡ left (moveBy A (stateIn x (c .plan)) k) (c .plan))) e h
 
+-- the number and the configuration that the code answers, by what the move comes to
+by-reached : (o : Reached) (c : Configuration) → reply (answered (told o (mindIn c) .next)) (configurationIn (told o (mindIn c) .mind) (left o (c .plan))) ≡ taking o c
+unfolding configurationOf
+by-reached nothing c = refl
+by-reached full c = refl
+by-reached (to s) c = refl
+
 module _ (A : Agent) (c : Configuration) (k : Choice) (s : Stepped) (e : s ≡ told (moveBy A (stateOf c) k) (mindIn c)) where
-  data Came (o : Reached) : Type 0 where
-    came-nowhere : o ≡ nothing → Came o
-    came-full : o ≡ full → Came o
-    came-to : (s′ : State) → o ≡ to s′ → Came o
+  pub taken : (p : Bytes) → p ≡ left (moveBy A (stateOf c) k) (c .plan) → reply (answered (s .next)) (configurationIn (s .mind) p) ≡ taking (moveBy A (stateOf c) k) c
+  taken p h = (λ i. reply (answered (e i .next)) (configurationIn (e i .mind) (h i))) ∙ by-reached (moveBy A (stateOf c) k) c
 
-  came : (o : Reached) → Came o
-  came nothing = came-nowhere refl
-  came full = came-full refl
-  came (to s′) = came-to s′ refl
-
-  tells : (o : Reached) → moveBy A (stateOf c) k ≡ o → s .next ≡ told o (mindIn c) .next
-  tells o q = ap (λ (x : Stepped). x .next) e ∙ ap (λ r. told r (mindIn c) .next) q
-
-  pub told-nothing : s .next ≡ Next.Nothing → reply (Refused Refusal.NotEnabled) c ≡ taking (moveBy A (stateOf c) k) c
-  told-nothing f = go (came (moveBy A (stateOf c) k))
+  pub mind-within : c .length ≤ 1024 → s .mind .length ≤ 1024
+  mind-within h = subst (λ (x : Stepped). x .mind .length ≤ 1024) (sym e) (go (moveBy A (stateOf c) k) refl)
     where
-      go : Came (moveBy A (stateOf c) k) → reply (Refused Refusal.NotEnabled) c ≡ taking (moveBy A (stateOf c) k) c
-      go (came-nowhere q) = ap (λ o. taking o c) (sym q)
-      go (came-full q) = absurd (let y : Next.Full ≡ Next.Nothing = sym (tells full q) ∙ f in let z : _≡_ {A = ℕ} 0 1 = cc in omega arith)
-      go (came-to s′ q) = absurd (let y : Next.Moved ≡ Next.Nothing = sym (tells (to s′) q) ∙ f in let z : _≡_ {A = ℕ} 0 1 = cc in omega arith)
-
-  pub told-full : s .next ≡ Next.Full → reply (Refused Refusal.PlanFull) c ≡ taking (moveBy A (stateOf c) k) c
-  told-full f = go (came (moveBy A (stateOf c) k))
-    where
-      go : Came (moveBy A (stateOf c) k) → reply (Refused Refusal.PlanFull) c ≡ taking (moveBy A (stateOf c) k) c
-      go (came-nowhere q) = absurd (let y : Next.Nothing ≡ Next.Full = sym (tells nothing q) ∙ f in let z : _≡_ {A = ℕ} 0 1 = cc in omega arith)
-      go (came-full q) = ap (λ o. taking o c) (sym q)
-      go (came-to s′ q) = absurd (let y : Next.Moved ≡ Next.Full = sym (tells (to s′) q) ∙ f in let z : _≡_ {A = ℕ} 0 1 = cc in omega arith)
-
-  -- the move that is made: the state that it leads to
-  pub told-moved : s .next ≡ Next.Moved → (s′ : State) × (moveBy A (stateOf c) k ≡ to s′) × (length (s′ .mental .π) ≤ 1024)
-  told-moved f = go (came (moveBy A (stateOf c) k))
-    where
-      go : Came (moveBy A (stateOf c) k) → (s′ : State) × (moveBy A (stateOf c) k ≡ to s′) × (length (s′ .mental .π) ≤ 1024)
-      go (came-nowhere q) = absurd (let y : Next.Nothing ≡ Next.Moved = sym (tells nothing q) ∙ f in let z : _≡_ {A = ℕ} 0 1 = cc in omega arith)
-      go (came-full q) = absurd (let y : Next.Full ≡ Next.Moved = sym (tells full q) ∙ f in let z : _≡_ {A = ℕ} 0 1 = cc in omega arith)
-      go (came-to s′ q) = (s′, q, made-fits A (stateOf c) s′ k q .0)
-
-  pub mind-within : s .next ≡ Next.Moved → s .mind .length ≤ 1024
-  mind-within f =
-      let (s′, q, l) = told-moved f in
-      subst (λ (x : Stepped). x .mind .length ≤ 1024) (sym (e ∙ ap (λ r. told r (mindIn c)) q)) l
-
-  pub made : (p : Bytes) → p ≡ left (moveBy A (stateOf c) k) (c .plan) → s .next ≡ Next.Moved
-      → (r : Configuration) → r ≡ record { beliefs = s .mind .beliefs; goals = s .mind .goals; plan = p; length = s .mind .length; phase = s .mind .phase }
-      → reply Done r ≡ taking (moveBy A (stateOf c) k) c
-  unfolding configurationOf
-  made p h f r w =
-      let (s′, q, l) = told-moved f in
-      let m : s .mind ≡ mindOf s′ = ap (λ (x : Stepped). x .mind) (e ∙ ap (λ o. told o (mindIn c)) q) in
-      let v : p ≡ padded (s′ .mental .π) = h ∙ ap (λ o. left o (c .plan)) q in
-      ap (reply Done) w
-      ∙ (λ i. reply Done (record { beliefs = m i .beliefs; goals = m i .goals; plan = v i; length = m i .length; phase = m i .phase }))
-      ∙ ap (λ o. taking o c) (sym q)
+      go : (o : Reached) → moveBy A (stateOf c) k ≡ o → told o (mindIn c) .mind .length ≤ 1024
+      go nothing q = h
+      go full q = h
+      go (to s′) q = made-fits A (stateOf c) s′ k q .0
 
 -- ---- row 13, by the code's own test
 

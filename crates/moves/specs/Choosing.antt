@@ -71,6 +71,12 @@ stepOf A s = elim (guide A s) [ none ↦ nothing | some m ↦ fitting (m .to) ]
 abbrev pub ranTo : Outcome → Turned
 ranTo o = record { mind = mindOf (o .state); count = o .count; ending = o .ending }
 
+-- 01, "Numbers the guide may answer", rows 0, 10 and 11: what is answered of what a move came to
+abbrev pub answered : Next → Answer
+answered Next.Moved = Answer.Done
+answered Next.Nothing = Answer.Refused Refusal.NotEnabled
+answered Next.Full = Answer.Refused Refusal.PlanFull
+
 -- what taking a choice answers, by what its move comes to
 abbrev pub taking : Reached → Configuration → Reply
 taking nothing c = reply (Answer.Refused Refusal.NotEnabled) c

@@ -25,9 +25,10 @@ pub record Held (m : Mind) (d : Bytes) : Type 0 where
   pub zeros : d ≡ padded (take (m .length) d)
   pub room : length d ≡ 1024
 
--- a configuration's mind, and a configuration with another mind
+-- a configuration's mind
 abbrev pub mindIn : Configuration → Mind
 mindIn c = record { beliefs = c .beliefs; goals = c .goals; length = c .length; phase = c .phase }
 
-abbrev pub withMind : Configuration → Mind → Configuration
-withMind c m = record { beliefs = m .beliefs; goals = m .goals; plan = c .plan; length = m .length; phase = m .phase }
+-- a configuration of a mind and a plan's bytes
+abbrev pub configurationIn : Mind → Bytes → Configuration
+configurationIn m p = record { beliefs = m .beliefs; goals = m .goals; plan = p; length = m .length; phase = m .phase }

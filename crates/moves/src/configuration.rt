@@ -6,7 +6,7 @@ ghost use lib.Dec.{eqb};
 ghost use lib.ListN.{length, take, drop};
 ghost use Rattle.meaning.specs.Refusals.{all, actionsGood, setGood, configurationGood};
 ghost use Rattle.sets.specs.Sets.{below};
-ghost use Rattle.moves.specs.Minds.{mindIn, withMind};
+ghost use Rattle.moves.specs.Minds.{mindIn};
 use crate::mind::Mind;
 use card::contents::actions_good;
 use meaning::Configuration;
@@ -51,23 +51,37 @@ fn set_known(s: [u8; 16], atoms: usize, known: [u8; 16]) -> bool
     sets::only(s, known)
 }
 
+// Row 13 of the parts of a configuration, which are not copied.
+fn parts_good(
+    l: Layout,
+    beliefs: [u8; 16],
+    goals: [u8; 16],
+    plan: &[u8; 1024],
+    n: usize,
+    phase: u8,
+) -> bool
+    requires { ⌜ l .atoms ≤ 128 ⌝ }
+    ensures { λ r. ⌜ r ≡ configurationGood l (record { beliefs = beliefs; goals = goals; plan = now (plan .entry); length = n; phase = phase }) ⌝ }
+{
+    if 1024 < n {
+        return false;
+    }
+    let atoms = l.atoms;
+    let known = sets::below_number(atoms);
+    let actions = plan_good(plan, n, l.actions);
+    let believed = set_known(beliefs, atoms, known);
+    let wanted = set_known(goals, atoms, known);
+    actions & (believed & (wanted & (phase <= 2)))
+}
+
 // Row 13.
 pub fn configuration_good(l: Layout, c: Configuration) -> bool
     requires { ⌜ l .atoms ≤ 128 ⌝ }
     ensures { λ r. ⌜ r ≡ configurationGood l c ⌝ }
 {
-    let n = c.length as usize;
-    if 1024 < n {
-        return false;
-    }
-    let atoms = l.atoms;
     let b = c.beliefs;
     let g = c.goals;
-    let known = sets::below_number(atoms);
-    let plan = plan_good(&c.plan, n, l.actions);
-    let beliefs = set_known(b, atoms, known);
-    let goals = set_known(g, atoms, known);
-    plan & (beliefs & (goals & (c.phase <= 2)))
+    parts_good(l, b, g, &c.plan, c.length as usize, c.phase)
 }
 
 // The mind of a configuration, whose plan has its 1,024 bytes.
@@ -82,22 +96,5 @@ pub fn mind_of(c: Configuration) -> Mind
         goals: g,
         length: c.length as usize,
         phase: c.phase,
-    }
-}
-
-// A configuration with another mind.
-pub fn with_mind(c: Configuration, m: Mind) -> Configuration
-    requires { ⌜ m .length ≤ 1024 ⌝ }
-    ensures { λ r. ⌜ r ≡ withMind c m ⌝ }
-{
-    let b = m.beliefs;
-    let g = m.goals;
-    let p = c.plan;
-    Configuration {
-        beliefs: b,
-        goals: g,
-        plan: p,
-        length: m.length as u16,
-        phase: m.phase,
     }
 }

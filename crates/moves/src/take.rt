@@ -12,10 +12,9 @@ ghost use Rattle.meaning.specs.Calls.{takes};
 ghost use Rattle.card.specs.GoodCard.{GoodCard};
 ghost use Rattle.moves.specs.Truth.{Judged};
 ghost use Rattle.moves.specs.Minds.{mentalOf, stateIn, Held};
-ghost use Rattle.moves.specs.Choosing.{choiceAt, moveBy, told, left, taking};
+ghost use Rattle.moves.specs.Choosing.{answered, choiceAt, moveBy, told, left, taking};
 use crate::configuration::configuration_good;
 use crate::configuration::mind_of;
-use crate::configuration::with_mind;
 use crate::enabled::can_act;
 use crate::enabled::can_revise;
 use crate::enabled::can_select;
@@ -116,7 +115,18 @@ fn attempt(card: &[u8], l: Layout, m: Mind, plan: &mut [u8; 1024], kind: u8, i: 
     }
 }
 
-// A choice of a kind, from a good configuration.
+// What is answered of what a move comes to: done, 10 or 11.
+fn answer_to(next: Next) -> Answer
+    ensures { λ r. ⌜ r ≡ answered next ⌝ }
+{
+    match next {
+        Next::Moved => Answer::Done,
+        Next::Nothing => Answer::Refused(Refusal::NotEnabled),
+        Next::Full => Answer::Refused(Refusal::PlanFull),
+    }
+}
+
+// A choice of a kind, from a good configuration. What is not moved is as it came in.
 fn take_choice(card: &[u8], l: Layout, c: Configuration, kind: u8, i: usize) -> Reply
     requires { ⌜ GoodCard l (now card) × (configurationGood l c ≡ true) × (kind < 3) ⌝ }
     ensures { λ r. ⌜ r ≡ taking (moveBy (agentFor l (now (card .entry))) (stateOf c) (choiceAt kind i)) c ⌝ }
@@ -125,23 +135,16 @@ fn take_choice(card: &[u8], l: Layout, c: Configuration, kind: u8, i: usize) -> 
     let m = mind_of(c);
     let s = attempt(card, l, m, &mut d.plan, kind, i);
     let next = s.next;
-    match next {
-        Next::Moved => {
-            let after = s.mind;
-            let reached = with_mind(d, after);
-            Reply {
-                answer: Answer::Done,
-                configuration: reached,
-            }
-        }
-        Next::Nothing => Reply {
-            answer: Answer::Refused(Refusal::NotEnabled),
-            configuration: c,
-        },
-        Next::Full => Reply {
-            answer: Answer::Refused(Refusal::PlanFull),
-            configuration: c,
-        },
+    let after = s.mind;
+    let beliefs = after.beliefs;
+    let goals = after.goals;
+    d.beliefs = beliefs;
+    d.goals = goals;
+    d.length = after.length as u16;
+    d.phase = after.phase;
+    Reply {
+        answer: answer_to(next),
+        configuration: d,
     }
 }
 

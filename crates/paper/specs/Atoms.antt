@@ -1,5 +1,5 @@
--- Sets of atoms, as bytes: "atom k is bit (k modulo 8) of byte (k divided by 8)" (document 01, "The card, edition 1").
--- A set here has any number of bytes; an atom past its last byte is not in it.
+-- Sets of atoms, as bytes (01, "The card, edition 1"). A set here has any number of bytes; an atom past its last byte is not in
+-- it.
 use mathlib.Core.Bool.{Bool}
 use mathlib.Core.List.{List, [], _∷_}
 use Prim.Native.Nat.{ℕ, _/_, _%_, _^_}
@@ -7,26 +7,29 @@ use lib.Bits.{bitAnd, bitOr, bitXor}
 use lib.Dec.{eqb}
 use lib.ListN.{getD}
 
+-- 01, "The card, edition 1": "A set of atoms is 16 bytes". Here of any number of bytes (docs/DECISIONS.md, "Lists in
+-- definitions").
 abbrev pub Atoms : Type 0
 Atoms = List ℕ
 
--- bit i of a byte
+-- Bit i of a byte. Serves _∈_: 01, "The card, edition 1": "atom k is bit (k modulo 8)".
 unfoldable pub bit : ℕ → ℕ → Bool
 bit i b = eqb (b / 2 ^ i % 2) 1
 
 infix 40 _∈_
+-- 01, "The card, edition 1": "atom k is bit (k modulo 8) of byte (k divided by 8)".
 unfoldable pub _∈_ : ℕ → Atoms → Bool
 k ∈ s = bit (k % 8) (getD s (k / 8) 0)
 
--- the union, byte by byte
 infixl 50 _∪_
+-- The union, byte by byte. Serves σ′: 004, Definition 9: "σ ∪ Add".
 unfoldable pub _∪_ : Atoms → Atoms → Atoms
 [] ∪ t = t
 (x ∷ s) ∪ [] = x ∷ s
 (x ∷ s) ∪ (y ∷ t) = bitOr x y ∷ (s ∪ t)
 
--- the difference, byte by byte
 infixl 50 _∖_
+-- The difference, byte by byte. Serves σ′ and γ′: 004, Definition 9: "σ′ = (σ ∪ Add) \ Del, and γ′ = γ \ Add".
 unfoldable pub _∖_ : Atoms → Atoms → Atoms
 [] ∖ t = []
 (x ∷ s) ∖ [] = x ∷ s

@@ -1,4 +1,4 @@
--- Cases of document 01 that need the paper's definitions alone.
+-- Cases of 01 that need the paper's definitions alone.
 use mathlib.Core.Path.{_≡_}
 use mathlib.Core.List.{[], _∷_}
 use mathlib.Core.Option.{none, some}
@@ -6,6 +6,7 @@ use Rattle.paper.specs.Language.{⊤, Agent, ⟨_/_/_⟩}
 use Rattle.paper.specs.Transitions.{act, revise}
 use Rattle.paper.specs.Next.{next}
 
+-- An agent for 01, P4 ("Add {2}, Del {2}"), for 01, P5 ("head 3 0") and for 01, P9 ("a revision of 3 to the empty body").
 -- Action 0 adds and deletes atom 2 (bit 2 of a byte is 4). The revisions: 3 0 becomes 1, and 3 becomes the empty body.
 unfoldable pub small : Agent
 small = record {
@@ -14,13 +15,16 @@ small = record {
   AS = record { β = ⊤; a = 0; Add = 4 ∷ []; Del = 4 ∷ [] } ∷ [];
 }
 
+-- 01, "The stripe card": "Cases marked P are proved": those that speak of one transition alone. On the stripe card they are in
+-- meaning's PCases.
 pub record Cases : Type 0 where
-  -- "P4 Add {2}, Del {2}, goals {2}: atom 2 is in neither set afterwards."
+  -- 01, P4: "Add {2}, Del {2}, goals {2}: atom 2 is in neither set afterwards."
   pub P4 : next small ⟨ 0 ∷ [] / 0 ∷ [] / 4 ∷ [] ⟩ (act 0) ≡ some ⟨ 0 ∷ [] / [] / 0 ∷ [] ⟩
-  -- "P5 Plan 3, head 3 0: not enabled."
+  -- 01, P5: "Plan 3, head 3 0: not enabled."
   pub P5 : next small ⟨ [] / 3 ∷ [] / [] ⟩ (revise 0) ≡ none
-  -- "Matching a head anywhere in the plan instead of at its front."
+  -- 01, "Errors a weaver would meet": "Matching a head anywhere in the plan instead of at its front."
   pub not-inside : next small ⟨ [] / 1 ∷ 3 ∷ 0 ∷ [] / [] ⟩ (revise 0) ≡ none
+  -- 01, "A configuration and its transitions", Revision: "The body takes the head's place; the rest stays."
   pub at-the-front : next small ⟨ [] / 3 ∷ 0 ∷ 2 ∷ [] / [] ⟩ (revise 0) ≡ some ⟨ [] / 1 ∷ 2 ∷ [] / [] ⟩
-  -- "P9 Plan 3, a revision of 3 to the empty body: empty plan."
+  -- 01, P9: "Plan 3, a revision of 3 to the empty body: empty plan."
   pub P9 : next small ⟨ [] / 3 ∷ [] / [] ⟩ (revise 1) ≡ some ⟨ [] / [] / [] ⟩

@@ -60,12 +60,11 @@ fn fill(c: Configuration, out: &mut [u8])
     let b = c.beliefs;
     let g = c.goals;
     let n = c.length as usize;
-    let p = c.plan;
     let h = head(n, c.phase);
     copy(out, 0, &h, 12);
     copy(out, 12, &b, 16);
     copy(out, 28, &g, 16);
-    copy(out, 44, &p, n);
+    copy(out, 44, &c.plan, n);
 }
 
 // Row 13, then row 12: "the lent list or place buffer is too short".

@@ -1,6 +1,6 @@
 use Rattle.house.specs.declared.Offender.{Offender}
 use mathlib.Core.Path.{subst}
-use Rattle.answers.specs.Numbers.{offenderRule}
+use Rattle.meaning.specs.Numbers.{offenderRule}
 use mathlib.Core.Path.{_≡_, refl, sym, ap, _∙_}
 use mathlib.Core.List.{List, [], _∷_, _++_, append-nil, append-assoc}
 use Prim.Native.Nat.{ℕ, suc, _+_, _-_, _*_, _≤_, _<_}

@@ -1,6 +1,6 @@
 use Rattle.answers.proofs.Laws.{grades-narrow}
 use mathlib.Core.Path.{subst}
-use Rattle.answers.specs.Numbers.{verdictNumber, verdictOffender, verdictRule}
+use Rattle.meaning.specs.Numbers.{verdictNumber, verdictOffender, verdictRule}
 use Rattle.meaning.specs.Refusals.{answerNumber}
 use Rattle.meaning.specs.declared.Graded.{Graded}
 use mathlib.Core.Path.{_≡_, refl, sym, ap, _∙_}

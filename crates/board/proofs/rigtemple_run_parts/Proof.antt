@@ -1,4 +1,4 @@
-use Rattle.answers.specs.Numbers.{endingNumber}
+use Rattle.meaning.specs.Numbers.{endingNumber}
 use Rattle.meaning.specs.Refusals.{answerNumber}
 use Rattle.meaning.specs.declared.Ran.{Ran}
 use mathlib.Core.Path.{_≡_, refl, sym, ap, _∙_}

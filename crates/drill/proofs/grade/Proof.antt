@@ -1,6 +1,6 @@
 use Rattle.answers.proofs.Laws.{grades-narrow}
 use mathlib.Core.Path.{subst}
-use Rattle.answers.specs.Numbers.{verdictRule}
+use Rattle.meaning.specs.Numbers.{verdictRule}
 use Rattle.meaning.specs.declared.Graded.{Graded}
 use mathlib.Core.Path.{_≡_, refl, sym, ap, _∙_}
 use mathlib.Core.List.{List, [], _∷_, _++_, append-nil, append-assoc}

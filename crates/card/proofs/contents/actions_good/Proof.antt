@@ -1,9 +1,10 @@
+use Rattle.card.proofs.Laws.{known-by-last, of-none}
 use mathlib.Core.Bool.{Bool}
 use Rattle.sets.proofs.Loops.{Found, found-turn, found-all}
 use Rattle.meaning.proofs.Parts.{length-part, part-at}
-use Rattle.meaning.specs.Refusals.{actionsGood}
+use Rattle.meaning.specs.Refusals.{all, actionsGood}
 use Rattle.meaning.specs.Card.{part}
-use lib.Dec.{ltb}
+use lib.Dec.{eqb, ltb, leb}
 use mathlib.Core.Path.{_≡_, refl, sym, ap, _∙_}
 use mathlib.Core.List.{List, [], _∷_, _++_, append-nil, append-assoc}
 use Prim.Native.Nat.{ℕ, suc, _+_, _-_, _*_, _≤_, _<_}
@@ -15,54 +16,67 @@ use Rattle.card.proofs.contents.actions_good.Statement.{statement}
 use Rattle.card.proofs.contents.actions_good.Tie as tie
 use Rattle.card.proofs.contents.actions_good.Reads as reads
 use Rattle.card.proofs.contents.actions_good.Lts as lts
-use Rattle.card.proofs.readers.byte_below.Reads as byte-below-reads
+use Rattle.card.proofs.contents.last_action.Reads as last-action-reads
 
 abbrev Inv-loop : tie.InvT-loop
-Inv-loop bytes from n actions good₀ i₀ good i = (i ≤ n) × Found (λ a. ltb a actions) (part bytes from n) good i
+Inv-loop bytes from n actions last good₀ i₀ good i = (i ≤ n) × Found (λ a. ltb a actions) (part bytes from n) good i
 
 abbrev μ-loop : tie.MeasureT-loop
-μ-loop bytes from n actions good₀ i₀ good i = n - i
+μ-loop bytes from n actions last good₀ i₀ good i = n - i
 
--- src/contents.rt:39:5
-loop-holds : tie.Need-loop-holds Inv-loop μ-loop
-loop-holds c = (omega arith, refl)
-
--- src/contents.rt:40:38
-add-byte-below : tie.Need-add-byte-below Inv-loop μ-loop
-add-byte-below c = search needs
-
--- src/contents.rt:40:32
-shared-slice-read-byte-below : tie.Need-shared-slice-read-byte-below Inv-loop μ-loop
-shared-slice-read-byte-below c = search needs
-
--- src/contents.rt:40:13
-byte-below-requires : tie.Need-byte-below-requires Inv-loop μ-loop
-byte-below-requires c κs = search needs
-
--- src/contents.rt:42:9
-add-i : tie.Need-add-i Inv-loop μ-loop
-add-i c = search needs
-
--- src/contents.rt:39:5
-loop-less : tie.Need-loop-less Inv-loop μ-loop
-loop-less c = search needs
-
--- src/contents.rt:39:5
-loop-again : tie.Need-loop-again Inv-loop μ-loop
-loop-again c =
-    let a = c .before .before .before .before .before .args in
-    let l = c .before .before .before .loop in
-    let b = now (a .bytes) in
-    let p = part b (a .from) (a .n) in
-    let t : ℕ → Bool = λ x. ltb x (a .actions) in
-    let e : c .byte-below .result ≡ t (getD p (l .i) 0) = c .byte-below .ensures ∙ ap t (sym (part-at b (a .from) (a .n) (l .i) (omega arith))) in
-    (omega arith, rw e (found-turn t p (l .good) (l .i) 0 (rw (length-part b (a .from) (a .n) (omega arith)) (omega arith)) (l .inv .1)))
-
--- src/contents.rt:33:1
+-- src/contents.rt:47:9
 returns : tie.Need-returns Inv-loop μ-loop
 unfolding actionsGood
 returns c =
-    let a = c .before .before .before .args in
+    let a = c .before .before .args in
+    let p = part (now (a .bytes)) (a .from) (a .n) in
+    let e : a .actions ≡ 0 = omega arith in
+    ap (λ m. eqb m 0) (sym (length-part (now (a .bytes)) (a .from) (a .n) (omega arith)))
+    ∙ of-none p
+    ∙ ap (λ k. all (λ x. ltb x k) p) (sym e)
+
+-- src/contents.rt:49:9
+last-action-requires : tie.Need-last-action-requires Inv-loop μ-loop
+last-action-requires c κs = search needs
+
+-- src/contents.rt:52:5
+loop-holds : tie.Need-loop-holds Inv-loop μ-loop
+loop-holds c = (omega arith, refl)
+
+-- src/contents.rt:53:30
+add-good : tie.Need-add-good Inv-loop μ-loop
+add-good c = search needs
+
+-- src/contents.rt:53:24
+shared-slice-read-good : tie.Need-shared-slice-read-good Inv-loop μ-loop
+shared-slice-read-good c = search needs
+
+-- src/contents.rt:54:9
+add-i : tie.Need-add-i Inv-loop μ-loop
+add-i c = search needs
+
+-- src/contents.rt:52:5
+loop-less : tie.Need-loop-less Inv-loop μ-loop
+loop-less c = search needs
+
+-- src/contents.rt:52:5
+loop-again : tie.Need-loop-again Inv-loop μ-loop
+loop-again c =
+    let a = c .before .before .before .before .before .before .args in
+    let l = c .before .before .loop in
+    let b = now (a .bytes) in
+    let p = part b (a .from) (a .n) in
+    let t : ℕ → Bool = λ x. ltb x (a .actions) in
+    let x = getD b (a .from + l .i) 0 in
+    let e : leb x (c .before .before .before .last-action .result) ≡ t (getD p (l .i) 0) =
+    ap (leb x) (c .before .before .before .last-action .ensures) ∙ known-by-last x (a .actions) (omega arith) (omega (arith, c .shared-slice-known2 .given (a .from + l .i))) ∙ ap t (sym (part-at b (a .from) (a .n) (l .i) (omega arith))) in
+    (omega arith, rw e (found-turn t p (l .good) (l .i) 0 (rw (length-part b (a .from) (a .n) (omega arith)) (omega arith)) (l .inv .1)))
+
+-- src/contents.rt:42:1
+returns-2 : tie.Need-returns-2 Inv-loop μ-loop
+unfolding actionsGood
+returns-2 c =
+    let a = c .before .before .before .before .before .args in
     let l = c .before .loop in
     let b = now (a .bytes) in
     found-all (λ x. ltb x (a .actions)) (part b (a .from) (a .n)) (l .good) (l .i) (rw (length-part b (a .from) (a .n) (omega arith)) (omega arith)) (l .inv .1)
@@ -73,11 +87,12 @@ actions-good-spec =
     (tie.spec
     Inv-loop
     μ-loop
+    returns
+    last-action-requires
     loop-holds
-    add-byte-below
-    shared-slice-read-byte-below
-    byte-below-requires
+    add-good
+    shared-slice-read-good
     add-i
     loop-less
     loop-again
-    returns)
+    returns-2)

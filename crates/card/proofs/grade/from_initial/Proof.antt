@@ -22,22 +22,22 @@ use Rattle.card.proofs.grade.from_initial.Lts as lts
 use Rattle.card.proofs.grade.from_selections.Reads as from-selections-reads
 use Rattle.card.proofs.grade.plan_weight.Reads as plan-weight-reads
 
--- src/grade.rt:113:8
+-- src/grade.rt:158:8
 plan-weight-requires : tie.Need-plan-weight-requires
 plan-weight-requires c κs = search needs
 
--- src/grade.rt:114:9
+-- src/grade.rt:159:9
 from-selections-requires : tie.Need-from-selections-requires
 from-selections-requires c κs = search needs
 
--- src/grade.rt:108:1
+-- src/grade.rt:153:1
 returns : tie.Need-returns
 unfolding agent initialPlan
 returns c =
     let a = c .before .before .before .before .before .args in
     let b = now (a .card) in
     let w = weight b in
-    let says : a .l ≡ layout b = c .before .before .before .before .before .pre .laid .says in
+    let says : a .l ≡ layout b = c .before .before .before .before .before .pre .0 .laid .says in
     let π : plan (a .l) b (a .l .initial) ≡ initialPlan b = ap (λ (x : Layout). plan x b (x .initial)) says in
     let e : weigh w (initialPlan b) ≤ 1024 = rw (← π, ← c .before .before .plan-weight .ensures) (omega arith) in
     let A : agentFor (a .l) b ≡ agent b = ap (λ (x : Layout). agentFor x b) says in
@@ -45,14 +45,14 @@ returns c =
     ∙ ap (λ (x : Agent). firstOffender (λ r. light w (r .π)) Offender.Selection 0 (x .PS) (firstOffender (lowers w) Offender.Revision 0 (x .PR) Verdict.Bounded)) A
     ∙ sym (verdict-light w (agent b) (initialPlan b) e)
 
--- src/grade.rt:108:1
+-- src/grade.rt:153:1
 returns-2 : tie.Need-returns-2
 unfolding agent initialPlan
 returns-2 c =
     let a = c .before .before .before .before .args in
     let b = now (a .card) in
     let w = weight b in
-    let says : a .l ≡ layout b = c .before .before .before .before .pre .laid .says in
+    let says : a .l ≡ layout b = c .before .before .before .before .pre .0 .laid .says in
     let π : plan (a .l) b (a .l .initial) ≡ initialPlan b = ap (λ (x : Layout). plan x b (x .initial)) says in
     let e : 1024 < weigh w (initialPlan b) = rw (← π, ← c .before .plan-weight .ensures) (omega arith) in
     sym (verdict-heavy w (agent b) (initialPlan b) e)

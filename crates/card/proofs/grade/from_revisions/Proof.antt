@@ -20,20 +20,20 @@ use Rattle.card.proofs.grade.from_revisions.Lts as lts
 use Rattle.card.proofs.grade.revision_lowers.Reads as revision-lowers-reads
 
 abbrev Inv-loop : tie.InvT-loop
-Inv-loop card l n i₀ i = (i ≤ n) × Left (lowers (weight card)) Offender.Revision (λ j. revisionAt (conditions 𝐁 l card) l card (entryAt 12 (l .revisions) j)) n Verdict.Bounded i
+Inv-loop card l sums n i₀ i = (i ≤ n) × Left (lowers (weight card)) Offender.Revision (λ j. revisionAt (conditions 𝐁 l card) l card (entryAt 12 (l .revisions) j)) n Verdict.Bounded i
 
 abbrev μ-loop : tie.MeasureT-loop
-μ-loop card l n i₀ i = n - i
+μ-loop card l sums n i₀ i = n - i
 
--- src/grade.rt:81:5
+-- src/grade.rt:126:5
 loop-holds : tie.Need-loop-holds Inv-loop μ-loop
 loop-holds c = (omega arith, left-start _ _ _ _ _)
 
--- src/grade.rt:82:13
+-- src/grade.rt:127:13
 revision-lowers-requires : tie.Need-revision-lowers-requires Inv-loop μ-loop
 revision-lowers-requires c κs = search needs
 
--- src/grade.rt:83:13
+-- src/grade.rt:128:13
 returns : tie.Need-returns Inv-loop μ-loop
 unfolding agentFor agentOf revisionAt
 returns c =
@@ -42,15 +42,15 @@ returns c =
     let b = now (a .card) in
     left-bad (lowers (weight b)) Offender.Revision (λ j. revisionAt (conditions 𝐁 (a .l) b) (a .l) b (entryAt 12 (a .l .revisions) j)) (a .l .revisions .count) Verdict.Bounded (l .i) (omega arith) (sym (c .before .revision-lowers .ensures) ∙ not-true _ (c .if1 .taken)) (l .inv .1)
 
--- src/grade.rt:85:9
+-- src/grade.rt:130:9
 add-i : tie.Need-add-i Inv-loop μ-loop
 add-i c = search needs
 
--- src/grade.rt:81:5
+-- src/grade.rt:126:5
 loop-less : tie.Need-loop-less Inv-loop μ-loop
 loop-less c = search needs
 
--- src/grade.rt:81:5
+-- src/grade.rt:126:5
 loop-again : tie.Need-loop-again Inv-loop μ-loop
 unfolding agentFor agentOf revisionAt
 loop-again c =
@@ -59,7 +59,7 @@ loop-again c =
     let b = now (a .card) in
     (omega arith, left-turn (lowers (weight b)) Offender.Revision (λ j. revisionAt (conditions 𝐁 (a .l) b) (a .l) b (entryAt 12 (a .l .revisions) j)) (a .l .revisions .count) Verdict.Bounded (l .i) (omega arith) (sym (c .before .revision-lowers .ensures) ∙ not-false _ (c .if1 .left)) (l .inv .1))
 
--- src/grade.rt:74:1
+-- src/grade.rt:119:1
 returns-2 : tie.Need-returns-2 Inv-loop μ-loop
 unfolding agentFor agentOf revisionAt
 returns-2 c =

@@ -21,20 +21,20 @@ use Rattle.card.proofs.grade.from_revisions.Reads as from-revisions-rea
 use Rattle.card.proofs.grade.selection_light.Reads as selection-light-reads
 
 abbrev Inv-loop : tie.InvT-loop
-Inv-loop card l n i₀ i = (i ≤ n) × Left (λ x. light (weight card) (x .π)) Offender.Selection (λ j. selectionAt (conditions 𝐁 l card) (conditions 𝐆 l card) l card (entryAt 8 (l .selections) j)) n (firstOffender (lowers (weight card)) Offender.Revision 0 (agentFor l card .PR) Verdict.Bounded) i
+Inv-loop card l sums n i₀ i = (i ≤ n) × Left (λ x. light (weight card) (x .π)) Offender.Selection (λ j. selectionAt (conditions 𝐁 l card) (conditions 𝐆 l card) l card (entryAt 8 (l .selections) j)) n (firstOffender (lowers (weight card)) Offender.Revision 0 (agentFor l card .PR) Verdict.Bounded) i
 
 abbrev μ-loop : tie.MeasureT-loop
-μ-loop card l n i₀ i = n - i
+μ-loop card l sums n i₀ i = n - i
 
--- src/grade.rt:98:5
+-- src/grade.rt:143:5
 loop-holds : tie.Need-loop-holds Inv-loop μ-loop
 loop-holds c = (omega arith, left-start _ _ _ _ _)
 
--- src/grade.rt:99:13
+-- src/grade.rt:144:13
 selection-light-requires : tie.Need-selection-light-requires Inv-loop μ-loop
 selection-light-requires c κs = search needs
 
--- src/grade.rt:100:13
+-- src/grade.rt:145:13
 returns : tie.Need-returns Inv-loop μ-loop
 unfolding agentFor agentOf selectionAt
 returns c =
@@ -43,15 +43,15 @@ returns c =
     let b = now (a .card) in
     left-bad (λ x. light (weight b) (x .π)) Offender.Selection (λ j. selectionAt (conditions 𝐁 (a .l) b) (conditions 𝐆 (a .l) b) (a .l) b (entryAt 8 (a .l .selections) j)) (a .l .selections .count) (firstOffender (lowers (weight b)) Offender.Revision 0 (agentFor (a .l) b .PR) Verdict.Bounded) (l .i) (omega arith) (sym (c .before .selection-light .ensures) ∙ not-true _ (c .if1 .taken)) (l .inv .1)
 
--- src/grade.rt:102:9
+-- src/grade.rt:147:9
 add-i : tie.Need-add-i Inv-loop μ-loop
 add-i c = search needs
 
--- src/grade.rt:98:5
+-- src/grade.rt:143:5
 loop-less : tie.Need-loop-less Inv-loop μ-loop
 loop-less c = search needs
 
--- src/grade.rt:98:5
+-- src/grade.rt:143:5
 loop-again : tie.Need-loop-again Inv-loop μ-loop
 unfolding agentFor agentOf selectionAt
 loop-again c =
@@ -60,11 +60,11 @@ loop-again c =
     let b = now (a .card) in
     (omega arith, left-turn (λ x. light (weight b) (x .π)) Offender.Selection (λ j. selectionAt (conditions 𝐁 (a .l) b) (conditions 𝐆 (a .l) b) (a .l) b (entryAt 8 (a .l .selections) j)) (a .l .selections .count) (firstOffender (lowers (weight b)) Offender.Revision 0 (agentFor (a .l) b .PR) Verdict.Bounded) (l .i) (omega arith) (sym (c .before .selection-light .ensures) ∙ not-false _ (c .if1 .left)) (l .inv .1))
 
--- src/grade.rt:104:5
+-- src/grade.rt:149:5
 from-revisions-requires : tie.Need-from-revisions-requires Inv-loop μ-loop
 from-revisions-requires c κs = search needs
 
--- src/grade.rt:91:1
+-- src/grade.rt:136:1
 returns-2 : tie.Need-returns-2 Inv-loop μ-loop
 unfolding agentFor agentOf selectionAt
 returns-2 c =

@@ -17,30 +17,31 @@ use Rattle.card.proofs.grade.grade.Reads as reads
 use Rattle.card.proofs.grade.grade.Lts as lts
 use Rattle.card.proofs.check.check.Reads as check-reads
 use Rattle.card.proofs.grade.from_initial.Reads as from-initial-reads
+use Rattle.card.proofs.grade.sums_of.Reads as sums-of-reads
 use Rattle.card.proofs.load.answer_of.Reads as answer-of-reads
 use Rattle.card.proofs.load.empty_configuration.Reads as empty-configuration-reads
 
--- src/grade.rt:124:9
+-- src/grade.rt:169:9
 empty-configuration-requires : tie.Need-empty-configuration-requires
 empty-configuration-requires c κs = search needs
 
--- src/grade.rt:125:9
+-- src/grade.rt:170:9
 check-requires : tie.Need-check-requires
 check-requires c κs = search needs
 
--- src/grade.rt:126:23
+-- src/grade.rt:171:23
 enum-known-v : tie.Need-enum-known-v
 enum-known-v c = search needs
 
--- src/grade.rt:128:21
+-- src/grade.rt:173:21
 enum-told : tie.Need-enum-told
 enum-told c = search needs
 
--- src/grade.rt:128:21
+-- src/grade.rt:173:21
 answer-of-requires : tie.Need-answer-of-requires
 answer-of-requires c κs = search needs
 
--- src/grade.rt:127:9
+-- src/grade.rt:172:9
 returns : tie.Need-returns
 returns c =
     let b = now (c .before .before .before .before .before .before .args .card) in
@@ -49,19 +50,26 @@ returns c =
     (λ i. record { answer = (c .answer-of .ensures ∙ ap answerOf told) i; verdict = Verdict.Open Offender.InitialPlan; configuration = c .before .before .before .before .empty-configuration .ensures i })
     ∙ sym (grades-refused b _ e)
 
--- src/grade.rt:133:9
-from-initial-requires : tie.Need-from-initial-requires
-from-initial-requires c κs =
+-- src/grade.rt:178:16
+sums-of-requires : tie.Need-sums-of-requires
+sums-of-requires c κs =
     let b = now (c .before .before .before .before .before .before .args .card) in
     let j = good-judged b _ (sym (c .before .before .before .check .ensures) ∙ c .before .v .given .1) in
     good-card _ b (j .0) (j .1)
 
--- src/grade.rt:121:1
+-- src/grade.rt:179:9
+from-initial-requires : tie.Need-from-initial-requires
+from-initial-requires c κs =
+    let b = now (c .before .before .before .before .before .before .before .before .args .card) in
+    let j = good-judged b _ (sym (c .before .before .before .before .before .check .ensures) ∙ c .before .before .before .v .given .1) in
+    (good-card _ b (j .0) (j .1), c .before .sums-of .ensures)
+
+-- src/grade.rt:166:1
 returns-2 : tie.Need-returns-2
 returns-2 c =
-    let b = now (c .before .before .before .before .before .before .before .args .card) in
-    let j = good-judged b _ (sym (c .before .before .before .before .check .ensures) ∙ c .before .before .v .given .1) in
-    (λ i. record { answer = Done; verdict = c .from-initial .ensures i; configuration = c .before .before .before .before .before .empty-configuration .ensures i })
+    let b = now (c .before .before .before .before .before .before .before .before .before .args .card) in
+    let j = good-judged b _ (sym (c .before .before .before .before .before .before .check .ensures) ∙ c .before .before .before .before .v .given .1) in
+    (λ i. record { answer = Done; verdict = c .from-initial .ensures i; configuration = c .before .before .before .before .before .before .before .empty-configuration .ensures i })
     ∙ sym (grades-good b (j .0))
 
 pub grade-spec : {M : Type 1} → statement M
@@ -74,5 +82,6 @@ grade-spec =
     enum-told
     answer-of-requires
     returns
+    sums-of-requires
     from-initial-requires
     returns-2)

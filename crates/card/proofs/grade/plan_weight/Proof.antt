@@ -1,8 +1,5 @@
-use Rattle.card.proofs.Plans.{weigh-next, weigh-done}
-use Rattle.meaning.proofs.Parts.{length-part, part-at}
-use Rattle.meaning.specs.Card.{part, weight, plan}
-use Rattle.house.specs.Weight.{weigh}
-use lib.ListN.{length-drop}
+use Rattle.meaning.specs.Card.{plan, weight}
+use Rattle.card.proofs.Plans.{weigh-part}
 use mathlib.Core.Path.{_≡_, refl, sym, ap, _∙_}
 use mathlib.Core.List.{List, [], _∷_, _++_, append-nil, append-assoc}
 use Prim.Native.Nat.{ℕ, suc, _+_, _-_, _*_, _≤_, _<_}
@@ -14,102 +11,42 @@ use Rattle.card.proofs.grade.plan_weight.Statement.{statement}
 use Rattle.card.proofs.grade.plan_weight.Tie as tie
 use Rattle.card.proofs.grade.plan_weight.Reads as reads
 use Rattle.card.proofs.grade.plan_weight.Lts as lts
-use Rattle.card.proofs.grade.weight_of.Reads as weight-of-reads
+use Rattle.card.proofs.grade.first_weight.Reads as first-weight-reads
 
-abbrev Inv-loop : tie.InvT-loop
-Inv-loop card l at n total₀ i₀ total i = (i ≤ n) × (total ≤ 1024 * i) × (total + weigh (weight card) (drop i (part card at n)) ≡ weigh (weight card) (part card at n))
+-- src/grade.rt:91:9
+first-weight-requires : tie.Need-first-weight-requires
+first-weight-requires c κs = search needs
 
-abbrev μ-loop : tie.MeasureT-loop
-μ-loop card l at n total₀ i₀ total i = n - i
+-- src/grade.rt:92:45
+add-first-weight : tie.Need-add-first-weight
+add-first-weight c = search needs
 
--- src/grade.rt:40:14
-add-at : tie.Need-add-at Inv-loop μ-loop
-add-at c = search needs
+-- src/grade.rt:92:9
+first-weight-requires-2 : tie.Need-first-weight-requires-2
+first-weight-requires-2 c κs = search needs
 
--- src/grade.rt:44:5
-loop-holds : tie.Need-loop-holds Inv-loop μ-loop
-loop-holds c = (omega arith, omega arith, omega arith)
-
--- src/grade.rt:45:42
-add-weight-of : tie.Need-add-weight-of Inv-loop μ-loop
-add-weight-of c = search needs
-
--- src/grade.rt:45:37
-shared-slice-read-weight-of : tie.Need-shared-slice-read-weight-of Inv-loop μ-loop
-shared-slice-read-weight-of c = search needs
-
--- src/grade.rt:45:18
-weight-of-requires : tie.Need-weight-of-requires Inv-loop μ-loop
-weight-of-requires c κs =
-    let a = c .before .before .before .before .before .before .before .args in
-    let l = c .before .before .loop in
-    let p = c .before .before .before .before .before .before .before .pre in
+-- src/grade.rt:93:5
+sub-result : tie.Need-sub-result
+sub-result c =
+    let a = c .before .before .before .before .args in
     let b = now (a .card) in
-    let g = p .1 in
-    let k : a .s .start + l .i < a .l .pool .count = omega arith in
-    let e : a .l .pool .offset + (a .s .start + l .i) ≡ a .l .pool .offset + a .s .start + l .i = omega arith in
-    (p .0, rw e at (p .0 .pool (a .s .start + l .i) k))
+    let e = weigh-part (weight b) b (a .l .pool .offset) (a .s .start) (a .s .length) in
+    let f = c .before .before .first-weight .ensures in
+    let g = c .first-weight2 .ensures in
+    omega arith
 
--- src/grade.rt:45:9
-add-total : tie.Need-add-total Inv-loop μ-loop
-add-total c = search needs
-
--- src/grade.rt:46:9
-add-i : tie.Need-add-i Inv-loop μ-loop
-add-i c = search needs
-
--- src/grade.rt:44:5
-loop-less : tie.Need-loop-less Inv-loop μ-loop
-loop-less c = search needs
-
--- src/grade.rt:44:5
-loop-again : tie.Need-loop-again Inv-loop μ-loop
-loop-again c =
-    let a = c .before .before .before .before .before .before .before .before .args in
-    let l = c .before .before .before .loop in
-    let b = now (a .card) in
-    let at = a .l .pool .offset + a .s .start in
-    let π = part b at (a .s .length) in
-    let p = c .before .before .before .before .before .before .before .before .pre in
-    let d = p .0 .laid in
-    let g = p .1 in
-    let n : length π ≡ a .s .length = length-part b at (a .s .length) (omega arith) in
-    let e : c .weight-of .result ≡ weight b (getD π (l .i) 0) = c .weight-of .ensures .0 ∙ ap (weight b) (sym (part-at b at (a .s .length) (l .i) (omega arith))) in
-    let s = weigh-next (weight b) π (l .i) (omega arith) in
-    let u = l .inv .2 in
-    let m = c .weight-of .ensures .1 in
-    (omega arith, omega arith, omega arith)
-
--- src/grade.rt:35:1
-returns : tie.Need-returns Inv-loop μ-loop
+-- src/grade.rt:87:1
+returns : tie.Need-returns
 unfolding plan
 returns c =
-    let a = c .before .before .before .before .before .before .args in
-    let l = c .before .loop in
+    let a = c .before .before .before .before .args in
     let b = now (a .card) in
-    let at = a .l .pool .offset + a .s .start in
-    let π = part b at (a .s .length) in
-    let p = c .before .before .before .before .before .before .pre in
-    let d = p .0 .laid in
-    let g = p .1 in
-    let n : length π ≡ a .s .length = length-part b at (a .s .length) (omega arith) in
-    let s = weigh-done (weight b) π (l .i) (omega arith) in
-    let u = l .inv .2 in
+    let e = weigh-part (weight b) b (a .l .pool .offset) (a .s .start) (a .s .length) in
+    let f = c .before .before .first-weight .ensures in
+    let g = c .first-weight2 .ensures in
     omega arith
 
 pub plan-weight-spec : {M : Type 1} → statement M
 plan-weight-spec =
     tie.close
-    (tie.spec
-    Inv-loop
-    μ-loop
-    add-at
-    loop-holds
-    add-weight-of
-    shared-slice-read-weight-of
-    weight-of-requires
-    add-total
-    add-i
-    loop-less
-    loop-again
-    returns)
+    (tie.spec first-weight-requires add-first-weight first-weight-requires-2 sub-result returns)

@@ -14,45 +14,45 @@ use Rattle.card.proofs.grade.revision_lowers.Lts as lts
 use Rattle.card.proofs.grade.plan_weight.Reads as plan-weight-reads
 use Rattle.card.proofs.header.read_span.Reads as read-span-reads
 
--- src/grade.rt:67:31
+-- src/grade.rt:112:31
 mul-at : tie.Need-mul-at
 mul-at c = search needs
 
--- src/grade.rt:67:14
+-- src/grade.rt:112:14
 add-at : tie.Need-add-at
 add-at c = search needs
 
--- src/grade.rt:68:53
+-- src/grade.rt:113:59
 add-read-span : tie.Need-add-read-span
 add-read-span c = search needs
 
--- src/grade.rt:68:37
+-- src/grade.rt:113:43
 read-span-requires : tie.Need-read-span-requires
 read-span-requires c κs = search needs
 
--- src/grade.rt:68:9
+-- src/grade.rt:113:9
 plan-weight-requires : tie.Need-plan-weight-requires
 plan-weight-requires c κs =
     let a = c .before .before .before .before .args in
     let p = c .before .before .before .before .pre in
-    (p .0, good-as (a .l) 1 _ _ (c .read-span .ensures .0) (p .0 .revisions (a .i) (p .1) .head))
+    (p .0, p .1, good-as (a .l) 1 _ _ (c .read-span .ensures .0) (p .0 .revisions (a .i) (p .2) .head))
 
--- src/grade.rt:69:53
+-- src/grade.rt:114:59
 add-read-span-2 : tie.Need-add-read-span-2
 add-read-span-2 c = search needs
 
--- src/grade.rt:69:37
+-- src/grade.rt:114:43
 read-span-requires-2 : tie.Need-read-span-requires-2
 read-span-requires-2 c κs = search needs
 
--- src/grade.rt:69:9
+-- src/grade.rt:114:9
 plan-weight-requires-2 : tie.Need-plan-weight-requires-2
 plan-weight-requires-2 c κs =
     let a = c .before .before .before .before .before .before .args in
     let p = c .before .before .before .before .before .before .pre in
-    (p .0, good-as (a .l) 0 _ _ (c .read-span2 .ensures .0) (p .0 .revisions (a .i) (p .1) .body))
+    (p .0, p .1, good-as (a .l) 0 _ _ (c .read-span2 .ensures .0) (p .0 .revisions (a .i) (p .2) .body))
 
--- src/grade.rt:62:1
+-- src/grade.rt:107:1
 returns : tie.Need-returns
 returns c = rw (c .plan-weight2 .ensures, c .before .before .plan-weight .ensures, c .before .read-span2 .ensures .0, c .before .before .before .read-span .ensures .0)
 

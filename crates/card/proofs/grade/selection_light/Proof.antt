@@ -15,30 +15,30 @@ use Rattle.card.proofs.grade.selection_light.Lts as lts
 use Rattle.card.proofs.grade.plan_weight.Reads as plan-weight-reads
 use Rattle.card.proofs.header.read_span.Reads as read-span-reads
 
--- src/grade.rt:57:31
+-- src/grade.rt:102:31
 mul-at : tie.Need-mul-at
 mul-at c = search needs
 
--- src/grade.rt:57:14
+-- src/grade.rt:102:14
 add-at : tie.Need-add-at
 add-at c = search needs
 
--- src/grade.rt:58:42
+-- src/grade.rt:103:48
 add-read-span : tie.Need-add-read-span
 add-read-span c = search needs
 
--- src/grade.rt:58:26
+-- src/grade.rt:103:32
 read-span-requires : tie.Need-read-span-requires
 read-span-requires c κs = search needs
 
--- src/grade.rt:58:5
+-- src/grade.rt:103:5
 plan-weight-requires : tie.Need-plan-weight-requires
 plan-weight-requires c κs =
     let a = c .before .before .before .before .args in
     let p = c .before .before .before .before .pre in
-    (p .0, good-as (a .l) 1 _ _ (c .read-span .ensures .0) (p .0 .selections (a .i) (p .1) .plan))
+    (p .0, p .1, good-as (a .l) 1 _ _ (c .read-span .ensures .0) (p .0 .selections (a .i) (p .2) .plan))
 
--- src/grade.rt:52:1
+-- src/grade.rt:97:1
 returns : tie.Need-returns
 returns c =
     let a = c .before .before .before .before .before .args in

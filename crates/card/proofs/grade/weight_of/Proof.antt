@@ -15,19 +15,19 @@ use Rattle.card.proofs.grade.weight_of.Reads as reads
 use Rattle.card.proofs.grade.weight_of.Lts as lts
 use Rattle.card.proofs.readers.number_at.Reads as number-at-reads
 
--- src/grade.rt:31:26
+-- src/grade.rt:32:26
 mul-number-at : tie.Need-mul-number-at
 mul-number-at c = search needs
 
--- src/grade.rt:31:21
+-- src/grade.rt:32:21
 add-number-at : tie.Need-add-number-at
 add-number-at c = search needs
 
--- src/grade.rt:31:5
+-- src/grade.rt:32:5
 number-at-requires : tie.Need-number-at-requires
 number-at-requires c κs = search needs
 
--- src/grade.rt:27:1
+-- src/grade.rt:28:1
 returns : tie.Need-returns
 returns c =
     let a = c .before .before .args in

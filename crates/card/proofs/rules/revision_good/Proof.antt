@@ -70,11 +70,12 @@ number-at-requires c κs = search needs
 returns : tie.Need-returns
 unfolding revisionGood
 returns c =
-    let a = c .before .before .before .before .before .before .before .before .before .before .before .args in
-    let m = c .before .before .before .before .before .before .before .before .before .before .before .pre .1 in
+    let a = c .before .before .before .before .before .before .before .before .before .before .args in
+    let m = c .before .before .before .before .before .before .before .before .before .before .pre .1 in
     let b = now (a .card) in
     let n = getD b (a .at) 0 in
-    let e1 : c .before .before .before .before .before .before .condition-good .result ≡ conditionGood (a .l) (containing 2 (a .l) b) n = c .before .before .before .before .before .before .condition-good .ensures ∙ ap (λ x. ltb n (a .l .nodes .count) && not x) (m n) in
+    let h : n < 256 = omega (arith, c .before .before .before .before .before .before .before .before .before .shared-slice-known .given (a .at)) in
+    let e1 : c .before .before .before .before .before .before .condition-good .result ≡ conditionGood (a .l) (containing 2 (a .l) b) n = c .before .before .before .before .before .before .condition-good .ensures ∙ m n h in
     let e2 : c .before .before .before .span-good .result ≡ spanGood (a .l) 1 (span b (a .at + 2)) = c .before .before .before .span-good .ensures ∙ ap (spanGood (a .l) 1) (c .before .before .before .before .read-span .ensures .0) in
     let e3 : c .before .span-good2 .result ≡ spanGood (a .l) 0 (span b (a .at + 6)) = c .before .span-good2 .ensures ∙ ap (spanGood (a .l) 0) (c .before .before .read-span2 .ensures .0) in
     rw (e1, e2, e3, c .number-at .ensures .0)

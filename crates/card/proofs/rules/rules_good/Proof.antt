@@ -10,33 +10,38 @@ use Rattle.card.proofs.rules.rules_good.Statement.{statement}
 use Rattle.card.proofs.rules.rules_good.Tie as tie
 use Rattle.card.proofs.rules.rules_good.Reads as reads
 use Rattle.card.proofs.rules.rules_good.Lts as lts
-use Rattle.card.proofs.nodes.marks_of.Reads as marks-of-reads
+use Rattle.card.proofs.nodes.all_marks.Reads as all-marks-reads
+use Rattle.card.proofs.nodes.mark_nodes.Reads as mark-nodes-reads
 use Rattle.card.proofs.rules.revisions_good.Reads as revisions-good-reads
 use Rattle.card.proofs.rules.selections_good.Reads as selections-good-reads
 use Rattle.card.proofs.rules.span_good.Reads as span-good-reads
 use Rattle.card.proofs.rules.specifications_good.Reads as specifications-good-reads
 
--- src/rules.rt:138:19
-marks-of-requires : tie.Need-marks-of-requires
-marks-of-requires c κs = search needs
+-- src/rules.rt:138:23
+all-marks-requires : tie.Need-all-marks-requires
+all-marks-requires c κs = search needs
 
--- src/rules.rt:139:17
-marks-of-requires-2 : tie.Need-marks-of-requires-2
-marks-of-requires-2 c κs = search needs
+-- src/rules.rt:139:21
+all-marks-requires-2 : tie.Need-all-marks-requires-2
+all-marks-requires-2 c κs = search needs
 
--- src/rules.rt:140:9
+-- src/rules.rt:140:5
+mark-nodes-requires : tie.Need-mark-nodes-requires
+mark-nodes-requires c κs = search needs
+
+-- src/rules.rt:141:9
 specifications-good-requires : tie.Need-specifications-good-requires
 specifications-good-requires c κs = search needs
 
--- src/rules.rt:141:9
+-- src/rules.rt:142:9
 selections-good-requires : tie.Need-selections-good-requires
 selections-good-requires c κs = search needs
 
--- src/rules.rt:142:9
+-- src/rules.rt:143:9
 revisions-good-requires : tie.Need-revisions-good-requires
 revisions-good-requires c κs = search needs
 
--- src/rules.rt:143:49
+-- src/rules.rt:144:49
 span-good-requires : tie.Need-span-good-requires
 span-good-requires c κs = search needs
 
@@ -49,8 +54,9 @@ pub rules-good-spec : {M : Type 1} → statement M
 rules-good-spec =
     tie.close
     (tie.spec
-    marks-of-requires
-    marks-of-requires-2
+    all-marks-requires
+    all-marks-requires-2
+    mark-nodes-requires
     specifications-good-requires
     selections-good-requires
     revisions-good-requires

@@ -62,13 +62,15 @@ number-at-requires c κs = search needs
 returns : tie.Need-returns
 unfolding selectionGood
 returns c =
-    let a = c .before .before .before .before .before .before .before .before .before .before .args in
-    let p = c .before .before .before .before .before .before .before .before .before .before .pre in
+    let a = c .before .before .before .before .before .before .before .before .before .args in
+    let p = c .before .before .before .before .before .before .before .before .before .pre in
     let b = now (a .card) in
     let n = getD b (a .at) 0 in
     let k = getD b (a .at + 1) 0 in
-    let e1 : c .before .before .before .before .before .condition-good .result ≡ conditionGood (a .l) (containing 2 (a .l) b) n = c .before .before .before .before .before .condition-good .ensures ∙ ap (λ x. ltb n (a .l .nodes .count) && not x) (p .2 n) in
-    let e2 : c .before .before .before .condition-good2 .result ≡ conditionGood (a .l) (containing 1 (a .l) b) k = c .before .before .before .condition-good2 .ensures ∙ ap (λ x. ltb k (a .l .nodes .count) && not x) (p .1 k) in
+    let hn : n < 256 = omega (arith, c .before .before .before .before .before .before .before .before .shared-slice-known .given (a .at)) in
+    let hk : k < 256 = omega (arith, c .before .before .before .before .before .before .before .before .shared-slice-known .given (a .at + 1)) in
+    let e1 : c .before .before .before .before .before .condition-good .result ≡ conditionGood (a .l) (containing 2 (a .l) b) n = c .before .before .before .before .before .condition-good .ensures ∙ p .2 n hn in
+    let e2 : c .before .before .before .condition-good2 .result ≡ conditionGood (a .l) (containing 1 (a .l) b) k = c .before .before .before .condition-good2 .ensures ∙ p .1 k hk in
     let e3 : c .before .span-good .result ≡ spanGood (a .l) 1 (span b (a .at + 2)) = c .before .span-good .ensures ∙ ap (spanGood (a .l) 1) (c .before .before .read-span .ensures .0) in
     rw (e1, e2, e3, c .number-at .ensures .0)
 

@@ -56,11 +56,12 @@ shared-slice-read-result-2 c = search needs
 returns : tie.Need-returns
 unfolding specificationGood
 returns c =
-    let a = c .before .before .before .before .before .before .before .before .args in
-    let m = c .before .before .before .before .before .before .before .before .pre .1 in
+    let a = c .before .before .before .before .before .before .before .args in
+    let m = c .before .before .before .before .before .before .before .pre .1 in
     let b = now (a .card) in
-    let e : c .before .before .condition-good .result ≡ conditionGood (a .l) (containing 2 (a .l) b) (getD b (a .at + 1) 0) =
-    c .before .before .condition-good .ensures ∙ ap (λ x. ltb (getD b (a .at + 1) 0) (a .l .nodes .count) && not x) (m (getD b (a .at + 1) 0)) in
+    let n = getD b (a .at + 1) 0 in
+    let h : n < 256 = omega (arith, c .before .before .before .before .before .before .shared-slice-known .given (a .at + 1)) in
+    let e : c .before .before .condition-good .result ≡ conditionGood (a .l) (containing 2 (a .l) b) n = c .before .before .condition-good .ensures ∙ m n h in
     rw (c .before .before .before .before .byte-below .ensures, e)
 
 pub specification-good-spec : {M : Type 1} → statement M

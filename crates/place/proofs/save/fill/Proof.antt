@@ -15,13 +15,13 @@ use Rattle.place.proofs.save.copy.Reads as copy-reads
 use Rattle.place.proofs.save.head.Reads as head-reads
 
 -- the arrays of the configuration are as long as their types say
-lb : (c : tie.Start) → length (c .args .c .beliefs) ≡ 16
+lb : (c : tie.Start) → length (c .args .t1 .beliefs) ≡ 16
 lb c = search needs
 
-lg : (c : tie.Start) → length (c .args .c .goals) ≡ 16
+lg : (c : tie.Start) → length (c .args .t1 .goals) ≡ 16
 lg c = search needs
 
-lp : (c : tie.Start) → length (c .args .c .plan) ≡ 1024
+lp : (c : tie.Start) → length (c .args .t1 .plan) ≡ 1024
 lp c = search needs
 
 -- src/save.rt:62:13
@@ -47,7 +47,7 @@ slice-aggregate-copy-2 c = search needs
 -- src/save.rt:66:5
 copy-requires-2 : tie.Need-copy-requires-2
 copy-requires-2 c κs =
-    let s = c .before .before .before .before .before .before .before .before .before .before .before .before .before in
+    let s = c .before .before .before .before .before .before .before .before .before .before .before in
     (omega (arith, c .before .before .before .before .copy .kept .0), omega (arith, lb s))
 
 -- src/save.rt:67:19
@@ -57,18 +57,14 @@ slice-aggregate-copy-3 c = search needs
 -- src/save.rt:67:5
 copy-requires-3 : tie.Need-copy-requires-3
 copy-requires-3 c κs =
-    let s = c .before .before .before .before .before .before .before .before .before .before .before .before .before .before .before .before .before .before in
+    let s = c .before .before .before .before .before .before .before .before .before .before .before .before .before .before .before .before in
     (omega (arith, c .before .before .before .before .copy2 .kept .0, c .before .before .before .before .before .before .before .before .before .copy .kept .0), omega (arith, lg s))
-
--- src/save.rt:68:19
-slice-aggregate-copy-4 : tie.Need-slice-aggregate-copy-4
-slice-aggregate-copy-4 c = search needs
 
 -- src/save.rt:68:5
 copy-requires-4 : tie.Need-copy-requires-4
 copy-requires-4 c κs =
     let s = c .before .before .before .before .before .before .before .before .before .before .before .before .before .before .before .before .before .before .before .before .before .before .before in
-    (omega (arith, c .before .before .before .before .copy3 .kept .0, c .before .before .before .before .before .before .before .before .before .copy2 .kept .0, c .before .before .before .before .before .before .before .before .before .before .before .before .before .before .copy .kept .0, s .pre .2), omega (arith, lp s, s .pre .0))
+    (omega (arith, c .before .before .before .before .before .before .copy3 .kept .0, c .before .before .before .before .before .before .before .before .before .before .before .copy2 .kept .0, c .before .before .before .before .before .before .before .before .before .before .before .before .before .before .before .before .copy .kept .0, s .pre .2), omega (arith, lp s, s .pre .0))
 
 -- src/save.rt:56:1
 same-length : tie.Need-same-length
@@ -79,9 +75,9 @@ returns : tie.Need-returns
 unfolding placeHeader
 returns c =
     let s = c .before .before .before .before .before .before .before .before .before .before .before .before .before .before .before .before .before .before .before .before .before .before .before .before .before .before in
-    let h = c .before .before .before .before .before .before .before .before .before .before .before .before .before .before .before .before .before .before .before .before .head in
-    place-written (s .args .c) (now (s .args .out)) (c .before .before .before .before .before .before .before .before .before .before .before .before .before .before .before .before .before .copy .last .0) (c .before .before .before .before .before .before .before .before .before .before .before .before .copy2 .last .0) (c .before .before .before .before .before .before .before .copy3 .last .0) (c .before .before .copy4 .last .0) (lb s) (lg s) (lp s) (s .pre .0)
-    (h .result) (h .ensures) (ap length (h .ensures)) (c .before .before .before .before .before .before .before .before .before .before .before .before .before .before .before .before .before .copy .ensures) (c .before .before .before .before .before .before .before .before .before .before .before .before .copy2 .ensures) (c .before .before .before .before .before .before .before .copy3 .ensures) (c .before .before .copy4 .ensures)
+    let h = c .before .before .before .before .before .before .before .before .before .before .before .before .before .before .before .before .before .before .before .before .before .before .head in
+    place-written (s .args .t1) (now (s .args .out)) (c .before .before .before .before .before .before .before .before .before .before .before .before .before .before .before .before .before .before .before .copy .last .0) (c .before .before .before .before .before .before .before .before .before .before .before .before .before .before .copy2 .last .0) (c .before .before .before .before .before .before .before .before .before .copy3 .last .0) (c .before .before .copy4 .last .0) (lb s) (lg s) (lp s) (s .pre .0)
+    (h .result) (h .ensures) (ap length (h .ensures)) (c .before .before .before .before .before .before .before .before .before .before .before .before .before .before .before .before .before .before .before .copy .ensures) (c .before .before .before .before .before .before .before .before .before .before .before .before .before .before .copy2 .ensures) (c .before .before .before .before .before .before .before .before .before .copy3 .ensures) (c .before .before .copy4 .ensures)
 
 pub fill-spec : {M : Type 1} → statement M
 fill-spec =
@@ -95,7 +91,6 @@ fill-spec =
     copy-requires-2
     slice-aggregate-copy-3
     copy-requires-3
-    slice-aggregate-copy-4
     copy-requires-4
     same-length
     returns)

@@ -1,0 +1,82 @@
+use Rattle.meaning.specs.Card.{part, weight}
+use Rattle.house.specs.Weight.{weigh}
+use Rattle.card.proofs.Plans.{weigh-part, part-most}
+use mathlib.Core.Path.{_≡_, refl, sym, ap, _∙_}
+use mathlib.Core.List.{List, [], _∷_, _++_, append-nil, append-assoc}
+use Prim.Native.Nat.{ℕ, suc, _+_, _-_, _*_, _/_, _%_, _≤_, _<_}
+use native.Mathlib.Omega.{arith}
+use borrow.Author.Needs.{needs}
+use denote.Ref.{now}
+use lib.ListN.{length, getD, set, take, drop, replicate}
+use Rattle.card.proofs.grade.first_weight.Statement.{statement}
+use Rattle.card.proofs.grade.first_weight.Tie as tie
+use Rattle.card.proofs.grade.first_weight.Reads as reads
+use Rattle.card.proofs.grade.first_weight.Lts as lts
+use Rattle.card.proofs.grade.part_weight.Reads as part-weight-reads
+
+-- src/grade.rt:82:37
+mul-part-weight : tie.Need-mul-part-weight
+mul-part-weight c = search needs
+
+-- src/grade.rt:82:9
+part-weight-requires : tie.Need-part-weight-requires
+part-weight-requires c κs = search needs
+
+-- src/grade.rt:83:6
+mul-result : tie.Need-mul-result
+mul-result c = search needs
+
+-- src/grade.rt:83:6
+element-copy-out-result : tie.Need-element-copy-out-result
+element-copy-out-result c = search needs
+
+-- src/grade.rt:83:6
+cast-result : tie.Need-cast-result
+cast-result c =
+    let a = c .before .before .before .args in
+    let p = c .before .before .before .pre in
+    let b = now (a .card) in
+    let e = p .1 (a .n / 16) (omega arith) in
+    let m = part-most (a .l) b (p .0) (a .l .pool .offset) (16 * (a .n / 16)) in
+    omega arith
+
+-- src/grade.rt:83:5
+add-result : tie.Need-add-result
+add-result c =
+    let a = c .before .before .before .args in
+    let p = c .before .before .before .pre in
+    let b = now (a .card) in
+    let at = a .l .pool .offset in
+    let k = a .n / 16 in
+    let e = p .1 k (omega arith) in
+    let m = part-most (a .l) b (p .0) at (16 * k) in
+    let f = c .before .part-weight .ensures in
+    let n = part-most (a .l) b (p .0) (at + 16 * k) (a .n % 16) in
+    omega arith
+
+-- src/grade.rt:77:1
+returns : tie.Need-returns
+returns c =
+    let a = c .before .before .before .args in
+    let p = c .before .before .before .pre in
+    let b = now (a .card) in
+    let at = a .l .pool .offset in
+    let k = a .n / 16 in
+    let e = p .1 k (omega arith) in
+    let f = c .before .part-weight .ensures in
+    let s = weigh-part (weight b) b at (16 * k) (a .n % 16) in
+    let n : 16 * k + a .n % 16 ≡ a .n = omega arith in
+    let t : weigh (weight b) (part b at (16 * k + a .n % 16)) ≡ weigh (weight b) (part b at (a .n)) = ap (λ x. weigh (weight b) (part b at x)) n in
+    omega arith
+
+pub first-weight-spec : {M : Type 1} → statement M
+first-weight-spec =
+    tie.close
+    (tie.spec
+    mul-part-weight
+    part-weight-requires
+    mul-result
+    element-copy-out-result
+    cast-result
+    add-result
+    returns)

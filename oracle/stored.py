@@ -1,0 +1,418 @@
+"""The stored requests, crates/drill/stdin, and the answers to them,
+crates/drill/stdout: the gate runs the drill on the first file and holds what it
+writes against the second.
+
+    python3 oracle/stored.py            # writes both files
+    python3 oracle/stored.py --check    # says whether the files are just that
+
+Both files follow from a fixed seed and hold every clause of document 01's refusal
+table, every range just inside, and the edges of plans, rooms and budgets.
+"""
+
+import argparse
+import io
+import itertools
+import os
+import sys
+from random import Random
+
+import cards
+import cases
+import damage
+import drill
+import guide
+from cases import Case
+
+SEED = "stored"
+TOP = os.path.dirname(os.path.dirname(os.path.abspath(__file__)))
+REQUESTS = os.path.join("crates", "drill", "stdin")
+ANSWERS = os.path.join("crates", "drill", "stdout")
+
+# The most bytes of a damaged card: the first of these that its damage fits in.
+SIZES = (300, 700, 1500, 3500, 11000, 65535)
+SMALL = SIZES[0]
+
+# A longer request is left out where there are others to choose from.
+SHORT_REQUEST = 150
+
+# Atoms that no small card has.
+SET_ATOMS = (8, 15, 16, 63, 64, 119, 120, 127)
+
+STRIPE = cards.card(cards.stripe_card())
+
+
+def random_of(*what):
+    """The random numbers of one case, by the seed and what the case is."""
+    return Random(" ".join([SEED] + [str(word) for word in what]))
+
+
+def small_card(random):
+    """A small good card with an entry of each kind, and the same card read."""
+    card = cards.card(cards.roomy_card(random, SMALL))
+    return card, guide.judge(card)[1]
+
+
+def tempered_card(random, temper):
+    """A small good card of some temper."""
+    description = cards.roomy_card(random, SMALL)
+    temper(random, description)
+    return cards.card(description)
+
+
+# --- cards of no bytes and cards with names ---------------------------------
+
+
+def no_card_case(name):
+    """All eight calls about the card of no bytes."""
+    return Case(name, b"", cases.damaged_requests(random_of(name), STRIPE))
+
+
+def named_cases():
+    """The cards that the document or the drill names, the maximal one among
+    them."""
+    for name, describe in cases.NAMED_CARDS:
+        card = cards.card(describe())
+        made = cases.good_requests(random_of(name), card)
+        yield Case(name, card, made if len(card) < 2000 else made[:3] + made[-18:])
+
+
+# --- damaged cards ----------------------------------------------------------
+
+
+def damaged_case(name, item):
+    """A case of some damages, with as small a card as they fit in."""
+    for largest in SIZES:
+        case = cases.damaged_case(random_of(name), item, largest)
+        if case is not None:
+            return case
+    raise ValueError("no card for %s" % name)
+
+
+def thinned(case, turn, count):
+    """Check, and so many of the other short requests, others for each turn."""
+    first, others = case.requests[0], case.requests[1:]
+    at = turn * count % len(others)
+    short = [request for request in others[at:] + others[:at] if len(request) <= SHORT_REQUEST]
+    return case._replace(requests=[first] + short[:count])
+
+
+def damaged_cases():
+    """Each clause of the refusals 1 to 9 alone, and every two rows at once, twice:
+    "they are tested in the table's order". Check answers for each, and the other
+    calls take turns."""
+    named = [(one.name, (one,)) for one in damage.CARD_DAMAGES]
+    named += [("%s %s" % (pair, again), pair) for again in range(2) for pair in damage.CARD_PAIRS]
+    for turn, (name, item) in enumerate(named):
+        yield thinned(damaged_case(name, item), turn, 3)
+
+
+def loaded_requests(random, card, takes):
+    """Check, load and grade, and the calls on the loaded configuration."""
+    _, accepted = guide.judge(card)
+    loaded = guide.load(card)[1]
+    return cases.plain_requests() + cases.requests_on(random, card, accepted, loaded, takes)
+
+
+def range_cases():
+    """Each range of a card just inside, and the calls on what it loads to."""
+    for one in damage.CARD_RANGES:
+        case = damaged_case(one.name, (one,))
+        yield case._replace(requests=loaded_requests(random_of(one.name), case.card, 2))
+
+
+# --- damaged configurations and places --------------------------------------
+
+
+def short_configuration(random, accepted):
+    """A configuration with a plan of 1 to 20 actions, the last of them not 0."""
+    while True:
+        held = cases.random_configuration(random, accepted)
+        if 1 <= held.length <= 20 and held.plan[held.length - 1] != 0:
+            return held
+
+
+def configuration_cases():
+    """Each clause of 13 and each range just inside, with each of list, take, run
+    and save; once from a plan, and once from the empty configuration, where that
+    can be damaged so."""
+    for one in damage.CONFIGURATION_DAMAGES + damage.CONFIGURATION_RANGES:
+        random = random_of(one.name)
+        card, accepted = small_card(random)
+        made = []
+        for held in (short_configuration(random, accepted), guide.EMPTY):
+            changed = one.change(random, accepted, held)
+            if changed is not None:
+                made += [
+                    cases.call_of_kind(random, kind, changed)
+                    for kind in cases.CALLS_ON_CONFIGURATIONS
+                ]
+        yield Case(one.name, card, made)
+
+
+def place_case(again, damages):
+    """A restore of a place with some damages."""
+    name = " and ".join(one.name for one in damages)
+    random = random_of(name, again)
+    card, accepted = small_card(random)
+    described = cases.place_description(short_configuration(random, accepted))
+    place = damage.damaged_place(random, accepted, described, *damages)
+    return Case(name, card, [cases.request_restore(place)])
+
+
+def place_cases():
+    """Each clause of a place's refusals and each range just inside, and every
+    two rows of a place at once, twice."""
+    for one in damage.PLACE_DAMAGES + damage.PLACE_RANGES:
+        yield place_case(0, (one,))
+    for again, pair in itertools.product(range(2), damage.PLACE_PAIRS):
+        yield place_case(again, damage.pair_of_place_damages(random_of(pair, again), *pair))
+
+
+def longest_place_case():
+    """The longest place that a request can hold, of 4,096 bytes: 4 offsets."""
+    place = cards.place(cards.PlaceDescription(rest=bytes(drill.PLACE_LIMIT - 44)))
+    return Case("a place of 4,096 bytes", STRIPE, [cases.request_restore(place)])
+
+
+def set_case(name, atom):
+    """Calls on a configuration with an atom that the card has not, and a restore
+    of its place."""
+    what = "atom %d in the %s" % (atom, name)
+    random = random_of(what)
+    card, accepted = small_card(random)
+    held = short_configuration(random, accepted)
+    held = held._replace(**{name: damage.with_atom(getattr(held, name), atom)})
+    made = [cases.call_of_kind(random, kind, held) for kind in cases.CALLS_ON_CONFIGURATIONS]
+    made.append(cases.request_restore(cards.place(cases.place_description(held))))
+    return Case(what, card, made)
+
+
+def set_cases():
+    """ "A set has a bit at or above the number of atoms", in the first and the last
+    bytes of both sets and between."""
+    for name, atom in itertools.product(("beliefs", "goals"), SET_ATOMS):
+        yield set_case(name, atom)
+
+
+# --- long plans -------------------------------------------------------------
+
+
+def long_plan(length):
+    """A configuration of the stripe card with that many actions, the first of
+    which revision 0 makes one longer."""
+    plan = damage.padded(bytes([4]) + bytes(k % 5 for k in range(length - 1)))
+    return guide.Configuration(cards.atoms_set(0, 3), cards.atoms_set(2), plan, length, 2)
+
+
+def long_plan_case(length):
+    """The calls on a plan of that many actions: what a revision leaves has one
+    more, and the last of these is over 1,024."""
+    random, held = random_of("long", length), long_plan(length)
+    asked = [(drill.LIST, 1), (drill.LIST, 0), (drill.TAKE, 512), (drill.TAKE, 513)]
+    asked += [(drill.RUN, budget) for budget in (0, 1, 2, 40)]
+    asked += [(drill.SAVE, 44 + length), (drill.SAVE, 43 + length)]
+    made = [cases.request_about(random, kind, held, value) for kind, value in asked]
+    made.append(cases.request_restore(cards.place(cases.place_description(held))))
+    return Case("a plan of %d actions" % length, STRIPE, made)
+
+
+def long_plan_cases():
+    """Plans of 1,022, 1,023 and 1,024 actions, and revisions of growing cards
+    that leave exactly 1,024 and 1,025."""
+    for length in (1022, 1023, 1024):
+        yield long_plan_case(length)
+    for index in range(10):
+        random = random_of("full", index)
+        card = tempered_card(random, cards.temper_growing)
+        made = cases.full_requests(random, guide.judge(card)[1])
+        yield Case("full %d" % index, card, made)
+
+
+# --- rooms ------------------------------------------------------------------
+
+
+def room_requests(random, card, held):
+    """Lists and saves with exactly the room needed, one less, one more, and
+    none."""
+    _, count, _ = guide.list_choices(card, held, drill.LIST_LIMIT)
+    size = 44 + held.length
+    rooms = [(drill.LIST, room) for room in damage.rooms_around(count, count + 7)]
+    rooms += [(drill.SAVE, room) for room in damage.rooms_around(size, size + 9)]
+    return [cases.request_about(random, kind, held, room) for kind, room in rooms]
+
+
+def room_cases():
+    """Lent lists and place buffers around the room needed, and the longest that a
+    request can lend."""
+    most = [(drill.LIST, drill.LIST_LIMIT), (drill.SAVE, drill.SAVE_LIMIT)]
+    loaded, random = guide.load(STRIPE)[1], random_of("most")
+    made = [cases.request_about(random, kind, loaded, room) for kind, room in most]
+    yield Case("the longest lists and buffers", STRIPE, made)
+    for index in range(14):
+        random = random_of("rooms", index)
+        card, accepted = small_card(random)
+        made = []
+        for held in (guide.load(card)[1], short_configuration(random, accepted)):
+            made += room_requests(random, card, held)
+        yield Case("rooms %d" % index, card, made)
+
+
+# --- budgets and endings ----------------------------------------------------
+
+BUDGETS = (0, 1, 2, 3, 5, 1000, 65535)
+RUN_TEMPERS = (
+    (cards.temper_striving, 5),
+    (cards.temper_bounded, 4),
+    (cards.temper_later_specification, 4),
+    (cards.temper_growing, 5),
+    (cards.temper_endless, 2),
+)
+
+
+def budgets_around(card, held):
+    """The budgets, and those around the count at which the run ends by itself."""
+    _, _, count, ending = guide.run(card, held, 1000)
+    own = () if ending == guide.SPENT else (count - 1, count, count + 1)
+    return sorted({budget for budget in BUDGETS + own if budget >= 0})
+
+
+def budget_case(name, card):
+    """Runs of a card from its beginning, in phase 0 with every budget, and in the
+    other phases with a few."""
+    random, loaded = random_of(name), guide.load(card)[1]
+    asked = [(0, budget) for budget in budgets_around(card, loaded)]
+    asked += [(phase, budget) for phase in (1, 2) for budget in (1, 40)]
+    made = [
+        cases.request_about(random, drill.RUN, loaded._replace(phase=phase), budget)
+        for phase, budget in asked
+    ]
+    return Case(name, card, made)
+
+
+def budget_cases():
+    """Budgets of 0 to 65,535 and runs that end spent, at rest and full."""
+    yield budget_case("budgets, the stripe card", STRIPE)
+    for temper, count in RUN_TEMPERS:
+        for index in range(count):
+            name = "budgets, %s %d" % (temper.__name__, index)
+            yield budget_case(name, tempered_card(random_of(name, "card"), temper))
+
+
+# --- verdicts ---------------------------------------------------------------
+
+GRADE_TEMPERS = (
+    cards.temper_bounded,
+    cards.temper_heavy_initial_plan,
+    cards.temper_heavy_selection,
+    cards.temper_heavy_revision,
+    cards.temper_weight_edge,
+    cards.temper_wild,
+)
+
+
+def verdict_cases():
+    """Cards graded bounded, and open for the initial plan, a selection rule or a
+    revision rule."""
+    for temper, index in itertools.product(GRADE_TEMPERS, range(12)):
+        name = "verdict, %s %d" % (temper.__name__, index)
+        yield Case(name, tempered_card(random_of(name), temper), cases.plain_requests())
+
+
+# --- all --------------------------------------------------------------------
+
+
+def seeded_cases():
+    """Cases by seed, a few requests of each."""
+    for turn, case in enumerate(cases.generate(SEED, 100, 500)):
+        yield thinned(case, turn, 11)
+
+
+def narrowed(request):
+    """The same request with the least m in its image."""
+    if request[0] not in cases.CALLS_ON_CONFIGURATIONS:
+        return request
+    kind, held, value = cases.read_about(request)
+    return bytes([kind]) + drill.image(held) + drill.two(value)
+
+
+def all_cases():
+    """All the cases, in the order of the file."""
+    return itertools.chain(
+        [no_card_case("before any card")],
+        named_cases(),
+        [no_card_case("a card of no bytes")],
+        damaged_cases(),
+        range_cases(),
+        configuration_cases(),
+        place_cases(),
+        [longest_place_case()],
+        set_cases(),
+        long_plan_cases(),
+        room_cases(),
+        budget_cases(),
+        verdict_cases(),
+        seeded_cases(),
+    )
+
+
+def stored_cases():
+    """The cases as they are stored: but for every eighth, each image has the
+    least m. The first case is asked before any request 0."""
+    for index, case in enumerate(all_cases()):
+        if index % 8 != 0:
+            case = case._replace(requests=[narrowed(request) for request in case.requests])
+        yield case
+
+
+def make_files():
+    """The bytes of both files, and how often each number was met for each call.
+    "At first the card of no bytes": the first case has no request 0."""
+    requests, answers = io.BytesIO(), io.BytesIO()
+    met = cases.count_answers(stored_cases(), requests, answers)
+    before = len(cases.request_card(b""))
+    return {REQUESTS: requests.getvalue()[before:], ANSWERS: answers.getvalue()}, met
+
+
+def read(name):
+    """The bytes of a file of the repository; none, if there is no such file."""
+    path = os.path.join(TOP, name)
+    if not os.path.exists(path):
+        return None
+    with open(path, "rb") as held:
+        return held.read()
+
+
+def write(files):
+    """Writes the files."""
+    for name, content in files.items():
+        with open(os.path.join(TOP, name), "wb") as out:
+            out.write(content)
+
+
+def differing(files):
+    """The files of the repository that are not what is made here."""
+    return [name for name, content in files.items() if read(name) != content]
+
+
+def main():
+    """Writes both files or checks them, and prints the table."""
+    parser = argparse.ArgumentParser(description="the stored requests of crates/drill and their answers")
+    parser.add_argument("--check", action="store_true", help="write nothing; say whether the files are just that")
+    asked = parser.parse_args()
+    files, met = make_files()
+    if not asked.check:
+        write(files)
+    wrong = differing(files)
+    if wrong:
+        sys.exit(
+            "stored.py: %s: not what oracle/stored.py makes. If the change to oracle/ is meant, run "
+            "'python3 oracle/stored.py' and let the gate hold the drill against the new files."
+            % " and ".join(wrong)
+        )
+    for name, content in files.items():
+        print("%s is what oracle/stored.py makes: %d bytes" % (name, len(content)))
+    print(cases.table(met))
+
+
+if __name__ == "__main__":
+    main()

@@ -1,0 +1,214 @@
+#!/usr/bin/env python3
+"""Holds the proved programs against the independent one, on fresh cases by seed.
+
+    python3 tests/compare.py --seed 1 --cases 200000
+
+A case is a request of drill.md about a card. The cases and the answers to them come from oracle/ by the seed. Each request goes
+through target/bin/drill, and the answer is compared byte for byte; each card that the program of document 01 can read whole goes
+through target/bin/rigtemple too, and the lines are compared with those of oracle/program.py. The first disagreement is told in
+words. The last line is 'N passed, M failed': requests and runs of the program on which both agree.
+
+--spoil changes one of the oracle's answers and one of its lines, so that the last line has to say '2 failed'.
+"""
+
+import argparse
+import multiprocessing
+import os
+import platform
+import shutil
+import subprocess
+import sys
+from typing import NamedTuple
+
+TOP = os.path.dirname(os.path.dirname(os.path.abspath(__file__)))
+sys.path.insert(0, os.path.join(TOP, "oracle"))
+sys.dont_write_bytecode = True
+
+import cases  # noqa: E402
+import drill  # noqa: E402
+import guide  # noqa: E402
+import program  # noqa: E402
+
+PROCESSES = 2
+REQUESTS_PER_CHUNK = 5000
+SHOWN = 40
+
+
+class Job(NamedTuple):
+    """A chunk: its seed, how many requests, the largest card, and whether the oracle is spoiled."""
+
+    seed: str
+    requests: int
+    largest: int
+    spoil: bool
+
+
+class Held(NamedTuple):
+    """What came of a chunk: how often each number was met for each call, how many runs of the program, how many
+    disagreements, and the first of them in words."""
+
+    met: list
+    cards: int
+    runs: int
+    failed: int
+    first: str
+
+
+# ---- the proved programs
+
+
+def build(names):
+    """Has the kit prove and link the programs; what has not changed since is not proved again."""
+    places = os.environ.get("PATH", "/usr/bin:/bin") + ":/usr/local/bin"
+    rt = shutil.which("rt", path=places) or sys.exit("compare.py: the command rt of the Rattle kit is missing")
+    done = subprocess.run(
+        [rt, "check", *names], cwd=TOP, env=dict(os.environ, PATH=places), stdout=subprocess.PIPE, text=True
+    )
+    if done.returncode != 0:
+        last = "".join(done.stdout.splitlines(keepends=True)[-4:])
+        sys.exit(f"{last}compare.py: nothing was compared, for 'rt check {' '.join(names)}' fails")
+
+
+def path(name):
+    """Where the kit leaves a program."""
+    return os.path.join(TOP, "target", "bin", name)
+
+
+def output(name, data):
+    """What a program writes for some input. The programs are for x86-64; elsewhere they run in the kit's emulator."""
+    own = platform.machine() in ("x86_64", "AMD64")
+    words = [path(name)] if own else [os.path.join(TOP, "tests", "run_c.sh"), path(name)]
+    return subprocess.run(words, input=data, stdout=subprocess.PIPE).stdout
+
+
+# ---- the cases of a chunk
+
+
+def cases_of(job):
+    """Cases with just as many requests; the last case is cut."""
+    left = job.requests
+    for case in cases.generate(job.seed, job.requests, job.largest):
+        yield case._replace(requests=case.requests[:left])
+        left -= len(case.requests[:left])
+        if left == 0:
+            return
+
+
+def answered(job):
+    """The cases, each with the oracle's answers, and the table of these."""
+    met, found = [[0] * len(cases.ANSWER_NUMBERS) for _ in cases.CALL_NAMES], []
+    for case in cases_of(job):
+        answers = [drill.answer(case.card, request) for request in case.requests]
+        for request, answer in zip(case.requests, answers):
+            met[request[0] - 1][guide.number(answer, 0)] += 1
+        found.append((case, answers))
+    return found, met
+
+
+def spoiled(data):
+    """The bytes with the first one changed."""
+    return bytes([data[0] ^ 1]) + data[1:]
+
+
+# ---- comparing
+
+
+def shortened(data):
+    """Bytes in hex, the first of them where there are many."""
+    more = f"... ({len(data)} bytes)" if len(data) > SHOWN else ""
+    return (data[:SHOWN].hex(" ") or "nothing") + more
+
+
+def requests_that_differ(job, found):
+    """The requests to which the drill answers otherwise, in words; each is asked by itself."""
+    for case, answers in found:
+        for request, answer in zip(case.requests, answers):
+            got = output("drill", cases.request_card(case.card) + request)
+            if got != answer:
+                call = cases.CALL_NAMES[request[0] - 1]
+                yield (
+                    f"seed {job.seed}, case '{case.name}', {call}:\n"
+                    f"  request {shortened(request)}\n  drill   {shortened(got)}\n  oracle  {shortened(answer)}"
+                )
+
+
+def hold_requests(job, found):
+    """The disagreements of the drill. The requests are asked in one stream, and one by one only if that differs."""
+    stream = b"".join(cases.stream(case for case, _ in found))
+    expected = b"".join(b"".join(answers) for _, answers in found)
+    got = output("drill", stream)
+    if got == expected:
+        return []
+    at = len(os.path.commonprefix([got, expected]))
+    alone = list(requests_that_differ(job, found))
+    return alone or [f"seed {job.seed}: the drill's answers differ in one stream only, first at byte {at}"]
+
+
+def hold_program(job, found):
+    """The disagreements of the program, and how many cards it was run on: those "of at most 24,129 bytes"."""
+    read = [case for case, _ in found if len(case.card) <= program.INPUT_LIMIT]
+    differing = []
+    for number, case in enumerate(read):
+        expected = "".join(line + "\n" for line in program.lines(case.card)).encode()
+        if job.spoil and number == 0:
+            expected = spoiled(expected)
+        got = output("rigtemple", case.card)
+        if got != expected:
+            differing.append(
+                f"seed {job.seed}, case '{case.name}', the program's lines:\n"
+                f"  program {ascii(got[-200:])}\n  oracle  {ascii(expected[-200:])}"
+            )
+    return differing, len(read)
+
+
+def hold(job):
+    """Compares all of a chunk."""
+    found, met = answered(job)
+    if job.spoil:
+        found[-1][1][-1] = spoiled(found[-1][1][-1])
+    differing = hold_requests(job, found)
+    others, runs = hold_program(job, found)
+    differing += others
+    return Held(met, len(found), runs, len(differing), differing[0] if differing else "")
+
+
+# ---- the command
+
+
+def arguments():
+    """The seed, how many requests, and the rest of the command's words."""
+    parser = argparse.ArgumentParser(description=__doc__.split("\n")[0])
+    parser.add_argument("--seed", default="1")
+    parser.add_argument("--cases", type=int, default=200000, help="how many requests")
+    parser.add_argument("--largest", type=int, default=65535, help="bytes of the largest card")
+    parser.add_argument("--spoil", action="store_true", help="change one answer and one line of the oracle's")
+    return parser.parse_args()
+
+
+def jobs(options):
+    """The chunks, each with a seed of its own."""
+    for number, begin in enumerate(range(0, options.cases, REQUESTS_PER_CHUNK)):
+        count = min(REQUESTS_PER_CHUNK, options.cases - begin)
+        yield Job(f"{options.seed}.{number}", count, options.largest, options.spoil and number == 0)
+
+
+def main():
+    """Compares all chunks, and prints the table and the counts."""
+    options = arguments()
+    build(("drill", "rigtemple"))
+    met = [[0] * len(cases.ANSWER_NUMBERS) for _ in cases.CALL_NAMES]
+    cards = runs = failed = 0
+    with multiprocessing.Pool(PROCESSES) as pool:
+        for held in pool.imap(hold, jobs(options)):
+            met = [[x + y for x, y in zip(*columns)] for columns in zip(met, held.met)]
+            if held.failed and not failed:
+                print("the first disagreement: " + held.first, flush=True)
+            cards, runs, failed = cards + held.cards, runs + held.runs, failed + held.failed
+    print(cases.table(met))
+    print(f"{options.cases} requests about {cards} cards and {runs} runs of the program, by seed {options.seed}")
+    print(f"{options.cases + runs - failed} passed, {failed} failed")
+    sys.exit(1 if failed else 0)
+
+
+if __name__ == "__main__":
+    main()
