@@ -2,20 +2,14 @@
 use mathlib.Core.Path.{_≡_}
 use mathlib.Core.List.{List}
 use Prim.Native.Nat.{ℕ}
-use Rattle.meaning.specs.declared.Checked.{Checked}
 use Rattle.meaning.specs.declared.Configuration.{Configuration}
 use Rattle.meaning.specs.declared.Reply.{Reply}
 use Rattle.meaning.specs.declared.Graded.{Graded}
 use Rattle.meaning.specs.declared.Written.{Written}
 use Rattle.meaning.specs.declared.Ran.{Ran}
 use Rattle.meaning.specs.Card.{Bytes}
-use Rattle.meaning.specs.Refusals.{numberOf, answerNumber}
+use Rattle.meaning.specs.Refusals.{answerNumber}
 use Rattle.meaning.specs.Numbers.{endingNumber, verdictNumber, verdictOffender, verdictRule}
-
--- What `check` returns: 0 for "done: none of those below", or the refusal's number.
-unfoldable pub checkedNumber : Checked → ℕ
-checkedNumber (Checked.Good l) = 0
-checkedNumber (Checked.Refused r) = numberOf r
 
 -- A configuration from its parts: "`beliefs` and `goals` are 16 bytes each, `plan` is 1,024 bytes."
 abbrev pub whole : Bytes → Bytes → Bytes → ℕ → ℕ → Configuration

@@ -1,16 +1,47 @@
 // The board: the guide's eight calls for C, as include/rigtemple.h declares them. A configuration is lent in its five parts;
 // the return value is the answer's number.
 ghost use mathlib.Core.Path.{_≡_};
+ghost use Prim.Native.Nat.{_≤_};
 ghost use Rattle.meaning.specs.Calls.{checks, loads, grades, lists, listLeaves, takes, runs, saves, saveLeaves, restores};
-ghost use Rattle.board.specs.Parts.{checkedNumber, whole, replied, gradedAs, wrote, ranTo};
+ghost use Rattle.demands.specs.Demands.{checkedNumber};
+ghost use Rattle.board.specs.Parts.{whole, replied, gradedAs, wrote, ranTo};
 use answers::answer_number;
 use answers::ending_number;
 use answers::refusal_number;
 use answers::verdict_number;
 use answers::verdict_offender;
 use answers::verdict_rule;
+use card::check::check;
+use card::load::answer_of;
+use house::Ending;
 use meaning::Checked;
-use meaning::Configuration;
+use moves::mind::Mind;
+use place::restore::empty_mind;
+
+// The mind of a configuration that is lent in its parts.
+fn mind(beliefs: &[u8; 16], goals: &[u8; 16], length: u16, phase: u8) -> Mind
+    ensures { λ r. ⌜ (r .beliefs ≡ now (beliefs .entry)) × (r .goals ≡ now (goals .entry)) × (r .length ≡ length) × (r .phase ≡ phase) × (r .length ≤ 65535) ⌝ }
+{
+    Mind {
+        beliefs: *beliefs,
+        goals: *goals,
+        length: length as usize,
+        phase: phase,
+    }
+}
+
+// A mind into the lent parts.
+fn put(m: Mind, beliefs: &mut [u8; 16], goals: &mut [u8; 16], length: &mut u16, phase: &mut u8)
+    requires { ⌜ m .length ≤ 65535 ⌝ }
+    ensures { λ r. ⌜ (now (beliefs .exit) ≡ m .beliefs) × (now (goals .exit) ≡ m .goals) × (now (length .exit) ≡ m .length) × (now (phase .exit) ≡ m .phase) ⌝ }
+{
+    let b = m.beliefs;
+    let g = m.goals;
+    *beliefs = b;
+    *goals = g;
+    *length = m.length as u16;
+    *phase = m.phase;
+}
 
 // Whether a card is good.
 #[no_mangle]
@@ -62,23 +93,15 @@ pub extern "C" fn rigtemple_take_parts(
 ) -> u16
     ensures { λ r. ⌜ replied (takes (now (card .entry)) (whole (now (beliefs .entry)) (now (goals .entry)) (now (plan .entry)) (now (length .entry)) (now (phase .entry))) choice) r (whole (now (beliefs .exit)) (now (goals .exit)) (now (plan .exit)) (now (length .exit)) (now (phase .exit))) ⌝ }
 {
-    let c = Configuration {
-        beliefs: *beliefs,
-        goals: *goals,
-        plan: *plan,
-        length: *length,
-        phase: *phase,
+    let v = check(card);
+    let Checked::Good(l) = v else {
+        return answer_number(answer_of(v));
     };
-    let r = guide::take(card, c, choice);
-    let b = r.configuration.beliefs;
-    let g = r.configuration.goals;
-    let p = r.configuration.plan;
-    *beliefs = b;
-    *goals = g;
-    *plan = p;
-    *length = r.configuration.length;
-    *phase = r.configuration.phase;
-    let a = r.answer;
+    let m = mind(beliefs, goals, *length, *phase);
+    let t = moves::take::take(card, l, m, plan, choice);
+    let after = t.mind;
+    put(after, beliefs, goals, length, phase);
+    let a = t.answer;
     answer_number(a)
 }
 
@@ -97,26 +120,20 @@ pub extern "C" fn rigtemple_run_parts(
 ) -> u16
     ensures { λ r. ⌜ ranTo (runs (now (card .entry)) (whole (now (beliefs .entry)) (now (goals .entry)) (now (plan .entry)) (now (length .entry)) (now (phase .entry))) budget) r (whole (now (beliefs .exit)) (now (goals .exit)) (now (plan .exit)) (now (length .exit)) (now (phase .exit))) (now (count .exit)) (now (ending .exit)) ⌝ }
 {
-    let c = Configuration {
-        beliefs: *beliefs,
-        goals: *goals,
-        plan: *plan,
-        length: *length,
-        phase: *phase,
+    let v = check(card);
+    let Checked::Good(l) = v else {
+        *count = 0;
+        *ending = ending_number(Ending::Spent);
+        return answer_number(answer_of(v));
     };
-    let r = guide::run(card, c, budget);
-    let b = r.configuration.beliefs;
-    let g = r.configuration.goals;
-    let p = r.configuration.plan;
-    *beliefs = b;
-    *goals = g;
-    *plan = p;
-    *length = r.configuration.length;
-    *phase = r.configuration.phase;
-    *count = r.count;
-    let e = r.ending;
+    let m = mind(beliefs, goals, *length, *phase);
+    let t = moves::run::run(card, l, m, plan, budget);
+    let after = t.mind;
+    put(after, beliefs, goals, length, phase);
+    *count = t.count;
+    let e = t.ending;
     *ending = ending_number(e);
-    let a = r.answer;
+    let a = t.answer;
     answer_number(a)
 }
 
@@ -133,16 +150,16 @@ pub extern "C" fn rigtemple_restore_parts(
 ) -> u16
     ensures { λ r. ⌜ replied (restores (now (card .entry)) (now (place .entry))) r (whole (now (beliefs .exit)) (now (goals .exit)) (now (plan .exit)) (now (length .exit)) (now (phase .exit))) ⌝ }
 {
-    let r = guide::restore(card, place);
-    let b = r.configuration.beliefs;
-    let g = r.configuration.goals;
-    let p = r.configuration.plan;
-    *beliefs = b;
-    *goals = g;
-    *plan = p;
-    *length = r.configuration.length;
-    *phase = r.configuration.phase;
-    let a = r.answer;
+    let v = check(card);
+    let Checked::Good(l) = v else {
+        let none = empty_mind(plan);
+        put(none, beliefs, goals, length, phase);
+        return answer_number(answer_of(v));
+    };
+    let t = place::restore::restore(card, l, place, plan);
+    let m = t.mind;
+    put(m, beliefs, goals, length, phase);
+    let a = t.answer;
     answer_number(a)
 }
 
@@ -160,16 +177,15 @@ pub extern "C" fn rigtemple_list_parts(
 ) -> u16
     ensures { λ r. ⌜ wrote (lists (now (card .entry)) (whole (now (beliefs .entry)) (now (goals .entry)) (now (plan .entry)) length phase) (now (list .entry))) (listLeaves (now (card .entry)) (whole (now (beliefs .entry)) (now (goals .entry)) (now (plan .entry)) length phase) (now (list .entry))) r (now (count .exit)) (now (list .exit)) ⌝ }
 {
-    let c = Configuration {
-        beliefs: *beliefs,
-        goals: *goals,
-        plan: *plan,
-        length: length,
-        phase: phase,
+    let v = check(card);
+    let Checked::Good(l) = v else {
+        *count = 0;
+        return answer_number(answer_of(v));
     };
-    let r = guide::list(card, c, list);
-    *count = r.count;
-    let a = r.answer;
+    let m = mind(beliefs, goals, length, phase);
+    let t = moves::list::list(card, l, m, plan, list);
+    *count = t.count;
+    let a = t.answer;
     answer_number(a)
 }
 
@@ -187,16 +203,15 @@ pub extern "C" fn rigtemple_save_parts(
 ) -> u16
     ensures { λ r. ⌜ wrote (saves (now (card .entry)) (whole (now (beliefs .entry)) (now (goals .entry)) (now (plan .entry)) length phase) (now (place .entry))) (saveLeaves (now (card .entry)) (whole (now (beliefs .entry)) (now (goals .entry)) (now (plan .entry)) length phase) (now (place .entry))) r (now (count .exit)) (now (place .exit)) ⌝ }
 {
-    let c = Configuration {
-        beliefs: *beliefs,
-        goals: *goals,
-        plan: *plan,
-        length: length,
-        phase: phase,
+    let v = check(card);
+    let Checked::Good(l) = v else {
+        *count = 0;
+        return answer_number(answer_of(v));
     };
-    let r = guide::save(card, c, place);
-    *count = r.count;
-    let a = r.answer;
+    let m = mind(beliefs, goals, length, phase);
+    let t = place::save::save(card, l, m, plan, place);
+    *count = t.count;
+    let a = t.answer;
     answer_number(a)
 }
 

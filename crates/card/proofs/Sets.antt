@@ -1,6 +1,6 @@
 -- Row 9 of all sets at once: a union has only known atoms exactly if each of its sets has.
 use mathlib.Core.Path.{_≡_, refl, sym, ap, ap₂, _∙_}
-use mathlib.Core.Bool.{Bool, true, false, not, _&&_, _||_}
+use mathlib.Core.Bool.{Bool, true, false, not, _&&_, _||_, and-assoc}
 use mathlib.Core.List.{List, [], _∷_}
 use Prim.Native.Nat.{ℕ, suc, _+_, _-_, _*_, _<_}
 use native.Mathlib.Numerals.{add-one}
@@ -38,13 +38,6 @@ pub all-next : (t : ℕ → Bool) (i n : ℕ) → i < n → all t (numbers i (n 
 unfolding numbers
 all-next t i n h = let k : n - i ≡ suc (n - (i + 1)) = omega arith in rw (k, add-one i)
 
-and-assoc : (a b c : Bool) → (a && b) && c ≡ (a && (b && c))
-and-assoc true b c = refl
-and-assoc false b c = refl
-
 -- one turn of a union: what it has found and what is left to ask stay the whole question
 pub union-turn : (a b : Bool) (t : ℕ → Bool) (i n : ℕ) → i < n → b ≡ t i → (a && b) && all t (numbers (i + 1) (n - (i + 1))) ≡ (a && all t (numbers i (n - i)))
 union-turn a b t i n h e = and-assoc a b _ ∙ ap (λ x. a && x) (ap (λ x. x && all t (numbers (i + 1) (n - (i + 1)))) e ∙ sym (all-next t i n h))
-
-pub union-start : (a b c : Bool) → (a && b) && c ≡ (a && (b && c))
-union-start = and-assoc

@@ -24,7 +24,7 @@ use meaning::Layout;
 use meaning::Refusal;
 
 // The answer of one row.
-fn row(good: bool, refusal: Refusal) -> Answer
+pub fn row(good: bool, refusal: Refusal) -> Answer
     ensures { λ r. ⌜ r ≡ rowAnswer good refusal ⌝ }
 {
     if good {
@@ -34,6 +34,7 @@ fn row(good: bool, refusal: Refusal) -> Answer
     }
 }
 
+// Row 9.
 fn from_sets(card: &[u8], l: Layout) -> Answer
     requires { ⌜ Laid l (now card) ⌝ }
     ensures { λ r. ⌜ r ≡ rowsFrom 8 (now (card .entry)) ⌝ }
@@ -41,6 +42,7 @@ fn from_sets(card: &[u8], l: Layout) -> Answer
     row(sets_good(card, l), Refusal::Atom)
 }
 
+// Row 8, then 9.
 fn from_pool(card: &[u8], l: Layout) -> Answer
     requires { ⌜ Laid l (now card) ⌝ }
     ensures { λ r. ⌜ r ≡ rowsFrom 7 (now (card .entry)) ⌝ }
@@ -52,6 +54,7 @@ fn from_pool(card: &[u8], l: Layout) -> Answer
     from_sets(card, l)
 }
 
+// Row 7, then 8 and 9.
 fn from_rules(card: &[u8], l: Layout) -> Answer
     requires { ⌜ Laid l (now card) × (nodesGood l (now card) ≡ true) × NarrowSpan (l .initial) ⌝ }
     ensures { λ r. ⌜ r ≡ rowsFrom 6 (now (card .entry)) ⌝ }
@@ -63,6 +66,7 @@ fn from_rules(card: &[u8], l: Layout) -> Answer
     from_pool(card, l)
 }
 
+// Row 6, then 7 to 9.
 fn from_nodes(card: &[u8], l: Layout) -> Answer
     requires { ⌜ Laid l (now card) × NarrowSpan (l .initial) ⌝ }
     ensures { λ r. ⌜ r ≡ rowsFrom 5 (now (card .entry)) ⌝ }
@@ -74,6 +78,7 @@ fn from_nodes(card: &[u8], l: Layout) -> Answer
     from_rules(card, l)
 }
 
+// Row 5, then 6 to 9.
 fn from_weights(card: &[u8], l: Layout) -> Answer
     requires { ⌜ Laid l (now card) × NarrowSpan (l .initial) ⌝ }
     ensures { λ r. ⌜ r ≡ rowsFrom 4 (now (card .entry)) ⌝ }
@@ -85,6 +90,7 @@ fn from_weights(card: &[u8], l: Layout) -> Answer
     from_nodes(card, l)
 }
 
+// Row 4, then 5 to 9.
 fn from_offsets(card: &[u8], l: Layout) -> Answer
     requires { ⌜ (l ≡ layout (now card)) × Narrow l × (countsGood l ≡ true) ⌝ }
     ensures { λ r. ⌜ r ≡ rowsFrom 3 (now (card .entry)) ⌝ }
@@ -96,6 +102,7 @@ fn from_offsets(card: &[u8], l: Layout) -> Answer
     from_weights(card, l)
 }
 
+// Row 3, then 4 to 9.
 fn from_counts(card: &[u8], l: Layout) -> Answer
     requires { ⌜ (l ≡ layout (now card)) × Narrow l ⌝ }
     ensures { λ r. ⌜ r ≡ rowsFrom 2 (now (card .entry)) ⌝ }
@@ -116,6 +123,7 @@ fn marked(card: &[u8]) -> bool
     (card[0] == 0x33) & ((card[1] == 0x41) & (edition == 1))
 }
 
+// Row 2, then 3 to 9.
 fn from_mark(card: &[u8]) -> Answer
     requires { ⌜ 64 ≤ length (now card) ⌝ }
     ensures { λ r. ⌜ r ≡ rowsFrom 1 (now (card .entry)) ⌝ }

@@ -77,6 +77,7 @@ fn revision_good(card: &[u8], l: Layout, goals: &[bool; 256], at: usize) -> bool
     belief & ((first == 0) & (head & (body & (zero == 0))))
 }
 
+// Every specification.
 fn specifications_good(card: &[u8], l: Layout, goals: &[bool; 256]) -> bool
     requires { ⌜ Laid l (now card) × Marks 2 l (now card) (now goals) ⌝ }
     ensures { λ r. ⌜ r ≡ everyEntry 36 (l .specifications) (specificationGood (containing 2 l (now (card .entry))) l (now (card .entry))) ⌝ }
@@ -94,6 +95,7 @@ fn specifications_good(card: &[u8], l: Layout, goals: &[bool; 256]) -> bool
     good
 }
 
+// Every selection rule.
 fn selections_good(card: &[u8], l: Layout, beliefs: &[bool; 256], goals: &[bool; 256]) -> bool
     requires { ⌜ Laid l (now card) × Marks 1 l (now card) (now beliefs) × Marks 2 l (now card) (now goals) ⌝ }
     ensures { λ r. ⌜ r ≡ everyEntry 8 (l .selections) (selectionGood (containing 1 l (now (card .entry))) (containing 2 l (now (card .entry))) l (now (card .entry))) ⌝ }
@@ -111,6 +113,7 @@ fn selections_good(card: &[u8], l: Layout, beliefs: &[bool; 256], goals: &[bool;
     good
 }
 
+// Every revision rule.
 fn revisions_good(card: &[u8], l: Layout, goals: &[bool; 256]) -> bool
     requires { ⌜ Laid l (now card) × Marks 2 l (now card) (now goals) ⌝ }
     ensures { λ r. ⌜ r ≡ everyEntry 12 (l .revisions) (revisionGood (containing 2 l (now (card .entry))) l (now (card .entry))) ⌝ }

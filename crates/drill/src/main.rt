@@ -38,12 +38,14 @@ enum After {
     Ends,
 }
 
+// A number of two bytes, low byte first.
 fn joined(low: u8, high: u8) -> u16 {
     low as u16 + 256 * (high as u16)
 }
 
 // ---- what a request is made of
 
+// The next byte of the input.
 fn next_byte() -> Byte {
     let mut one = [0u8; 1];
     let got = io::read_full(0, &mut one);
@@ -53,6 +55,7 @@ fn next_byte() -> Byte {
     Byte::Is(one[0])
 }
 
+// The next number of the input.
 fn next_number() -> Number {
     let mut two = [0u8; 2];
     let got = io::read_full(0, &mut two);
@@ -103,14 +106,17 @@ fn next_image() -> Asked {
 
 // ---- what an answer is made of
 
+// A number's low byte.
 fn low(n: u16) -> u8 {
     (n % 256) as u8
 }
 
+// A number's high byte.
 fn high(n: u16) -> u8 {
     (n / 256) as u8
 }
 
+// A number is told.
 fn tell(n: u16) {
     let two = [low(n), high(n)];
     io::write_all(1, &two);
@@ -137,10 +143,12 @@ fn tell_first(bytes: &[u8], m: usize) {
     }
 }
 
+// The plan of an image is told.
 fn tell_plan(plan: &[u8; 1024]) {
     tell_first(plan, least(plan));
 }
 
+// An image is told.
 fn tell_image(c: Configuration) {
     let beliefs = c.beliefs;
     let goals = c.goals;
@@ -156,6 +164,7 @@ fn tell_image(c: Configuration) {
 
 // ---- the calls; each says whether the program goes on
 
+// Request 1.
 fn check(card: &[u8]) -> bool {
     let v = guide::check(card);
     match v {
@@ -165,6 +174,7 @@ fn check(card: &[u8]) -> bool {
     true
 }
 
+// Request 2.
 fn load(card: &[u8]) -> bool {
     let r = guide::load(card);
     let a = r.answer;
@@ -219,6 +229,7 @@ fn entries(list: &[u16]) -> [u8; 2048]
     bytes
 }
 
+// The call, and then the whole lent list.
 fn list_into(card: &[u8], c: Configuration, out: &mut [u16]) {
     let w = guide::list(card, c, out);
     let a = w.answer;
@@ -231,6 +242,7 @@ fn list_into(card: &[u8], c: Configuration, out: &mut [u16]) {
     }
 }
 
+// Request 4.
 fn list(card: &[u8]) -> bool {
     let asked = next_image();
     if !asked.whole {
@@ -249,6 +261,7 @@ fn list(card: &[u8]) -> bool {
     true
 }
 
+// Request 5.
 fn take(card: &[u8]) -> bool {
     let asked = next_image();
     if !asked.whole {
@@ -297,6 +310,7 @@ fn lent_bytes() -> [u8; 2048]
     [0xEEu8; 2048]
 }
 
+// The call, and then the whole lent buffer.
 fn save_into(card: &[u8], c: Configuration, out: &mut [u8]) {
     let w = guide::save(card, c, out);
     let a = w.answer;
@@ -304,6 +318,7 @@ fn save_into(card: &[u8], c: Configuration, out: &mut [u8]) {
     io::write_all(1, out);
 }
 
+// Request 7.
 fn save(card: &[u8]) -> bool {
     let asked = next_image();
     if !asked.whole {
@@ -322,6 +337,7 @@ fn save(card: &[u8]) -> bool {
     true
 }
 
+// The place's bytes are read, and restored.
 fn restore_from(card: &[u8], place: &mut [u8]) -> bool {
     if !fill(place) {
         return false;

@@ -1,7 +1,9 @@
 // The guide: the eight calls. Nothing is assumed of any byte or number; each contract cites one definition of the whole answer,
 // refusals too, and of what a lent buffer holds afterwards.
 ghost use mathlib.Core.Path.{_≡_};
-ghost use Rattle.meaning.specs.Calls.{checks, loads, grades, lists, listLeaves, takes, runs, saves, saveLeaves, restores};
+ghost use Prim.Native.Nat.{_≤_};
+ghost use Rattle.demands.specs.Contracts.{Checks, Loads, Grades, Lists, Takes, Runs, Saves, Restores};
+ghost use Rattle.moves.specs.Minds.{configurationIn};
 use card::load::answer_of;
 use card::load::empty_configuration;
 use house::Ending;
@@ -11,31 +13,33 @@ use meaning::Graded;
 use meaning::Ran;
 use meaning::Reply;
 use meaning::Written;
+use moves::configuration::mind_of;
+use moves::mind::Mind;
 
 // Whether a card is accepted: its layout, or the first refusal of 1 to 9.
 pub fn check(card: &[u8]) -> Checked
-    ensures { λ r. ⌜ r ≡ checks (now (card .entry)) ⌝ }
+    ensures { λ r. ⌜ Checks (now (card .entry)) r ⌝ }
 {
     card::check::check(card)
 }
 
 // The configuration that a card starts with.
 pub fn load(card: &[u8]) -> Reply
-    ensures { λ r. ⌜ r ≡ loads (now (card .entry)) ⌝ }
+    ensures { λ r. ⌜ Loads (now (card .entry)) r ⌝ }
 {
     card::load::load(card)
 }
 
 // Bounded, or open with the first offender.
 pub fn grade(card: &[u8]) -> Graded
-    ensures { λ r. ⌜ r ≡ grades (now (card .entry)) ⌝ }
+    ensures { λ r. ⌜ Grades (now (card .entry)) r ⌝ }
 {
     card::grade::grade(card)
 }
 
 // All enabled choices, into a lent list.
 pub fn list(card: &[u8], c: Configuration, out: &mut [u16]) -> Written
-    ensures { λ r. ⌜ (r ≡ lists (now (card .entry)) c (now (out .entry))) × (now (out .exit) ≡ listLeaves (now (card .entry)) c (now (out .entry))) ⌝ }
+    ensures { λ r. ⌜ Lists (now (card .entry)) c (now (out .entry)) r (now (out .exit)) ⌝ }
 {
     let v = card::check::check(card);
     let Checked::Good(l) = v else {
@@ -45,12 +49,35 @@ pub fn list(card: &[u8], c: Configuration, out: &mut [u16]) -> Written
             configuration: c,
         };
     };
-    moves::list::list(card, l, c, out)
+    let m = mind_of(c);
+    let t = moves::list::list(card, l, m, &c.plan, out);
+    let a = t.answer;
+    Written {
+        answer: a,
+        count: t.count,
+        configuration: c,
+    }
+}
+
+// A configuration of a mind and a plan's bytes.
+fn whole(m: Mind, plan: [u8; 1024]) -> Configuration
+    requires { ⌜ m .length ≤ 65535 ⌝ }
+    ensures { λ r. ⌜ r ≡ configurationIn m plan ⌝ }
+{
+    let b = m.beliefs;
+    let g = m.goals;
+    Configuration {
+        beliefs: b,
+        goals: g,
+        plan: plan,
+        length: m.length as u16,
+        phase: m.phase,
+    }
 }
 
 // The chosen move, if it is a transition and its plan fits.
 pub fn take(card: &[u8], c: Configuration, choice: u16) -> Reply
-    ensures { λ r. ⌜ r ≡ takes (now (card .entry)) c choice ⌝ }
+    ensures { λ r. ⌜ Takes (now (card .entry)) c choice r ⌝ }
 {
     let v = card::check::check(card);
     let Checked::Good(l) = v else {
@@ -59,12 +86,21 @@ pub fn take(card: &[u8], c: Configuration, choice: u16) -> Reply
             configuration: c,
         };
     };
-    moves::take::take(card, l, c, choice)
+    let m = mind_of(c);
+    let mut plan = c.plan;
+    let t = moves::take::take(card, l, m, &mut plan, choice);
+    let a = t.answer;
+    let after = t.mind;
+    let d = whole(after, plan);
+    Reply {
+        answer: a,
+        configuration: d,
+    }
 }
 
 // At most budget moves of the guide's own.
 pub fn run(card: &[u8], c: Configuration, budget: u16) -> Ran
-    ensures { λ r. ⌜ r ≡ runs (now (card .entry)) c budget ⌝ }
+    ensures { λ r. ⌜ Runs (now (card .entry)) c budget r ⌝ }
 {
     let v = card::check::check(card);
     let Checked::Good(l) = v else {
@@ -75,12 +111,24 @@ pub fn run(card: &[u8], c: Configuration, budget: u16) -> Ran
             configuration: c,
         };
     };
-    moves::run::run(card, l, c, budget)
+    let m = mind_of(c);
+    let mut plan = c.plan;
+    let t = moves::run::run(card, l, m, &mut plan, budget);
+    let a = t.answer;
+    let e = t.ending;
+    let after = t.mind;
+    let reached = whole(after, plan);
+    Ran {
+        answer: a,
+        count: t.count,
+        ending: e,
+        configuration: reached,
+    }
 }
 
 // The configuration into a lent buffer: 44 + L bytes and no others.
 pub fn save(card: &[u8], c: Configuration, out: &mut [u8]) -> Written
-    ensures { λ r. ⌜ (r ≡ saves (now (card .entry)) c (now (out .entry))) × (now (out .exit) ≡ saveLeaves (now (card .entry)) c (now (out .entry))) ⌝ }
+    ensures { λ r. ⌜ Saves (now (card .entry)) c (now (out .entry)) r (now (out .exit)) ⌝ }
 {
     let v = card::check::check(card);
     let Checked::Good(l) = v else {
@@ -90,12 +138,19 @@ pub fn save(card: &[u8], c: Configuration, out: &mut [u8]) -> Written
             configuration: c,
         };
     };
-    place::save::save(card, l, c, out)
+    let m = mind_of(c);
+    let t = place::save::save(card, l, m, &c.plan, out);
+    let a = t.answer;
+    Written {
+        answer: a,
+        count: t.count,
+        configuration: c,
+    }
 }
 
 // The configuration that a place holds.
 pub fn restore(card: &[u8], p: &[u8]) -> Reply
-    ensures { λ r. ⌜ r ≡ restores (now (card .entry)) (now (p .entry)) ⌝ }
+    ensures { λ r. ⌜ Restores (now (card .entry)) (now (p .entry)) r ⌝ }
 {
     let v = card::check::check(card);
     let Checked::Good(l) = v else {
@@ -105,5 +160,13 @@ pub fn restore(card: &[u8], p: &[u8]) -> Reply
             configuration: none,
         };
     };
-    place::restore::restore(card, l, p)
+    let mut plan = [0u8; 1024];
+    let t = place::restore::restore(card, l, p, &mut plan);
+    let a = t.answer;
+    let m = t.mind;
+    let c = whole(m, plan);
+    Reply {
+        answer: a,
+        configuration: c,
+    }
 }

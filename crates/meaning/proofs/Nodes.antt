@@ -15,7 +15,7 @@ use Rattle.meaning.specs.declared.Layout.{Layout}
 use Rattle.meaning.specs.Card.{Bytes, byte, entryAt, Node, nodeAt, nodes, pass, queryOf, conditions}
 use Rattle.meaning.specs.Refusals.{kindGood, nodeGood, nodesGood, containsOf, containing}
 use Rattle.meaning.proofs.Every.{every-at}
-use Rattle.meaning.proofs.Pass.{Lower, pass-at, pass-past}
+use Rattle.meaning.proofs.Pass.{Lower, pass-at}
 
 -- what a node's rule says of its kind and of its children
 pub record Rule (n i kind a b : ℕ) : Type 0 where
@@ -116,7 +116,3 @@ module _ (l : Layout) (b : Bytes) (good : nodesGood l b ≡ true) (i : ℕ) (h :
       → getD (conditions L l b) i ⊤ ≡ queryOf (kindOf l b i) (aOf l b i) (bOf l b i) (λ j. getD (conditions L l b) j ⊤)
   unfolding conditions
   condition-at L = made-of l b good i h queryOf ⊤ query-children
-
-pub contains-past : (l : Layout) (b : Bytes) (kind i : ℕ) → l .nodes .count ≤ i → getD (containing kind l b) i false ≡ false
-unfolding containing
-contains-past l b kind i h = pass-past (λ i x contains. containsOf kind (x .kind) (x .a) (x .b) contains) false (nodes l b) i (rw (length-nodes l b) h)

@@ -57,6 +57,3 @@ module _ {X : Type 0} (make : ℕ → Node → (ℕ → X) → X) (other : X) wh
   pass-at ns i d h lower =
       let m = rw zero-add at (made-on [] ns i d h) in
       m .made ∙ lower (m .below) (λ j. getD (pass make other ns) j other) (m .agree)
-
-  pub pass-past : (ns : List Node) (i : ℕ) → length ns ≤ i → getD (pass make other ns) i other ≡ other
-  pass-past ns i h = List·getD-eq-default (pass make other ns) other (rw (length-pass ns) h)

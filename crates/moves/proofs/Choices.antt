@@ -3,9 +3,10 @@ use mathlib.Core.Path.{_≡_, refl, ap, _∙_, sym}
 use mathlib.Core.Bool.{Bool, true, false}
 use mathlib.Core.List.{List, [], _∷_, _++_, map}
 use Prim.Native.Nat.{ℕ, zero, suc, _+_, _-_, _%_, _≤_, _<_}
-use native.Mathlib.Nat.{sub-zero}
+use native.Mathlib.Nat.{sub-zero, add-zero}
 use native.Mathlib.Numerals.{add-one}
 use native.Mathlib.Omega.{arith}
+use borrow.Author.Count.{below-more}
 use lib.ListN.{length}
 use Rattle.paper.specs.Language.{𝐁, 𝐆, Agent, Config}
 use Rattle.paper.specs.Transitions.{Choice, select, act, revise}
@@ -102,14 +103,32 @@ module _ (A : Agent) (c : Config) (p : ℕ) where
   unfolding inTurn
   in-turn = first-append A c (ofKind A (p % 3)) _ ∙ ap (orElse first) (first-append A c (ofKind A ((p + 1) % 3)) (ofKind A ((p + 2) % 3)))
 
-  pub in-first : (a : Chosen) → a ≡ first → (k n : ℕ) → a ≡ Chosen.At k n → a ≡ firstEnabled A c (inTurn A p)
-  in-first a e k n f = f ∙ ap (λ x. orElse x (orElse second third)) (sym f ∙ e) ∙ sym in-turn
+  -- what the t-th of the three has first
+  abbrev pub nth : ℕ → Chosen
+  nth t = firstEnabled A c (ofKind A ((p + t) % 3))
 
-  past-first : (a : Chosen) → a ≡ first → a ≡ Chosen.Nothing → orElse second third ≡ firstEnabled A c (inTurn A p)
-  past-first a e f = ap (λ x. orElse x (orElse second third)) (sym f ∙ e) ∙ sym in-turn
+  -- the kinds before the t-th have nothing
+  abbrev pub Tried : ℕ → Type 0
+  Tried t = (k : ℕ) → k < t → nth k ≡ Chosen.Nothing
 
-  pub in-second : (a : Chosen) → a ≡ first → a ≡ Chosen.Nothing → (b : Chosen) → b ≡ second → (k n : ℕ) → b ≡ Chosen.At k n → b ≡ firstEnabled A c (inTurn A p)
-  in-second a e f b g k n h = h ∙ ap (λ x. orElse x third) (sym h ∙ g) ∙ past-first a e f
+  nth-first : nth 0 ≡ first
+  nth-first = ap (λ n. firstEnabled A c (ofKind A (n % 3))) (add-zero p)
 
-  pub in-third : (a : Chosen) → a ≡ first → a ≡ Chosen.Nothing → (b : Chosen) → b ≡ second → b ≡ Chosen.Nothing → third ≡ firstEnabled A c (inTurn A p)
-  in-third a e f b g h = ap (λ x. orElse x third) (sym h ∙ g) ∙ past-first a e f
+  past-first : nth 0 ≡ Chosen.Nothing → orElse second third ≡ firstEnabled A c (inTurn A p)
+  past-first e = ap (λ x. orElse x (orElse second third)) (sym e ∙ nth-first) ∙ sym in-turn
+
+  past-second : nth 0 ≡ Chosen.Nothing → second ≡ Chosen.Nothing → third ≡ firstEnabled A c (inTurn A p)
+  past-second e f = ap (λ x. orElse x third) (sym f) ∙ past-first e
+
+  pub found-in-turn : (t : ℕ) → t < 3 → Tried t → (a : Chosen) → a ≡ nth t → (k n : ℕ) → a ≡ Chosen.At k n → a ≡ firstEnabled A c (inTurn A p)
+  found-in-turn zero h tried a e k n f = f ∙ ap (λ x. orElse x (orElse second third)) (sym f ∙ e ∙ nth-first) ∙ sym in-turn
+  found-in-turn (suc zero) h tried a e k n f = f ∙ ap (λ x. orElse x third) (sym f ∙ e) ∙ past-first (tried 0 (omega arith))
+  found-in-turn (suc (suc zero)) h tried a e k n f = e ∙ past-second (tried 0 (omega arith)) (tried 1 (omega arith))
+  found-in-turn (suc (suc (suc t))) h tried a e k n f = absurd (omega arith)
+
+  pub none-in-turn : Tried 3 → Chosen.Nothing ≡ firstEnabled A c (inTurn A p)
+  none-in-turn tried = sym (tried 2 (omega arith)) ∙ past-second (tried 0 (omega arith)) (tried 1 (omega arith))
+
+  -- one kind more
+  pub tried-more : (t : ℕ) → Tried t → nth t ≡ Chosen.Nothing → Tried (t + 1)
+  tried-more t tried e = below-more (λ (k : ℕ). nth k ≡ Chosen.Nothing) t tried e

@@ -4,13 +4,13 @@ use mathlib.Core.Bool.{Bool, true, false, not}
 use mathlib.Core.Option.{Option, none, some}
 use Prim.Native.Nat.{ℕ, zero, suc, _+_, _/_, _%_, _≤_, _<_}
 use native.Mathlib.Omega.{arith}
-use borrow.Author.Tests.{not-true, not-false}
 use lib.ListN.{length}
 use Rattle.paper.specs.Language.{Agent, Config}
 use Rattle.paper.specs.Transitions.{Choice}
 use Rattle.paper.specs.Next.{next}
 use Rattle.house.specs.Order.{State, after}
 use Rattle.house.specs.Run.{fits, run}
+use Rattle.meaning.specs.declared.Answer.{Answer}
 use Rattle.meaning.specs.declared.Answer.the-variants.{Done, Refused}
 use Rattle.meaning.specs.declared.Refusal.{Refusal}
 use Rattle.meaning.specs.declared.Configuration.{Configuration}
@@ -21,6 +21,9 @@ use Rattle.meaning.specs.Refusals.{cardAnswer, configurationGood, configuration
 use Rattle.meaning.specs.Calls.{choiceOf, choice, leadsTo, takes, reply}
 use Rattle.meaning.proofs.Calls.{configuration-refused, configuration-good, takes-nothing, takes-full, takes-move}
 use Rattle.meaning.proofs.Configurations.{good, padded-take}
+use Rattle.card.specs.Stair.{rowAnswer}
+use Rattle.meaning.proofs.Tables.{done≢refused}
+use Rattle.card.proofs.Stair.{row-done}
 use Rattle.moves.specs.declared.mind.Mind.{Mind}
 use Rattle.moves.specs.declared.mind.Next.{Next}
 use Rattle.moves.specs.declared.mind.Stepped.{Stepped}
@@ -115,14 +118,23 @@ module _ (A : Agent) (c : Configuration) (k : Choice) (s : Stepped) (e : s ≡ t
       go full q = h
       go (to s′) q = made-fits A (stateOf c) s′ k q .0
 
--- ---- row 13, by the code's own test
+-- ---- row 13, by the code's own answer
 
-module _ (l : Layout) (b : Bytes) (c : Configuration) (card : cardAnswer b ≡ Done) (h : l ≡ layout b) (t : Bool) (e : t ≡ configurationGood l c) where
-  judged-so : t ≡ configurationGood (layout b) c
-  judged-so = e ∙ ap (λ x. configurationGood x c) h
+row-refused : (g : Bool) (r q : Refusal) → rowAnswer g r ≡ Refused q → g ≡ false
+row-refused true r q e = absurd (done≢refused e)
+row-refused false r q e = refl
 
-  pub judged-bad : not t ≡ true → configurationAnswer b c ≡ Refused Refusal.Configuration
-  judged-bad f = configuration-refused b c card (sym judged-so ∙ not-true t f)
+module _ (l : Layout) (b : Bytes) (c : Configuration) (card : cardAnswer b ≡ Done) (h : l ≡ layout b) (a : Answer)
+    (e : a ≡ rowAnswer (configurationGood l c) Refusal.Configuration) where
+  judged-so : configurationGood l c ≡ configurationGood (layout b) c
+  judged-so = ap (λ x. configurationGood x c) h
 
-  pub judged-good : not t ≡ false → (configurationGood l c ≡ true) × (configurationAnswer b c ≡ Done)
-  judged-good f = (sym e ∙ not-false t f, configuration-good b c card (sym judged-so ∙ not-false t f))
+  pub judged-bad : (q : Refusal) → a ≡ Refused q → (a ≡ Refused Refusal.Configuration) × (configurationAnswer b c ≡ Refused Refusal.Configuration)
+  judged-bad q f =
+      let g = row-refused (configurationGood l c) Refusal.Configuration q (sym e ∙ f) in
+      (e ∙ ap (λ t. rowAnswer t Refusal.Configuration) g, configuration-refused b c card (sym judged-so ∙ g))
+
+  pub judged-good : a ≡ Done → (configurationGood l c ≡ true) × (configurationAnswer b c ≡ Done)
+  judged-good f =
+      let g = row-done (configurationGood l c) Refusal.Configuration (sym e ∙ f) in
+      (g, configuration-good b c card (sym judged-so ∙ g))

@@ -1,17 +1,17 @@
 -- The guide's move, and a run of them, over plain values.
 use mathlib.Core.Path.{_≡_, refl, ap, ap₂, _∙_, sym, subst}
-use mathlib.Core.Bool.{Bool, true, false}
+use mathlib.Core.Bool.{Bool, true, false, not}
 use mathlib.Core.List.{List, [], _∷_}
 use mathlib.Core.Option.{Option, none, some}
 use Prim.Native.Nat.{ℕ, zero, suc, _+_, _-_, _%_, _≤_, _<_}
 use native.Mathlib.Nat.{mod-lt, sub-zero, zero-add}
 use native.Mathlib.Omega.{arith}
-use borrow.Author.Tests.{leb-true, leb-false}
-use lib.Dec.{leb}
+use borrow.Author.Tests.{leb-true, leb-false, eqb-false, not-true}
+use lib.Dec.{leb, eqb}
 use lib.ListN.{length, take}
 use lib.Seq.{length-take-le}
 use Rattle.paper.specs.Language.{Agent, Config, ⟨_/_/_⟩}
-use Rattle.paper.specs.Transitions.{Choice, select, act, revise}
+use Rattle.paper.specs.Transitions.{Choice, select, act, revise, Step, execute, apply-PS, apply-PR}
 use Rattle.paper.specs.Next.{next, isSome, enabled}
 use Rattle.paper.proofs.Relation.{false≢true, none≢some, some-inj, enabled-exactly, sound}
 use Rattle.house.specs.declared.Ending.{Ending}
@@ -19,6 +19,7 @@ use Rattle.house.specs.Order.{State, kind, inTurn, after, Move, firstMove, guid
 use Rattle.house.specs.Run.{fits, Outcome, ended, oneMore, run}
 use Rattle.house.proofs.Order.{first-here, first-later, guide-takes}
 use Rattle.house.proofs.Run.{run-rests, run-is-full, run-goes-on}
+use Rattle.meaning.specs.declared.Layout.{Layout}
 use Rattle.meaning.specs.Card.{Bytes}
 use Rattle.meaning.specs.Configurations.{padded}
 use Rattle.plans.proofs.Laws.{take-padded, length-padded}
@@ -26,6 +27,7 @@ use Rattle.moves.specs.declared.mind.Mind.{Mind}
 use Rattle.moves.specs.declared.mind.Chosen.{Chosen}
 use Rattle.moves.specs.declared.mind.Next.{Next}
 use Rattle.moves.specs.declared.mind.Turned.{Turned}
+use Rattle.moves.specs.Truth.{Judged}
 use Rattle.moves.specs.Minds.{stateIn, mindOf, Held}
 use Rattle.moves.specs.Choosing.{chosen, firstEnabled, Reached, nothing, full, to, fitting, moveBy, choiceAt, stepOf, told, left, ranTo}
 use Rattle.moves.proofs.Choices.{first-yes, first-no}
@@ -174,11 +176,26 @@ fits-le : (s : State) → fits s ≡ true → length (s .mental .π) ≤ 1024
 unfolding fits
 fits-le s e = leb-true _ _ e
 
+-- ---- only an action changes beliefs and goals
+
+-- a state after another that is not the one after an action: its phase is not 2
+abbrev KeepsSets : State → State → Type 0
+KeepsSets s s′ = (s′ .phase ≡ 2 → ⊥) → (s′ .mental .σ ≡ s .mental .σ) × (s′ .mental .γ ≡ s .mental .γ)
+
+no-action-keeps : {A : Agent} {c c′ : Config} {k : Choice} → Step A c k c′ → (kind k ≡ 1 → ⊥) → (c′ .σ ≡ c .σ) × (c′ .γ ≡ c .γ)
+unfolding kind
+no-action-keeps (execute e p) h = absurd (h refl)
+no-action-keeps (apply-PS e p q) h = (refl, refl)
+no-action-keeps (apply-PR π e p) h = (refl, refl)
+
+keeps : {A : Agent} (s : State) (v : Move) → Step A (s .mental) (v .choice) (v .to .mental) → v .to .phase ≡ (kind (v .choice) + 1) % 3 → KeepsSets s (v .to)
+keeps s v t e = λ h. no-action-keeps t (λ k. h (e ∙ ap (λ n. (n + 1) % 3) k))
+
 module _ (A : Agent) (b : ℕ) (s : State) where
   data Went (o : Reached) : Type 0 where
     went-nowhere : o ≡ nothing → run A (suc b) s ≡ ended Ending.Rest s → Went o
     went-full : o ≡ full → run A (suc b) s ≡ ended Ending.Full s → Went o
-    went-to : (s′ : State) → o ≡ to s′ → length (s′ .mental .π) ≤ 1024 → s′ .phase < 3 → run A (suc b) s ≡ oneMore (run A b s′) → Went o
+    went-to : (s′ : State) → o ≡ to s′ → length (s′ .mental .π) ≤ 1024 → s′ .phase < 3 → KeepsSets s s′ → run A (suc b) s ≡ oneMore (run A b s′) → Went o
 
   went : Went (stepOf A s)
   went = go (guide A s) refl
@@ -186,7 +203,7 @@ module _ (A : Agent) (b : ℕ) (s : State) where
       fit : (v : Move) → guide A s ≡ some v → (t : Bool) → fits (v .to) ≡ t → Went (stepOf A s)
       fit v e true h =
           let g = guide-takes A s v e in
-          went-to (v .to) (step-is A s (some v) e ∙ fitting-yes (v .to) h) (fits-le (v .to) h) (rw (g .phase) (mod-lt (kind (v .choice) + 1) (omega arith))) (run-goes-on A b s v e h)
+          went-to (v .to) (step-is A s (some v) e ∙ fitting-yes (v .to) h) (fits-le (v .to) h) (rw (g .phase) (mod-lt (kind (v .choice) + 1) (omega arith))) (keeps s v (g .step) (g .phase)) (run-goes-on A b s v e h)
       fit v e false h = went-full (step-is A s (some v) e ∙ fitting-no (v .to) h) (run-is-full A b s v e h)
 
       go : (o : Option Move) → guide A s ≡ o → Went (stepOf A s)
@@ -202,7 +219,7 @@ run-fits A (suc b) s h = go (went A b s) (λ s′. run-fits A b s′)
     go : Went A b s (stepOf A s) → ((s′ : State) → length (s′ .mental .π) ≤ 1024 → length (run A b s′ .state .mental .π) ≤ 1024) → length (run A (suc b) s .state .mental .π) ≤ 1024
     go (went-nowhere q f) ih = subst (λ o. length (o .state .mental .π) ≤ 1024) (sym f) h
     go (went-full q f) ih = subst (λ o. length (o .state .mental .π) ≤ 1024) (sym f) h
-    go (went-to s′ q l p f) ih = subst (λ o. length (o .state .mental .π) ≤ 1024) (sym f) (ih s′ l)
+    go (went-to s′ q l p k f) ih = subst (λ o. length (o .state .mental .π) ≤ 1024) (sym f) (ih s′ l)
 
 -- ---- the run so far
 
@@ -260,7 +277,7 @@ module _ (A : Agent) (budget : ℕ) where
               → (record { mind = m; count = count; ending = Ending.Rest } ≡ ranTo (run A budget start)) × (left (stepOf A (stateIn m d)) d ≡ padded (run A budget start .state .mental .π))
           go (went-nowhere q f) = let x = ends Ending.Rest (ap (λ n. run A n (stateIn m d)) one-less ∙ f) in (x .0, ap (λ o. left o d) q ∙ x .1)
           go (went-full q f) = absurd (let y : Next.Full ≡ Next.Nothing = sym (ap (λ o. told o m .next) q) ∙ e in let z : _≡_ {A = ℕ} 0 1 = cc in omega arith)
-          go (went-to s′ q l p f) = absurd (let y : Next.Moved ≡ Next.Nothing = sym (ap (λ o. told o m .next) q) ∙ e in let z : _≡_ {A = ℕ} 0 1 = cc in omega arith)
+          go (went-to s′ q l p k f) = absurd (let y : Next.Moved ≡ Next.Nothing = sym (ap (λ o. told o m .next) q) ∙ e in let z : _≡_ {A = ℕ} 0 1 = cc in omega arith)
 
       pub running-full : told (stepOf A (stateIn m d)) m .next ≡ Next.Full
           → (record { mind = m; count = count; ending = Ending.Full } ≡ ranTo (run A budget start)) × (left (stepOf A (stateIn m d)) d ≡ padded (run A budget start .state .mental .π))
@@ -270,7 +287,7 @@ module _ (A : Agent) (budget : ℕ) where
               → (record { mind = m; count = count; ending = Ending.Full } ≡ ranTo (run A budget start)) × (left (stepOf A (stateIn m d)) d ≡ padded (run A budget start .state .mental .π))
           go (went-nowhere q f) = absurd (let y : Next.Nothing ≡ Next.Full = sym (ap (λ o. told o m .next) q) ∙ e in let z : _≡_ {A = ℕ} 0 1 = cc in omega arith)
           go (went-full q f) = let x = ends Ending.Full (ap (λ n. run A n (stateIn m d)) one-less ∙ f) in (x .0, ap (λ o. left o d) q ∙ x .1)
-          go (went-to s′ q l p f) = absurd (let y : Next.Moved ≡ Next.Full = sym (ap (λ o. told o m .next) q) ∙ e in let z : _≡_ {A = ℕ} 0 1 = cc in omega arith)
+          go (went-to s′ q l p k f) = absurd (let y : Next.Moved ≡ Next.Full = sym (ap (λ o. told o m .next) q) ∙ e in let z : _≡_ {A = ℕ} 0 1 = cc in omega arith)
 
       pub running-moved : told (stepOf A (stateIn m d)) m .next ≡ Next.Moved
           → Running A budget start (told (stepOf A (stateIn m d)) m .mind) (left (stepOf A (stateIn m d)) d) (count + 1)
@@ -292,4 +309,21 @@ module _ (A : Agent) (budget : ℕ) where
           go : Went A (budget - (count + 1)) (stateIn m d) (stepOf A (stateIn m d)) → Running A budget start (told (stepOf A (stateIn m d)) m .mind) (left (stepOf A (stateIn m d)) d) (count + 1)
           go (went-nowhere q f) = absurd (let y : Next.Nothing ≡ Next.Moved = sym (ap (λ o. told o m .next) q) ∙ e in let z : _≡_ {A = ℕ} 0 1 = cc in omega arith)
           go (went-full q f) = absurd (let y : Next.Full ≡ Next.Moved = sym (ap (λ o. told o m .next) q) ∙ e in let z : _≡_ {A = ℕ} 0 1 = cc in omega arith)
-          go (went-to s′ q l p f) = subst (λ o. Running A budget start (told o m .mind) (left o d) (count + 1)) (sym q) (on s′ l p f)
+          go (went-to s′ q l p k f) = subst (λ o. Running A budget start (told o m .mind) (left o d) (count + 1)) (sym q) (on s′ l p f)
+
+      -- marks of the nodes stay true in a move that is no action
+      pub running-judged : (l : Layout) (b : Bytes) (marks : List Bool) → Judged l b (m .beliefs) (m .goals) marks → told (stepOf A (stateIn m d)) m .next ≡ Next.Moved
+          → not (eqb (told (stepOf A (stateIn m d)) m .mind .phase) 2) ≡ true
+          → Judged l b (told (stepOf A (stateIn m d)) m .mind .beliefs) (told (stepOf A (stateIn m d)) m .mind .goals) marks
+      running-judged l b marks j e h = go w
+        where
+          on : (s′ : State) → KeepsSets (stateIn m d) s′ → (s′ .phase ≡ 2 → ⊥) → Judged l b (s′ .mental .σ) (s′ .mental .γ) marks
+          on s′ k n = let x = k n in subst (λ σ. Judged l b σ (s′ .mental .γ) marks) (sym (x .0)) (subst (λ γ. Judged l b (m .beliefs) γ marks) (sym (x .1)) j)
+
+          go : Went A (budget - (count + 1)) (stateIn m d) (stepOf A (stateIn m d))
+              → Judged l b (told (stepOf A (stateIn m d)) m .mind .beliefs) (told (stepOf A (stateIn m d)) m .mind .goals) marks
+          go (went-nowhere q f) = absurd (let y : Next.Nothing ≡ Next.Moved = sym (ap (λ o. told o m .next) q) ∙ e in let z : _≡_ {A = ℕ} 0 1 = cc in omega arith)
+          go (went-full q f) = absurd (let y : Next.Full ≡ Next.Moved = sym (ap (λ o. told o m .next) q) ∙ e in let z : _≡_ {A = ℕ} 0 1 = cc in omega arith)
+          go (went-to s′ q l₀ p k f) =
+              subst (λ o. Judged l b (told o m .mind .beliefs) (told o m .mind .goals) marks) (sym q)
+              (on s′ k (eqb-false _ 2 (not-true _ (sym (ap (λ o. not (eqb (told o m .mind .phase) 2)) q) ∙ h))))

@@ -39,10 +39,6 @@ pub data Reached : Type 0 where
 unfoldable pub fitting : State → Reached
 fitting s = elim (fits s) [ true ↦ to s | false ↦ full ]
 
-abbrev pub leading : Option State → Reached
-leading none = nothing
-leading (some s) = fitting s
-
 -- the move that a choice makes
 unfoldable pub moveBy : Agent → State → Choice → Reached
 moveBy A s k = elim (next A (s .mental) k) [ none ↦ nothing | some c ↦ fitting (after k c) ]

@@ -8,7 +8,9 @@ use Rattle.house.specs.Order.{State}
 use Rattle.meaning.specs.Card.{Bytes}
 use Rattle.meaning.specs.Configurations.{padded}
 use Rattle.meaning.specs.declared.Configuration.{Configuration}
+use Rattle.meaning.specs.declared.Ran.{Ran}
 use Rattle.moves.specs.declared.mind.Mind.{Mind}
+use Rattle.moves.specs.declared.mind.Ended.{Ended}
 
 abbrev pub mentalOf : Mind → Bytes → Config
 mentalOf m d = ⟨ m .beliefs / take (m .length) d / m .goals ⟩
@@ -32,3 +34,7 @@ mindIn c = record { beliefs = c .beliefs; goals = c .goals; length = c .length; 
 -- a configuration of a mind and a plan's bytes
 abbrev pub configurationIn : Mind → Bytes → Configuration
 configurationIn m p = record { beliefs = m .beliefs; goals = m .goals; plan = p; length = m .length; phase = m .phase }
+
+-- what a run answers, with the plan's bytes
+abbrev pub endedIn : Ended → Bytes → Ran
+endedIn e p = record { answer = e .answer; count = e .count; ending = e .ending; configuration = configurationIn (e .mind) p }

@@ -5,12 +5,17 @@ ghost use Prim.Native.Nat.{ℕ, _≤_};
 ghost use lib.Dec.{eqb};
 ghost use lib.ListN.{length, take, drop};
 ghost use Rattle.meaning.specs.Refusals.{all, actionsGood, setGood, configurationGood};
+ghost use Rattle.meaning.specs.declared.Refusal.{Refusal};
+ghost use Rattle.card.specs.Stair.{rowAnswer};
 ghost use Rattle.sets.specs.Sets.{below};
-ghost use Rattle.moves.specs.Minds.{mindIn};
+ghost use Rattle.moves.specs.Minds.{mindIn, configurationIn};
 use crate::mind::Mind;
+use card::check::row;
 use card::contents::actions_good;
+use meaning::Answer;
 use meaning::Configuration;
 use meaning::Layout;
+use meaning::Refusal;
 
 // Whether zeros stand after a plan's end.
 fn zeros_after(plan: &[u8; 1024], n: usize) -> bool
@@ -26,8 +31,8 @@ fn zeros_after(plan: &[u8; 1024], n: usize) -> bool
     zeros
 }
 
-// How many bytes a slice has.
-fn size(s: &[u8]) -> usize
+// How many bytes a slice has. An array that is lent as a slice is known to be as long as its type says.
+pub fn size(s: &[u8]) -> usize
     ensures { λ r. ⌜ r ≡ length (now (s .entry)) ⌝ }
 {
     s.len()
@@ -51,42 +56,38 @@ fn set_known(s: [u8; 16], atoms: usize, known: [u8; 16]) -> bool
     sets::only(s, known)
 }
 
-// Row 13 of the parts of a configuration, which are not copied.
-fn parts_good(
-    l: Layout,
-    beliefs: [u8; 16],
-    goals: [u8; 16],
-    plan: &[u8; 1024],
-    n: usize,
-    phase: u8,
-) -> bool
+// Whether a mind and its plan, which has its 1,024 bytes, are what row 13 asks for.
+fn mind_good(l: Layout, m: Mind, plan: &[u8; 1024]) -> bool
     requires { ⌜ l .atoms ≤ 128 ⌝ }
-    ensures { λ r. ⌜ r ≡ configurationGood l (record { beliefs = beliefs; goals = goals; plan = now (plan .entry); length = n; phase = phase }) ⌝ }
+    ensures { λ r. ⌜ (r ≡ configurationGood l (configurationIn m (now (plan .entry)))) × (length (now (plan .entry)) ≡ 1024) ⌝ }
 {
+    let room = size(plan);
+    let n = m.length;
     if 1024 < n {
         return false;
     }
     let atoms = l.atoms;
+    let b = m.beliefs;
+    let g = m.goals;
     let known = sets::below_number(atoms);
     let actions = plan_good(plan, n, l.actions);
-    let believed = set_known(beliefs, atoms, known);
-    let wanted = set_known(goals, atoms, known);
-    actions & (believed & (wanted & (phase <= 2)))
+    let beliefs = set_known(b, atoms, known);
+    let goals = set_known(g, atoms, known);
+    actions & (beliefs & (goals & (m.phase <= 2)))
 }
 
-// Row 13.
-pub fn configuration_good(l: Layout, c: Configuration) -> bool
+// Row 13: "the configuration handed in has a plan over 1,024, an action or atom unknown to the card, a phase over 2, or anything but
+// zero after the plan's end".
+pub fn judge_mind(l: Layout, m: Mind, plan: &[u8; 1024]) -> Answer
     requires { ⌜ l .atoms ≤ 128 ⌝ }
-    ensures { λ r. ⌜ r ≡ configurationGood l c ⌝ }
+    ensures { λ r. ⌜ (r ≡ rowAnswer (configurationGood l (configurationIn m (now (plan .entry)))) Refusal.Configuration) × (length (now (plan .entry)) ≡ 1024) ⌝ }
 {
-    let b = c.beliefs;
-    let g = c.goals;
-    parts_good(l, b, g, &c.plan, c.length as usize, c.phase)
+    row(mind_good(l, m, plan), Refusal::Configuration)
 }
 
 // The mind of a configuration, whose plan has its 1,024 bytes.
 pub fn mind_of(c: Configuration) -> Mind
-    ensures { λ r. ⌜ (r ≡ mindIn c) × (length (c .plan) ≡ 1024) ⌝ }
+    ensures { λ r. ⌜ (r ≡ mindIn c) × (length (c .plan) ≡ 1024) × (r .length ≤ 65535) ⌝ }
 {
     let room = size(&c.plan);
     let b = c.beliefs;

@@ -169,13 +169,13 @@ pub fn choose(card: &[u8], l: Layout, m: Mind, plan: &[u8; 1024], marks: &[bool;
     ensures { λ r. ⌜ r ≡ firstEnabled (agentFor l (now (card .entry))) (mentalOf m (now (plan .entry))) (inTurn (agentFor l (now (card .entry))) (m .phase)) ⌝ }
 {
     let p = m.phase;
-    let first = first_of_kind(card, l, m, plan, marks, p % 3);
-    let Chosen::Nothing = first else {
-        return first;
-    };
-    let second = first_of_kind(card, l, m, plan, marks, (p + 1) % 3);
-    let Chosen::Nothing = second else {
-        return second;
-    };
-    first_of_kind(card, l, m, plan, marks, (p + 2) % 3)
+    let mut t: u8 = 0;
+    while t < 3 {
+        let chosen = first_of_kind(card, l, m, plan, marks, (p + t) % 3);
+        let Chosen::Nothing = chosen else {
+            return chosen;
+        };
+        t += 1;
+    }
+    Chosen::Nothing
 }

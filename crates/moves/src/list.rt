@@ -9,23 +9,21 @@ ghost use Rattle.house.specs.Order.{enabledCodes};
 ghost use Rattle.meaning.specs.declared.Answer.the-variants.{Done};
 ghost use Rattle.meaning.specs.Card.{layout, agentFor};
 ghost use Rattle.meaning.specs.Refusals.{cardAnswer};
-ghost use Rattle.meaning.specs.Calls.{lists, listLeaves};
+ghost use Rattle.meaning.specs.Calls.{written, lists, listLeaves};
 ghost use Rattle.card.specs.GoodCard.{GoodCard};
 ghost use Rattle.moves.specs.Truth.{Judged};
-ghost use Rattle.moves.specs.Minds.{mentalOf, Held};
+ghost use Rattle.moves.specs.Minds.{mentalOf, configurationIn, Held};
 ghost use Rattle.moves.specs.Listed.{listed};
-use crate::configuration::configuration_good;
-use crate::configuration::mind_of;
+use crate::configuration::judge_mind;
 use crate::enabled::can_act;
 use crate::enabled::can_revise;
 use crate::enabled::can_select;
+use crate::mind::Counted;
 use crate::mind::Mind;
 use crate::truth::judge;
 use meaning::Answer;
-use meaning::Configuration;
 use meaning::Layout;
 use meaning::Refusal;
-use meaning::Written;
 
 // The enabled selection rules, from a place in the codes on; answers where the next may go.
 fn gather_selections(
@@ -141,31 +139,28 @@ fn no_codes() -> [u16; 768]
 }
 
 // All enabled choices into a lent list: how many; 12 if the room is too short, and nothing is written.
-pub fn list(card: &[u8], l: Layout, c: Configuration, out: &mut [u16]) -> Written
+pub fn list(card: &[u8], l: Layout, m: Mind, plan: &[u8; 1024], out: &mut [u16]) -> Counted
     requires { ⌜ (cardAnswer (now card) ≡ Done) × (l ≡ layout (now card)) ⌝ }
-    ensures { λ r. ⌜ (r ≡ lists (now (card .entry)) c (now (out .entry))) × (now (out .exit) ≡ listLeaves (now (card .entry)) c (now (out .entry))) ⌝ }
+    ensures { λ r. ⌜ (written (r .answer) (r .count) (configurationIn m (now (plan .entry))) ≡ lists (now (card .entry)) (configurationIn m (now (plan .entry))) (now (out .entry))) × (now (out .exit) ≡ listLeaves (now (card .entry)) (configurationIn m (now (plan .entry))) (now (out .entry))) ⌝ }
 {
-    if !configuration_good(l, c) {
-        return Written {
-            answer: Answer::Refused(Refusal::Configuration),
+    let a = judge_mind(l, m, plan);
+    let Answer::Done = a else {
+        return Counted {
+            answer: a,
             count: 0,
-            configuration: c,
         };
-    }
-    let m = mind_of(c);
+    };
     let mut codes = no_codes();
-    let n = gather(card, l, m, &c.plan, &mut codes);
+    let n = gather(card, l, m, plan, &mut codes);
     if out.len() < n {
-        return Written {
+        return Counted {
             answer: Answer::Refused(Refusal::NoRoom),
             count: 0,
-            configuration: c,
         };
     }
     write(&codes, n, out);
-    Written {
+    Counted {
         answer: Answer::Done,
         count: n as u16,
-        configuration: c,
     }
 }

@@ -1,6 +1,7 @@
 // A configuration as the engine holds it: a mind by value, and the plan's 1,024 bytes beside it.
 
 use house::Ending;
+use meaning::Answer;
 
 // The believed atoms, the goal atoms, how long the plan is, and the phase.
 pub struct Mind {
@@ -23,10 +24,11 @@ pub enum Next {
     Full,
 }
 
-// What a move comes to, and the mind after it. A move that is not made leaves mind and plan as they were.
+// What a move comes to, and the mind after it. A move that is not made leaves mind and plan as they were. The mind stands first,
+// so that it is copied in whole words.
 pub struct Stepped {
-    pub next: Next,
     pub mind: Mind,
+    pub next: Next,
 }
 
 // Where a run ends: the mind, how many transitions were taken, and why it ended.
@@ -34,4 +36,24 @@ pub struct Turned {
     pub mind: Mind,
     pub count: u16,
     pub ending: Ending,
+}
+
+// What taking a choice, or restoring a place, answers beside the plan's bytes.
+pub struct Replied {
+    pub answer: Answer,
+    pub mind: Mind,
+}
+
+// What listing, or saving, answers beside the lent buffer: how many entries, or bytes, were written.
+pub struct Counted {
+    pub answer: Answer,
+    pub count: u16,
+}
+
+// What a run answers beside the plan's bytes.
+pub struct Ended {
+    pub answer: Answer,
+    pub count: u16,
+    pub ending: Ending,
+    pub mind: Mind,
 }

@@ -1,33 +1,31 @@
 // Taking a choice: "A choice is taken exactly if it is a transition and its plan fits."
 ghost use mathlib.Core.Path.{_≡_};
+ghost use mathlib.Core.Logic.{_⊎_};
 ghost use mathlib.Core.Bool.{true};
 ghost use Prim.Native.Nat.{ℕ, _≤_, _<_};
 ghost use Rattle.paper.specs.Transitions.{select, act, revise};
 ghost use Rattle.paper.specs.Next.{enabled};
 ghost use Rattle.meaning.specs.declared.Answer.the-variants.{Done};
 ghost use Rattle.meaning.specs.Card.{layout, agentFor};
-ghost use Rattle.meaning.specs.Configurations.{stateOf};
-ghost use Rattle.meaning.specs.Refusals.{cardAnswer, configurationGood};
-ghost use Rattle.meaning.specs.Calls.{takes};
+ghost use Rattle.meaning.specs.Refusals.{cardAnswer};
+ghost use Rattle.meaning.specs.Calls.{reply, takes};
 ghost use Rattle.card.specs.GoodCard.{GoodCard};
 ghost use Rattle.moves.specs.Truth.{Judged};
-ghost use Rattle.moves.specs.Minds.{mentalOf, stateIn, Held};
-ghost use Rattle.moves.specs.Choosing.{answered, choiceAt, moveBy, told, left, taking};
-use crate::configuration::configuration_good;
-use crate::configuration::mind_of;
+ghost use Rattle.moves.specs.Minds.{mentalOf, stateIn, configurationIn, Held};
+ghost use Rattle.moves.specs.Choosing.{answered, choiceAt, moveBy, told, left};
+use crate::configuration::judge_mind;
 use crate::enabled::can_act;
 use crate::enabled::can_revise;
 use crate::enabled::can_select;
 use crate::mind::Mind;
 use crate::mind::Next;
+use crate::mind::Replied;
 use crate::mind::Stepped;
 use crate::truth::judge;
 use crate::turn::make;
 use meaning::Answer;
-use meaning::Configuration;
 use meaning::Layout;
 use meaning::Refusal;
-use meaning::Reply;
 
 // Whether a number is that of an enabled selection rule.
 fn may_select(
@@ -126,45 +124,27 @@ fn answer_to(next: Next) -> Answer
     }
 }
 
-// A choice of a kind, from a good configuration. What is not moved is as it came in.
-fn take_choice(card: &[u8], l: Layout, c: Configuration, kind: u8, i: usize) -> Reply
-    requires { ⌜ GoodCard l (now card) × (configurationGood l c ≡ true) × (kind < 3) ⌝ }
-    ensures { λ r. ⌜ r ≡ taking (moveBy (agentFor l (now (card .entry))) (stateOf c) (choiceAt kind i)) c ⌝ }
-{
-    let mut d = c;
-    let m = mind_of(c);
-    let s = attempt(card, l, m, &mut d.plan, kind, i);
-    let next = s.next;
-    let after = s.mind;
-    let beliefs = after.beliefs;
-    let goals = after.goals;
-    d.beliefs = beliefs;
-    d.goals = goals;
-    d.length = after.length as u16;
-    d.phase = after.phase;
-    Reply {
-        answer: answer_to(next),
-        configuration: d,
-    }
-}
-
-// "256 times the kind … plus the number": the chosen move, or the configuration as it came in.
-pub fn take(card: &[u8], l: Layout, c: Configuration, choice: u16) -> Reply
+// "256 times the kind … plus the number": the chosen move, in place; what is not moved is as it came in.
+pub fn take(card: &[u8], l: Layout, m: Mind, plan: &mut [u8; 1024], choice: u16) -> Replied
     requires { ⌜ (cardAnswer (now card) ≡ Done) × (l ≡ layout (now card)) ⌝ }
-    ensures { λ r. ⌜ r ≡ takes (now (card .entry)) c choice ⌝ }
+    ensures { λ r. ⌜ (reply (r .answer) (configurationIn (r .mind) (now (plan .exit))) ≡ takes (now (card .entry)) (configurationIn m (now (plan .entry))) choice) × ((r .mind .length ≤ 1024) ⊎ (r .mind ≡ m)) ⌝ }
 {
-    if !configuration_good(l, c) {
-        return Reply {
-            answer: Answer::Refused(Refusal::Configuration),
-            configuration: c,
-        };
-    }
+    let a = judge_mind(l, m, plan);
+    let Answer::Done = a else {
+        return Replied { answer: a, mind: m };
+    };
     let kind = choice / 256;
     if 2 < kind {
-        return Reply {
+        return Replied {
             answer: Answer::Refused(Refusal::NotEnabled),
-            configuration: c,
+            mind: m,
         };
     }
-    take_choice(card, l, c, kind as u8, (choice % 256) as usize)
+    let s = attempt(card, l, m, plan, kind as u8, (choice % 256) as usize);
+    let next = s.next;
+    let after = s.mind;
+    Replied {
+        answer: answer_to(next),
+        mind: after,
+    }
 }

@@ -40,19 +40,33 @@ fn truth_at(
     truth(card[at], card[at + 1], card[at + 2], marks, beliefs, goals)
 }
 
+// Every node's truth, over marks of whatever was before.
+pub fn mark_nodes(
+    card: &[u8],
+    l: Layout,
+    beliefs: [u8; 16],
+    goals: [u8; 16],
+    marks: &mut [bool; 256],
+)
+    requires { ⌜ GoodCard l (now card) × (length (now marks) ≡ 256) ⌝ }
+    ensures { λ r. ⌜ Judged l (now (card .entry)) beliefs goals (now (marks .exit)) × (length (now (marks .exit)) ≡ 256) ⌝ }
+{
+    let nodes = l.nodes;
+    let n = nodes.count;
+    let mut i: usize = 0;
+    while i < n {
+        let mark = truth_at(card, l, i, marks, beliefs, goals);
+        marks[i] = mark;
+        i += 1;
+    }
+}
+
 // Every node's truth.
 pub fn judge(card: &[u8], l: Layout, beliefs: [u8; 16], goals: [u8; 16]) -> [bool; 256]
     requires { ⌜ GoodCard l (now card) ⌝ }
     ensures { λ r. ⌜ Judged l (now (card .entry)) beliefs goals r ⌝ }
 {
-    let nodes = l.nodes;
-    let n = nodes.count;
     let mut marks = no_marks();
-    let mut i: usize = 0;
-    while i < n {
-        let mark = truth_at(card, l, i, &marks, beliefs, goals);
-        marks[i] = mark;
-        i += 1;
-    }
+    mark_nodes(card, l, beliefs, goals, &mut marks);
     marks
 }

@@ -8,7 +8,7 @@ ghost use Rattle.meaning.specs.Card.{part};
 ghost use Rattle.meaning.specs.Refusals.{actionsGood, setGood, firstGiven, placeTable};
 ghost use Rattle.sets.specs.Sets.{below};
 ghost use Rattle.place.specs.PlaceRows.{rowsFrom, markGood, countsGood, offsetsGood};
-use crate::rows::row;
+use card::check::row;
 use card::contents::actions_good;
 use card::readers::number_at;
 use card::readers::set_at;
@@ -35,6 +35,7 @@ fn sets_good(p: &[u8], atoms: usize) -> bool
     beliefs & goals
 }
 
+// Row 9, the last.
 fn from_sets(l: Layout, p: &[u8]) -> Answer
     requires { ⌜ (44 ≤ length (now p)) × (l .atoms ≤ 128) ⌝ }
     ensures { λ r. ⌜ r ≡ rowsFrom 5 l (now (p .entry)) ⌝ }
@@ -50,6 +51,7 @@ fn plan_good(p: &[u8], actions: usize) -> bool
     actions_good(p, 44, p.len() - 44, actions)
 }
 
+// Row 8, then 9.
 fn from_plan(l: Layout, p: &[u8]) -> Answer
     requires { ⌜ (44 ≤ length (now p)) × (l .atoms ≤ 128) ⌝ }
     ensures { λ r. ⌜ r ≡ rowsFrom 4 l (now (p .entry)) ⌝ }
@@ -71,6 +73,7 @@ fn offsets_good(p: &[u8]) -> bool
     (offset == 44) & (p.len() == 44 + n)
 }
 
+// Row 4, then 8 and 9.
 fn from_offsets(l: Layout, p: &[u8]) -> Answer
     requires { ⌜ (44 ≤ length (now p)) × (l .atoms ≤ 128) ⌝ }
     ensures { λ r. ⌜ r ≡ rowsFrom 3 l (now (p .entry)) ⌝ }
@@ -93,6 +96,7 @@ fn counts_good(p: &[u8]) -> bool
     (n <= 1024) & ((phase <= 2) & (zero == 0))
 }
 
+// Row 3, then 4, 8 and 9.
 fn from_counts(l: Layout, p: &[u8]) -> Answer
     requires { ⌜ (44 ≤ length (now p)) × (l .atoms ≤ 128) ⌝ }
     ensures { λ r. ⌜ r ≡ rowsFrom 2 l (now (p .entry)) ⌝ }
@@ -113,6 +117,7 @@ fn mark_good(p: &[u8]) -> bool
     (p[0] == 0x33) & ((p[1] == 0x50) & (edition == 1))
 }
 
+// Row 2, then 3, 4, 8 and 9.
 fn from_mark(l: Layout, p: &[u8]) -> Answer
     requires { ⌜ (44 ≤ length (now p)) × (l .atoms ≤ 128) ⌝ }
     ensures { λ r. ⌜ r ≡ rowsFrom 1 l (now (p .entry)) ⌝ }

@@ -1,58 +1,73 @@
-// Restoring: the configuration that a place's bytes stand for; on a refusal the empty one.
+// Restoring: the configuration that a place stands for, or the refusal.
 ghost use mathlib.Core.Path.{_≡_};
+ghost use Prim.Native.Nat.{_≤_};
+ghost use lib.ListN.{length};
 ghost use Rattle.meaning.specs.declared.Answer.the-variants.{Done};
 ghost use Rattle.meaning.specs.Card.{layout};
+ghost use Rattle.meaning.specs.Configurations.{configurationOf, empty};
 ghost use Rattle.meaning.specs.Place.{placed};
-ghost use Rattle.meaning.specs.Configurations.{configurationOf};
 ghost use Rattle.meaning.specs.Refusals.{cardAnswer};
-ghost use Rattle.meaning.specs.Calls.{restores};
+ghost use Rattle.meaning.specs.Calls.{reply, restores};
+ghost use Rattle.moves.specs.Minds.{configurationIn};
 ghost use Rattle.place.specs.PlaceRows.{Sized};
 use crate::judge::judge_place;
-use card::load::empty_configuration;
-use card::load::plan_at;
 use card::readers::number_at;
 use card::readers::set_at;
 use meaning::Answer;
-use meaning::Configuration;
 use meaning::Layout;
-use meaning::Reply;
+use moves::configuration::size;
+use moves::mind::Mind;
+use moves::mind::Replied;
 
 // "plan length L at 4; … phase at 8; … beliefs at 12; goals at 28; the plan's L bytes at 44."
-fn configuration_in(p: &[u8]) -> Configuration
-    requires { ⌜ Sized (now p) ⌝ }
-    ensures { λ r. ⌜ r ≡ configurationOf (placed (now (p .entry))) ⌝ }
+fn read(p: &[u8], plan: &mut [u8; 1024]) -> Mind
+    requires { ⌜ Sized (now p) × (length (now plan) ≡ 1024) ⌝ }
+    ensures { λ r. ⌜ (configurationIn r (now (plan .exit)) ≡ configurationOf (placed (now (p .entry)))) × (r .length ≤ 1024) ⌝ }
 {
     let n = number_at(p, 4);
     let beliefs = set_at(p, 12);
     let goals = set_at(p, 28);
-    let plan = plan_at(p, 44, n);
-    let length = n as u16;
+    plans::fill(plan, p, 44, n);
     let phase = p[8];
-    Configuration {
+    Mind {
         beliefs: beliefs,
         goals: goals,
-        plan: plan,
-        length: length,
+        length: n,
         phase: phase,
     }
 }
 
-// The configuration that a place stands for, judged against an accepted card.
-pub fn restore(card: &[u8], l: Layout, p: &[u8]) -> Reply
-    requires { ⌜ (cardAnswer (now card) ≡ Done) × (l ≡ layout (now card)) ⌝ }
-    ensures { λ r. ⌜ r ≡ restores (now (card .entry)) (now (p .entry)) ⌝ }
+// "the empty one (no atoms, empty plan, phase 0)"
+pub fn empty_mind(plan: &mut [u8; 1024]) -> Mind
+    ensures { λ r. ⌜ (configurationIn r (now (plan .exit)) ≡ empty) × (r .length ≤ 1024) ⌝ }
 {
+    let room = size(plan);
+    plans::fill(plan, b"", 0, 0);
+    Mind {
+        beliefs: [0u8; 16],
+        goals: [0u8; 16],
+        length: 0,
+        phase: 0,
+    }
+}
+
+// The configuration that a place stands for, judged against an accepted card; the plan's bytes go to a lent array.
+pub fn restore(card: &[u8], l: Layout, p: &[u8], plan: &mut [u8; 1024]) -> Replied
+    requires { ⌜ (cardAnswer (now card) ≡ Done) × (l ≡ layout (now card)) ⌝ }
+    ensures { λ r. ⌜ (reply (r .answer) (configurationIn (r .mind) (now (plan .exit))) ≡ restores (now (card .entry)) (now (p .entry))) × (r .mind .length ≤ 1024) ⌝ }
+{
+    let room = size(plan);
     let a = judge_place(l, p);
     let Answer::Done = a else {
-        let none = empty_configuration();
-        return Reply {
+        let none = empty_mind(plan);
+        return Replied {
             answer: a,
-            configuration: none,
+            mind: none,
         };
     };
-    let c = configuration_in(p);
-    Reply {
+    let m = read(p, plan);
+    Replied {
         answer: Answer::Done,
-        configuration: c,
+        mind: m,
     }
 }

@@ -9,15 +9,16 @@ ghost use Rattle.meaning.specs.Card.{layout};
 ghost use Rattle.meaning.specs.Configurations.{stateOf};
 ghost use Rattle.meaning.specs.Place.{placeHeader, place};
 ghost use Rattle.meaning.specs.Refusals.{cardAnswer};
-ghost use Rattle.meaning.specs.Calls.{saves, saveLeaves};
+ghost use Rattle.meaning.specs.Calls.{written, saves, saveLeaves};
+ghost use Rattle.moves.specs.Minds.{configurationIn};
 ghost use Rattle.place.specs.PlaceRows.{savedFrom};
-use crate::rows::row;
+use card::check::row;
 use meaning::Answer;
-use meaning::Configuration;
 use meaning::Layout;
 use meaning::Refusal;
-use meaning::Written;
-use moves::configuration::configuration_good;
+use moves::configuration::judge_mind;
+use moves::mind::Counted;
+use moves::mind::Mind;
 
 // "Bytes 33 50 hex; edition 1 at 2; plan length L at 4; plan offset 44 at 6; phase at 8; zero at 10"
 fn head(n: usize, phase: u8) -> [u8; 12]
@@ -53,49 +54,47 @@ fn copy(out: &mut [u8], at: usize, src: &[u8], n: usize)
 }
 
 // The whole place, where there is room: the header, "beliefs at 12; goals at 28; the plan's L bytes at 44".
-fn fill(c: Configuration, out: &mut [u8])
-    requires { ⌜ (c .length ≤ 1024) × (c .phase ≤ 2) × (44 + c .length ≤ length (now out)) ⌝ }
-    ensures { λ r. ⌜ now (out .exit) ≡ place (stateOf c) ++ drop (44 + c .length) (now (out .entry)) ⌝ }
+fn fill(m: Mind, plan: &[u8; 1024], out: &mut [u8])
+    requires { ⌜ (m .length ≤ 1024) × (m .phase ≤ 2) × (44 + m .length ≤ length (now out)) × (length (now plan) ≡ 1024) ⌝ }
+    ensures { λ r. ⌜ now (out .exit) ≡ place (stateOf (configurationIn m (now (plan .entry)))) ++ drop (44 + m .length) (now (out .entry)) ⌝ }
 {
-    let b = c.beliefs;
-    let g = c.goals;
-    let n = c.length as usize;
-    let h = head(n, c.phase);
+    let b = m.beliefs;
+    let g = m.goals;
+    let n = m.length;
+    let h = head(n, m.phase);
     copy(out, 0, &h, 12);
     copy(out, 12, &b, 16);
     copy(out, 28, &g, 16);
-    copy(out, 44, &c.plan, n);
+    copy(out, 44, plan, n);
 }
 
 // Row 13, then row 12: "the lent list or place buffer is too short".
-fn judge_save(l: Layout, c: Configuration, room: usize) -> Answer
+fn judge_save(l: Layout, m: Mind, plan: &[u8; 1024], room: usize) -> Answer
     requires { ⌜ l .atoms ≤ 128 ⌝ }
-    ensures { λ r. ⌜ r ≡ savedFrom l c room ⌝ }
+    ensures { λ r. ⌜ (r ≡ savedFrom l (configurationIn m (now (plan .entry))) room) × (length (now (plan .entry)) ≡ 1024) ⌝ }
 {
-    let a = row(configuration_good(l, c), Refusal::Configuration);
+    let a = judge_mind(l, m, plan);
     let Answer::Done = a else {
         return a;
     };
-    row(44 + (c.length as usize) <= room, Refusal::NoRoom)
+    row(44 + m.length <= room, Refusal::NoRoom)
 }
 
 // A configuration's place in a lent buffer; how many bytes it has. A refusal writes nothing.
-pub fn save(card: &[u8], l: Layout, c: Configuration, out: &mut [u8]) -> Written
+pub fn save(card: &[u8], l: Layout, m: Mind, plan: &[u8; 1024], out: &mut [u8]) -> Counted
     requires { ⌜ (cardAnswer (now card) ≡ Done) × (l ≡ layout (now card)) ⌝ }
-    ensures { λ r. ⌜ (r ≡ saves (now (card .entry)) c (now (out .entry))) × (now (out .exit) ≡ saveLeaves (now (card .entry)) c (now (out .entry))) ⌝ }
+    ensures { λ r. ⌜ (written (r .answer) (r .count) (configurationIn m (now (plan .entry))) ≡ saves (now (card .entry)) (configurationIn m (now (plan .entry))) (now (out .entry))) × (now (out .exit) ≡ saveLeaves (now (card .entry)) (configurationIn m (now (plan .entry))) (now (out .entry))) ⌝ }
 {
-    let a = judge_save(l, c, out.len());
+    let a = judge_save(l, m, plan, out.len());
     let Answer::Done = a else {
-        return Written {
+        return Counted {
             answer: a,
             count: 0,
-            configuration: c,
         };
     };
-    fill(c, out);
-    Written {
+    fill(m, plan, out);
+    Counted {
         answer: Answer::Done,
-        count: 44 + c.length,
-        configuration: c,
+        count: (44 + m.length) as u16,
     }
 }

@@ -1,18 +1,24 @@
 -- The laws of bytes that move in place, and of plans with zeros after their end.
 use mathlib.Core.Path.{_≡_, refl, sym, ap, ap₂, _∙_}
-use mathlib.Core.Bool.{Bool, true, false, _&&_, and-true, and-false, and-assoc}
+use mathlib.Core.Bool.{Bool, true, false, _&&_, and-false}
 use mathlib.Core.List.{List, [], _∷_, _++_, append-assoc, append-nil}
 use Prim.Native.Nat.{ℕ, zero, suc, _+_, _-_, _≤_, _<_}
 use native.Mathlib.Nat.{sub-zero, zero-sub, suc-sub-suc, zero-add}
+use native.Mathlib.Decide.{decLt}
 use native.Mathlib.Omega.{arith}
 use native.Mathlib.Numerals.{add-one}
+use borrow.Author.Tests.{eqb-true, eq-eqb}
+use lib.Bits.{bitOr, bitXor, and-le-l, and-le-r, or-add-and, xor-add-and, or-zero-l, xor-self}
 use lib.Dec.{eqb}
 use lib.ListN.{drop-of-length-le, length, getD, set, take, drop, replicate, length-append, length-take, length-drop, length-replicate, getD-replicate, List·getD-append, replicate-append-replicate}
 use lib.Seq.{getD-take, take-nil, set-at, append-snoc, take-suc, drop-cons, getD-drop, take-at, drop-at, getD-append-add, length-take-le, paste, paste-suc, take-paste, drop-paste, length-paste-head, length-paste, drop-drop, take-all}
 use Rattle.paper.specs.Next.{isPrefix}
+use Rattle.paper.proofs.Relation.{both, false≢true}
 use Rattle.meaning.specs.Card.{part}
 use Rattle.meaning.specs.Configurations.{padded}
-use Rattle.meaning.proofs.Parts.{length-part}
+use Rattle.meaning.specs.Refusals.{every}
+use Rattle.meaning.proofs.Every.{both-true, same-truth, every-at, every-of}
+use Rattle.meaning.proofs.Parts.{length-part, part-at}
 
 -- ---- bytes that are copied over others
 
@@ -218,21 +224,103 @@ dropped d len k h hr z =
 
 -- ---- a head compared with a plan's front
 
--- what was found of the first i actions, and what is left to compare
-abbrev pub Same : List ℕ → List ℕ → Bool → ℕ → Type 0
-Same h π same i = same && isPrefix (drop i h) (drop i π) ≡ isPrefix h π
+-- nothing has differed and two bytes do not, exactly if the bits in which anything differs are none
+or-zero : (a b : ℕ) → bitOr a b ≡ 0 → (a ≡ 0) × (b ≡ 0)
+or-zero a b e =
+    let s = or-add-and a b in
+    let l = and-le-l a b in
+    let r = and-le-r a b in
+    (omega arith, omega arith)
 
-module _ (h π : List ℕ) (long : length h ≤ length π) where
-  prefix-next : (i : ℕ) → i < length h → isPrefix (drop i h) (drop i π) ≡ eqb (getD h i 0) (getD π i 0) && isPrefix (drop (i + 1) h) (drop (i + 1) π)
-  prefix-next i l = rw (add-one, drop-cons h i 0 l, drop-cons π i 0 (omega arith))
+xor-zero : (a b : ℕ) → bitXor a b ≡ 0 → a ≡ b
+xor-zero a b e =
+    let s = xor-add-and a b in
+    let l = and-le-l a b in
+    let r = and-le-r a b in
+    omega arith
 
-  pub same-turn : (same : Bool) (i : ℕ) → i < length h → Same h π same i → Same h π (same && eqb (getD h i 0) (getD π i 0)) (i + 1)
-  same-turn same i l e = and-assoc same (eqb (getD h i 0) (getD π i 0)) _ ∙ ap (λ b. same && b) (sym (prefix-next i l)) ∙ e
+pub differing-more : (d x y : ℕ) → eqb (bitOr d (bitXor x y)) 0 ≡ eqb d 0 && eqb x y
+differing-more d x y = same-truth _ _ there back
+  where
+    there : eqb (bitOr d (bitXor x y)) 0 ≡ true → eqb d 0 && eqb x y ≡ true
+    there e = let z = or-zero d (bitXor x y) (eqb-true _ 0 e) in both-true _ _ (eq-eqb d 0 (z .0)) (eq-eqb x y (xor-zero x y (z .1)))
 
-  pub same-all : (same : Bool) (i : ℕ) → length h ≤ i → Same h π same i → same ≡ isPrefix h π
-  same-all same i l e =
-      let s : isPrefix (drop i h) (drop i π) ≡ true = rw (drop-of-length-le h l) in
-      sym (ap (λ b. same && b) s ∙ and-true same) ∙ e
+    back : eqb d 0 && eqb x y ≡ true → eqb (bitOr d (bitXor x y)) 0 ≡ true
+    back e =
+        let b = both (eqb d 0) (eqb x y) e in
+        eq-eqb _ 0 (ap₂ (λ (m n : ℕ). bitOr m (bitXor n y)) (eqb-true d 0 (b .0)) (eqb-true x y (b .1)) ∙ or-zero-l (bitXor y y) ∙ xor-self y)
+
+-- every byte of a head is that of the plan, exactly if the head is a prefix
+prefix-every : (h π : List ℕ) → length h ≤ length π → isPrefix h π ≡ true → (j : ℕ) → j < length h → getD h j 0 ≡ getD π j 0
+prefix-every [] π l e j g = absurd (omega arith)
+prefix-every (a ∷ h) [] l e j g = absurd (omega arith)
+prefix-every (a ∷ h) (b ∷ π) l e zero g = eqb-true a b (both (eqb a b) (isPrefix h π) e .0)
+prefix-every (a ∷ h) (b ∷ π) l e (suc j) g = prefix-every h π (omega arith) (both (eqb a b) (isPrefix h π) e .1) j (omega arith)
+
+every-prefix : (h π : List ℕ) → length h ≤ length π → ((j : ℕ) → j < length h → getD h j 0 ≡ getD π j 0) → isPrefix h π ≡ true
+every-prefix [] π l e = refl
+every-prefix (a ∷ h) [] l e = absurd (omega arith)
+every-prefix (a ∷ h) (b ∷ π) l e = both-true (eqb a b) (isPrefix h π) (eq-eqb a b (e 0 (omega arith))) (every-prefix h π (omega arith) (λ j g. e (suc j) (omega arith)))
+
+-- i bytes of c from s on are the first of d
+abbrev pub Agree : List ℕ → List ℕ → ℕ → ℕ → Type 0
+Agree c d s i = (j : ℕ) → j < i → getD c (s + j) 0 ≡ getD d j 0
+
+-- m bytes of c from `at` on are those of d from `from` on
+abbrev pub block : List ℕ → List ℕ → ℕ → ℕ → ℕ → Bool
+block c d at from m = every m (λ j. eqb (getD c (at + j) 0) (getD d (from + j) 0))
+
+-- a head of n bytes of c from s on, and a plan in the first len of d, compared by parts
+module _ (c d : List ℕ) (s n len : ℕ) (whole : s + n ≤ length c) (long : n ≤ len) (room : len ≤ length d) where
+  abbrev head : List ℕ
+  head = part c s n
+
+  abbrev plan : List ℕ
+  plan = take len d
+
+  head-length : length head ≡ n
+  head-length = length-part c s n whole
+
+  plan-length : length plan ≡ len
+  plan-length = length-take-le len d room
+
+  agree-all : Agree c d s n → isPrefix head plan ≡ true
+  agree-all a =
+      let h = head-length in
+      let p = plan-length in
+      every-prefix head plan (omega arith) (λ j g. part-at c s n j (omega arith) ∙ a j (omega arith) ∙ sym (getD-take len d j 0 (omega arith)))
+
+  all-agree : isPrefix head plan ≡ true → Agree c d s n
+  all-agree e j g =
+      let h = head-length in
+      let p = plan-length in
+      sym (part-at c s n j g) ∙ prefix-every head plan (omega arith) e j (omega arith) ∙ getD-take len d j 0 (omega arith)
+
+  pub agree-more : (at from m k : ℕ) → at ≡ s + from → from ≤ k → Agree c d s k → block c d at from m ≡ true → Agree c d s (from + m)
+  agree-more at from m k e l a b j g = elim (decLt j k) [
+    | yes h ↦ a j h
+    | no h ↦
+        let x : getD c (at + (j - from)) 0 ≡ getD d (from + (j - from)) 0 = eqb-true _ _ (every-at (λ j. eqb (getD c (at + j) 0) (getD d (from + j) 0)) m (j - from) b (omega arith)) in
+        let y : at + (j - from) ≡ s + j = omega arith in
+        let z : from + (j - from) ≡ j = omega arith in
+        rw (y, z) at x
+  ]
+
+  block-back : (at from m : ℕ) → at ≡ s + from → from + m ≤ n → isPrefix head plan ≡ true → block c d at from m ≡ true
+  block-back at from m e l p =
+      every-of (λ j. eqb (getD c (at + j) 0) (getD d (from + j) 0)) m
+      (λ j g. (let y : at + j ≡ s + (from + j) = omega arith in eq-eqb _ _ (ap (λ k. getD c k 0) y ∙ all-agree p (from + j) (omega arith))))
+
+  -- the last part, or the only one
+  pub last-block : (at from m k : ℕ) → at ≡ s + from → from + m ≡ n → from ≤ k → Agree c d s k → (r : Bool) → r ≡ block c d at from m → r ≡ isPrefix head plan
+  last-block at from m k e f l a r b =
+      same-truth r (isPrefix head plan)
+      (λ t. agree-all (λ j g. agree-more at from m k e l a (sym b ∙ t) j (omega arith)))
+      (λ t. b ∙ block-back at from m e (omega arith) t)
+
+  pub block-differs : (at from m : ℕ) → at ≡ s + from → from + m ≤ n → (r : Bool) → r ≡ block c d at from m → r ≡ false → false ≡ isPrefix head plan
+  block-differs at from m e l r b t =
+      same-truth false (isPrefix head plan) (λ x. absurd (false≢true x)) (λ p. sym t ∙ b ∙ block-back at from m e l p)
 
 -- the first action alone
 pub first-differs : (h π : List ℕ) → 1 ≤ length h → 1 ≤ length π → eqb (getD h 0 0) (getD π 0 0) ≡ false → isPrefix h π ≡ false
@@ -245,3 +333,20 @@ pub too-long : (h π : List ℕ) → length π < length h → isPrefix h π ≡ 
 too-long [] π l = absurd (omega arith)
 too-long (a ∷ h) [] l = refl
 too-long (a ∷ h) (b ∷ π) l = ap (λ x. eqb a b && x) (too-long h π (omega arith)) ∙ and-false (eqb a b)
+
+pub length-put : (d b : List ℕ) (start n : ℕ) → length d ≡ 1024 → n ≤ 1024 → start + n ≤ length b → (d₁ : List ℕ) → d₁ ≡ paste d 0 (drop start b) n → length d₁ ≡ 1024
+length-put d b start n l h k d₁ e = ap length e ∙ length-paste d 0 (drop start b) n (omega arith) (rw (length-drop start b) (omega arith)) ∙ l
+
+-- n bytes over the front, and zeros behind them
+pub filled : (d b : List ℕ) (start n : ℕ) → length d ≡ 1024 → n ≤ 1024 → start + n ≤ length b → (d₁ : List ℕ) → d₁ ≡ paste d 0 (drop start b) n
+    → take n d₁ ++ replicate (1024 - n) 0 ++ drop 1024 d₁ ≡ padded (part b start n)
+unfolding padded part
+filled d b start n l h k d₁ e =
+    let s = drop start b in
+    let hs : n ≤ length s = rw (length-drop start b) (omega arith) in
+    let lt : length (take n s) ≡ n = length-take-le n s hs in
+    let t : take n d₁ ≡ take n s = ap (take n) e ∙ take-at (take n s) (drop (0 + n) d) n lt in
+    let ld : length d₁ ≡ 1024 = length-put d b start n l h k d₁ e in
+    let m : length d₁ ≤ 1024 = omega arith in
+    let z : drop 1024 d₁ ≡ [] = drop-of-length-le d₁ m in
+    rw (t, z, lt) (append-nil (take n s ++ replicate (1024 - n) 0))

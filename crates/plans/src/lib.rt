@@ -2,11 +2,13 @@
 ghost use mathlib.Core.Path.{_≡_};
 ghost use mathlib.Core.List.{_++_};
 ghost use Prim.Native.Nat.{ℕ, _+_, _-_, _≤_, _<_};
-ghost use lib.ListN.{length, take, drop, replicate};
+ghost use lib.Dec.{eqb};
+ghost use lib.ListN.{length, getD, take, drop, replicate};
 ghost use lib.Seq.{paste};
 ghost use Rattle.paper.specs.Next.{isPrefix};
 ghost use Rattle.meaning.specs.Card.{part};
 ghost use Rattle.meaning.specs.Configurations.{padded};
+ghost use Rattle.meaning.specs.Refusals.{every};
 
 // n bytes move down in place.
 fn down(s: &mut [u8; 1024], to: usize, from: usize, n: usize)
@@ -94,8 +96,32 @@ pub fn replace_front(
     put(plan, card, bstart, blen);
 }
 
-// Whether the head, hlen bytes of the card from hstart, is a prefix of the plan. The first byte alone settles most heads; the
-// rest is compared without an exit.
+// n bytes from a place on become the plan, whatever it was.
+pub fn fill(plan: &mut [u8; 1024], bytes: &[u8], start: usize, n: usize)
+    requires { ⌜ (n ≤ 1024) × (length (now plan) ≡ 1024) × (start + n ≤ length (now bytes)) ⌝ }
+    ensures { λ r. ⌜ now (plan .exit) ≡ padded (part (now (bytes .entry)) start n) ⌝ }
+{
+    put(plan, bytes, start, n);
+    clear(plan, n, 1024);
+}
+
+// Whether n bytes of the card, from `at` on, are those of the plan from `from` on: the bits in which any two differ are gathered
+// without an exit.
+fn same_bytes(card: &[u8], at: usize, plan: &[u8; 1024], from: usize, n: usize) -> bool
+    requires { ⌜ (at + n ≤ length (now card)) × (from + n ≤ 1024) × (length (now plan) ≡ 1024) ⌝ }
+    ensures { λ r. ⌜ r ≡ every n (λ j. eqb (getD (now (card .entry)) (at + j) 0) (getD (now (plan .entry)) (from + j) 0)) ⌝ }
+{
+    let mut differing: u8 = 0;
+    let mut i: usize = 0;
+    while i < n {
+        differing = differing | (card[at + i] ^ plan[from + i]);
+        i += 1;
+    }
+    differing == 0
+}
+
+// Whether the head, hlen bytes of the card from hstart, is a prefix of the plan. The first byte alone settles most heads. A long
+// head is compared by 64 bytes at a time; the last 64 may lie over those before.
 pub fn starts_with(card: &[u8], hstart: usize, hlen: usize, plan: &[u8; 1024], len: usize) -> bool
     requires { ⌜ (1 ≤ hlen) × (hstart + hlen ≤ length (now card)) × (len ≤ 1024) × (length (now plan) ≡ 1024) ⌝ }
     ensures { λ r. ⌜ r ≡ isPrefix (part (now (card .entry)) hstart hlen) (take len (now (plan .entry))) ⌝ }
@@ -106,11 +132,16 @@ pub fn starts_with(card: &[u8], hstart: usize, hlen: usize, plan: &[u8; 1024], l
     if card[hstart] != plan[0] {
         return false;
     }
-    let mut same = true;
-    let mut i: usize = 1;
-    while i < hlen {
-        same = same & (card[hstart + i] == plan[i]);
-        i += 1;
+    if hlen < 64 {
+        return same_bytes(card, hstart, plan, 0, hlen);
     }
-    same
+    let last = hlen - 64;
+    let mut i: usize = 0;
+    while i < last {
+        if !same_bytes(card, hstart + i, plan, i, 64) {
+            return false;
+        }
+        i += 64;
+    }
+    same_bytes(card, hstart + last, plan, last, 64)
 }

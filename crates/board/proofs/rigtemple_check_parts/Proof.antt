@@ -1,4 +1,4 @@
-use Rattle.board.specs.Parts.{checkedNumber}
+use Rattle.demands.specs.Demands.{checkedNumber}
 use Rattle.meaning.specs.Calls.{checks}
 use mathlib.Core.Path.{_≡_, refl, sym, ap, _∙_}
 use mathlib.Core.List.{List, [], _∷_, _++_, append-nil, append-assoc}

@@ -1,5 +1,20 @@
+use mathlib.Core.Path.{subst}
+use mathlib.Core.Logic.{⊎-elim}
+use Rattle.card.specs.Stair.{answerOf}
+use Rattle.guide.proofs.Laws.{card-first, card-first-of-place}
+use Rattle.demands.proofs.Ways.{saves-refused, restores-refused}
+use Rattle.meaning.proofs.Calls.{good-judged, refused-judged, lists-refused, takes-refused, runs-refused}
 use Rattle.meaning.specs.Refusals.{answerNumber}
+use Rattle.meaning.specs.Numbers.{endingNumber}
+use Rattle.meaning.specs.Calls.{reply, written, lists, listLeaves, takes, runs, saves, saveLeaves, restores}
+use Rattle.meaning.specs.declared.Configuration.{Configuration}
 use Rattle.meaning.specs.declared.Reply.{Reply}
+use Rattle.meaning.specs.declared.Ran.{Ran}
+use Rattle.meaning.specs.declared.Written.{Written}
+use Rattle.moves.specs.declared.mind.Mind.{Mind}
+use Rattle.moves.specs.Minds.{configurationIn, endedIn}
+use Rattle.board.specs.Parts.{whole}
+use Rattle.board.proofs.Parts.{in-parts}
 use mathlib.Core.Path.{_≡_, refl, sym, ap, _∙_}
 use mathlib.Core.List.{List, [], _∷_, _++_, append-nil, append-assoc}
 use Prim.Native.Nat.{ℕ, suc, _+_, _-_, _*_, _≤_, _<_}
@@ -12,21 +27,91 @@ use Rattle.board.proofs.rigtemple_restore_parts.Tie as tie
 use Rattle.board.proofs.rigtemple_restore_parts.Reads as reads
 use Rattle.board.proofs.rigtemple_restore_parts.Lts as lts
 use Rattle.answers.proofs.answer_number.Reads as answer-number-reads
-use Rattle.guide.proofs.restore.Reads as restore-reads
+use Rattle.board.proofs.put.Reads as put-reads
+use Rattle.card.proofs.check.check.Reads as check-reads
+use Rattle.card.proofs.load.answer_of.Reads as answer-of-reads
+use Rattle.place.proofs.restore.empty_mind.Reads as empty-mind-reads
+use Rattle.place.proofs.restore.restore.Reads as restore-reads
 
--- src/lib.rt:179:9
-restore-requires : tie.Need-restore-requires
-restore-requires c κs = search needs
+-- src/lib.rt:158:9
+check-requires : tie.Need-check-requires
+check-requires c κs = search needs
 
--- src/lib.rt:190:5
+-- src/lib.rt:159:23
+enum-known-v : tie.Need-enum-known-v
+enum-known-v c = search needs
+
+-- src/lib.rt:160:31
+enum-told : tie.Need-enum-told
+enum-told c = search needs
+
+-- src/lib.rt:160:13
+empty-mind-requires : tie.Need-empty-mind-requires
+empty-mind-requires c κs = search needs
+
+-- src/lib.rt:161:9
+put-requires : tie.Need-put-requires
+put-requires c κs = let h = c .before .before .before .before .empty-mind .ensures .1 in omega arith
+
+-- src/lib.rt:162:30
+answer-of-requires : tie.Need-answer-of-requires
+answer-of-requires c κs = search needs
+
+-- src/lib.rt:162:9
 answer-number-requires : tie.Need-answer-number-requires
 answer-number-requires c κs = search needs
 
--- src/lib.rt:167:1
+-- src/lib.rt:162:9
 returns : tie.Need-returns
 returns c =
-    let e = c .before .before .before .before .restore .ensures in
-    (c .answer-number .ensures ∙ ap (λ (x : Reply). answerNumber (x .answer)) e, ap (λ (x : Reply). x .configuration) e)
+    let a = c .before .before .before .before .before .before .before .before .before .before .before .before .before .before .args in
+    let b = now (a .card) in
+    let told = c .before .before .before .before .before .before .before .before .before .enum-told .given .1 in
+    let e = refused-judged b _ (sym (c .before .before .before .before .before .before .before .before .before .before .before .check .ensures) ∙ told) in
+    let s = c .before .answer-of .ensures ∙ ap answerOf told in
+    let m = c .before .before .before .before .before .before .before .empty-mind in
+    let u = c .before .before .put .ensures in
+    let r = restores-refused b (now (a .place)) _ (card-first-of-place b _ e (now (a .place))) in (
+      c .answer-number .ensures ∙ ap answerNumber (s ∙ sym (ap (λ (x : Reply). x .answer) r)),
+      sym (in-parts (m .result) _ _ (m .last .0) _ _ (sym (u .0)) (sym (u .1)) (sym (u .2)) (sym (u .3))) ∙ m .ensures .0 ∙ sym (ap (λ (x : Reply). x .configuration) r),
+    )
+
+-- src/lib.rt:164:9
+restore-requires : tie.Need-restore-requires
+restore-requires c κs = good-judged (now (c .before .before .before .before .before .before .before .args .card)) _ (sym (c .before .before .before .before .check .ensures) ∙ c .before .before .v .given .1)
+
+-- src/lib.rt:166:5
+put-requires-2 : tie.Need-put-requires-2
+put-requires-2 c κs = let h = c .before .before .before .before .before .restore .ensures .1 in omega arith
+
+-- src/lib.rt:168:5
+answer-number-requires-2 : tie.Need-answer-number-requires-2
+answer-number-requires-2 c κs = search needs
+
+-- src/lib.rt:146:1
+returns-2 : tie.Need-returns-2
+returns-2 c =
+    let t = c .before .before .before .before .before .before .before .restore in
+    let p = t .last .1 .1 .1 .0 in
+    let u = c .before .put2 .ensures in
+    let e = t .ensures .0 in (
+      c .answer-number2 .ensures ∙ ap (λ (x : Reply). answerNumber (x .answer)) e,
+      sym (in-parts (t .result .mind) _ _ p _ _ (sym (u .0)) (sym (u .1)) (sym (u .2)) (sym (u .3))) ∙ ap (λ (x : Reply). x .configuration) e,
+    )
 
 pub rigtemple-restore-parts-spec : {M : Type 1} → statement M
-rigtemple-restore-parts-spec = tie.close (tie.spec restore-requires answer-number-requires returns)
+rigtemple-restore-parts-spec =
+    tie.close
+    (tie.spec
+    check-requires
+    enum-known-v
+    enum-told
+    empty-mind-requires
+    put-requires
+    answer-of-requires
+    answer-number-requires
+    returns
+    restore-requires
+    put-requires-2
+    answer-number-requires-2
+    returns-2)

@@ -1,6 +1,20 @@
-use Rattle.meaning.specs.Numbers.{endingNumber}
+use mathlib.Core.Path.{subst}
+use mathlib.Core.Logic.{⊎-elim}
+use Rattle.card.specs.Stair.{answerOf}
+use Rattle.guide.proofs.Laws.{card-first, card-first-of-place}
+use Rattle.demands.proofs.Ways.{saves-refused, restores-refused}
+use Rattle.meaning.proofs.Calls.{good-judged, refused-judged, lists-refused, takes-refused, runs-refused}
 use Rattle.meaning.specs.Refusals.{answerNumber}
+use Rattle.meaning.specs.Numbers.{endingNumber}
+use Rattle.meaning.specs.Calls.{reply, written, lists, listLeaves, takes, runs, saves, saveLeaves, restores}
+use Rattle.meaning.specs.declared.Configuration.{Configuration}
+use Rattle.meaning.specs.declared.Reply.{Reply}
 use Rattle.meaning.specs.declared.Ran.{Ran}
+use Rattle.meaning.specs.declared.Written.{Written}
+use Rattle.moves.specs.declared.mind.Mind.{Mind}
+use Rattle.moves.specs.Minds.{configurationIn, endedIn}
+use Rattle.board.specs.Parts.{whole}
+use Rattle.board.proofs.Parts.{in-parts}
 use mathlib.Core.Path.{_≡_, refl, sym, ap, _∙_}
 use mathlib.Core.List.{List, [], _∷_, _++_, append-nil, append-assoc}
 use Prim.Native.Nat.{ℕ, suc, _+_, _-_, _*_, _≤_, _<_}
@@ -14,30 +28,101 @@ use Rattle.board.proofs.rigtemple_run_parts.Reads as reads
 use Rattle.board.proofs.rigtemple_run_parts.Lts as lts
 use Rattle.answers.proofs.answer_number.Reads as answer-number-reads
 use Rattle.answers.proofs.ending_number.Reads as ending-number-reads
-use Rattle.guide.proofs.run.Reads as run-reads
+use Rattle.board.proofs.mind.Reads as mind-reads
+use Rattle.board.proofs.put.Reads as put-reads
+use Rattle.card.proofs.check.check.Reads as check-reads
+use Rattle.card.proofs.load.answer_of.Reads as answer-of-reads
+use Rattle.moves.proofs.run.run.Reads as run-reads
 
--- src/lib.rt:149:9
-run-requires : tie.Need-run-requires
-run-requires c κs = search needs
+-- src/lib.rt:128:9
+check-requires : tie.Need-check-requires
+check-requires c κs = search needs
 
--- src/lib.rt:161:15
+-- src/lib.rt:129:23
+enum-known-v : tie.Need-enum-known-v
+enum-known-v c = search needs
+
+-- src/lib.rt:130:9
+enum-told : tie.Need-enum-told
+enum-told c = search needs
+
+-- src/lib.rt:131:19
 ending-number-requires : tie.Need-ending-number-requires
 ending-number-requires c κs = search needs
 
--- src/lib.rt:163:5
+-- src/lib.rt:132:30
+answer-of-requires : tie.Need-answer-of-requires
+answer-of-requires c κs = search needs
+
+-- src/lib.rt:132:9
 answer-number-requires : tie.Need-answer-number-requires
 answer-number-requires c κs = search needs
 
--- src/lib.rt:128:1
+-- src/lib.rt:132:9
 returns : tie.Need-returns
 returns c =
-    let e = c .before .before .before .before .before .run .ensures in (
-      c .answer-number .ensures ∙ ap (λ (x : Ran). answerNumber (x .answer)) e,
-      ap (λ (x : Ran). x .configuration) e,
+    let a = c .before .before .before .before .before .before .before .args in
+    let b = now (a .card) in
+    let told = c .before .before .before .enum-told .given .1 in
+    let e = refused-judged b _ (sym (c .before .before .before .before .before .check .ensures) ∙ told) in
+    let s = c .before .answer-of .ensures ∙ ap answerOf told in
+    let d = whole (now (a .beliefs)) (now (a .goals)) (now (a .plan)) (now (a .length)) (now (a .phase)) in
+    let r = runs-refused b d (a .budget) _ (card-first b _ e d) in (
+      c .answer-number .ensures ∙ ap answerNumber (s ∙ sym (ap (λ (x : Ran). x .answer) r)),
+      sym (ap (λ (x : Ran). x .configuration) r),
+      sym (ap (λ (x : Ran). x .count) r),
+      c .before .before .ending-number .ensures ∙ ap (λ (x : Ran). endingNumber (x .ending)) (sym r),
+    )
+
+-- src/lib.rt:134:9
+mind-requires : tie.Need-mind-requires
+mind-requires c κs = search needs
+
+-- src/lib.rt:135:9
+run-requires : tie.Need-run-requires
+run-requires c κs = good-judged (now (c .before .before .before .before .before .before .before .before .before .before .before .args .card)) _ (sym (c .before .before .before .before .before .before .before .before .before .check .ensures) ∙ c .before .before .before .before .before .before .before .v .given .1)
+
+-- src/lib.rt:137:5
+put-requires : tie.Need-put-requires
+put-requires c κs = ⊎-elim (λ h. omega arith) (λ e. subst (λ (x : Mind). x .length ≤ 65535) (sym e) (c .before .before .before .before .before .before .before .mind .ensures .4)) (c .before .before .before .before .before .run .ensures .1)
+
+-- src/lib.rt:140:15
+ending-number-requires-2 : tie.Need-ending-number-requires-2
+ending-number-requires-2 c κs = search needs
+
+-- src/lib.rt:142:5
+answer-number-requires-2 : tie.Need-answer-number-requires-2
+answer-number-requires-2 c κs = search needs
+
+-- src/lib.rt:114:1
+returns-2 : tie.Need-returns-2
+returns-2 c =
+    let a = c .before .before .before .before .before .before .before .before .before .before .before .before .before .before .before .before .before .before .before .before .args in
+    let m = c .before .before .before .before .before .before .before .before .before .before .mind in
+    let t = c .before .before .before .before .before .before .before .before .run in
+    let p = t .last .1 .1 .1 .0 in
+    let u = c .before .before .put .ensures in
+    let e = t .ensures .0 ∙ ap (λ (x : Configuration). runs (now (a .card)) x (a .budget)) (in-parts (m .result) _ _ (now (a .plan)) _ _ (m .ensures .0) (m .ensures .1) (m .ensures .2) (m .ensures .3)) in (
+      c .answer-number2 .ensures ∙ ap (λ (x : Ran). answerNumber (x .answer)) e,
+      sym (in-parts (t .result .mind) _ _ p _ _ (sym (u .0)) (sym (u .1)) (sym (u .2)) (sym (u .3))) ∙ ap (λ (x : Ran). x .configuration) e,
       ap (λ (x : Ran). x .count) e,
-      c .before .ending-number .ensures ∙ ap (λ (x : Ran). endingNumber (x .ending)) e,
+      c .before .ending-number2 .ensures ∙ ap (λ (x : Ran). endingNumber (x .ending)) e,
     )
 
 pub rigtemple-run-parts-spec : {M : Type 1} → statement M
 rigtemple-run-parts-spec =
-    tie.close (tie.spec run-requires ending-number-requires answer-number-requires returns)
+    tie.close
+    (tie.spec
+    check-requires
+    enum-known-v
+    enum-told
+    ending-number-requires
+    answer-of-requires
+    answer-number-requires
+    returns
+    mind-requires
+    run-requires
+    put-requires
+    ending-number-requires-2
+    answer-number-requires-2
+    returns-2)

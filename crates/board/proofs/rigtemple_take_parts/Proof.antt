@@ -1,5 +1,20 @@
+use mathlib.Core.Path.{subst}
+use mathlib.Core.Logic.{⊎-elim}
+use Rattle.card.specs.Stair.{answerOf}
+use Rattle.guide.proofs.Laws.{card-first, card-first-of-place}
+use Rattle.demands.proofs.Ways.{saves-refused, restores-refused}
+use Rattle.meaning.proofs.Calls.{good-judged, refused-judged, lists-refused, takes-refused, runs-refused}
 use Rattle.meaning.specs.Refusals.{answerNumber}
+use Rattle.meaning.specs.Numbers.{endingNumber}
+use Rattle.meaning.specs.Calls.{reply, written, lists, listLeaves, takes, runs, saves, saveLeaves, restores}
+use Rattle.meaning.specs.declared.Configuration.{Configuration}
 use Rattle.meaning.specs.declared.Reply.{Reply}
+use Rattle.meaning.specs.declared.Ran.{Ran}
+use Rattle.meaning.specs.declared.Written.{Written}
+use Rattle.moves.specs.declared.mind.Mind.{Mind}
+use Rattle.moves.specs.Minds.{configurationIn, endedIn}
+use Rattle.board.specs.Parts.{whole}
+use Rattle.board.proofs.Parts.{in-parts}
 use mathlib.Core.Path.{_≡_, refl, sym, ap, _∙_}
 use mathlib.Core.List.{List, [], _∷_, _++_, append-nil, append-assoc}
 use Prim.Native.Nat.{ℕ, suc, _+_, _-_, _*_, _≤_, _<_}
@@ -12,21 +27,85 @@ use Rattle.board.proofs.rigtemple_take_parts.Tie as tie
 use Rattle.board.proofs.rigtemple_take_parts.Reads as reads
 use Rattle.board.proofs.rigtemple_take_parts.Lts as lts
 use Rattle.answers.proofs.answer_number.Reads as answer-number-reads
-use Rattle.guide.proofs.take.Reads as take-reads
+use Rattle.board.proofs.mind.Reads as mind-reads
+use Rattle.board.proofs.put.Reads as put-reads
+use Rattle.card.proofs.check.check.Reads as check-reads
+use Rattle.card.proofs.load.answer_of.Reads as answer-of-reads
+use Rattle.moves.proofs.take.take.Reads as take-reads
 
--- src/lib.rt:113:9
-take-requires : tie.Need-take-requires
-take-requires c κs = search needs
+-- src/lib.rt:101:9
+check-requires : tie.Need-check-requires
+check-requires c κs = search needs
 
--- src/lib.rt:124:5
+-- src/lib.rt:102:23
+enum-known-v : tie.Need-enum-known-v
+enum-known-v c = search needs
+
+-- src/lib.rt:103:30
+enum-told : tie.Need-enum-told
+enum-told c = search needs
+
+-- src/lib.rt:103:30
+answer-of-requires : tie.Need-answer-of-requires
+answer-of-requires c κs = search needs
+
+-- src/lib.rt:103:9
 answer-number-requires : tie.Need-answer-number-requires
 answer-number-requires c κs = search needs
 
--- src/lib.rt:94:1
+-- src/lib.rt:103:9
 returns : tie.Need-returns
 returns c =
-    let e = c .before .before .before .before .take .ensures in
-    (c .answer-number .ensures ∙ ap (λ (x : Reply). answerNumber (x .answer)) e, ap (λ (x : Reply). x .configuration) e)
+    let a = c .before .before .before .before .before .before .args in
+    let b = now (a .card) in
+    let told = c .before .before .enum-told .given .1 in
+    let e = refused-judged b _ (sym (c .before .before .before .before .check .ensures) ∙ told) in
+    let s = c .before .answer-of .ensures ∙ ap answerOf told in
+    let d = whole (now (a .beliefs)) (now (a .goals)) (now (a .plan)) (now (a .length)) (now (a .phase)) in
+    let r = takes-refused b d (a .choice) _ (card-first b _ e d) in
+    (c .answer-number .ensures ∙ ap answerNumber (s ∙ sym (ap (λ (x : Reply). x .answer) r)), sym (ap (λ (x : Reply). x .configuration) r))
+
+-- src/lib.rt:105:9
+mind-requires : tie.Need-mind-requires
+mind-requires c κs = search needs
+
+-- src/lib.rt:106:9
+take-requires : tie.Need-take-requires
+take-requires c κs = good-judged (now (c .before .before .before .before .before .before .before .before .before .before .before .args .card)) _ (sym (c .before .before .before .before .before .before .before .before .before .check .ensures) ∙ c .before .before .before .before .before .before .before .v .given .1)
+
+-- src/lib.rt:108:5
+put-requires : tie.Need-put-requires
+put-requires c κs = ⊎-elim (λ h. omega arith) (λ e. subst (λ (x : Mind). x .length ≤ 65535) (sym e) (c .before .before .before .before .before .before .before .mind .ensures .4)) (c .before .before .before .before .before .take .ensures .1)
+
+-- src/lib.rt:110:5
+answer-number-requires-2 : tie.Need-answer-number-requires-2
+answer-number-requires-2 c κs = search needs
+
+-- src/lib.rt:89:1
+returns-2 : tie.Need-returns-2
+returns-2 c =
+    let a = c .before .before .before .before .before .before .before .before .before .before .before .before .before .before .before .before .before .before .before .args in
+    let m = c .before .before .before .before .before .before .before .before .before .mind in
+    let t = c .before .before .before .before .before .before .before .take in
+    let p = t .last .1 .1 .1 .0 in
+    let u = c .before .put .ensures in
+    let e = t .ensures .0 ∙ ap (λ (x : Configuration). takes (now (a .card)) x (a .choice)) (in-parts (m .result) _ _ (now (a .plan)) _ _ (m .ensures .0) (m .ensures .1) (m .ensures .2) (m .ensures .3)) in (
+      c .answer-number2 .ensures ∙ ap (λ (x : Reply). answerNumber (x .answer)) e,
+      sym (in-parts (t .result .mind) _ _ p _ _ (sym (u .0)) (sym (u .1)) (sym (u .2)) (sym (u .3))) ∙ ap (λ (x : Reply). x .configuration) e,
+    )
 
 pub rigtemple-take-parts-spec : {M : Type 1} → statement M
-rigtemple-take-parts-spec = tie.close (tie.spec take-requires answer-number-requires returns)
+rigtemple-take-parts-spec =
+    tie.close
+    (tie.spec
+    check-requires
+    enum-known-v
+    enum-told
+    answer-of-requires
+    answer-number-requires
+    returns
+    mind-requires
+    take-requires
+    put-requires
+    answer-number-requires-2
+    returns-2)

@@ -1,6 +1,8 @@
-use Rattle.guide.proofs.Laws.{card-first-of-place, restores-refused}
+use Rattle.guide.proofs.Laws.{card-first-of-place}
+use Rattle.demands.proofs.Ways.{restores-refused}
 use Rattle.meaning.proofs.Calls.{good-judged, refused-judged}
 use Rattle.card.specs.Stair.{answerOf}
+use Rattle.meaning.specs.Calls.{reply}
 use mathlib.Core.Path.{_≡_, refl, sym, ap, _∙_}
 use mathlib.Core.List.{List, [], _∷_, _++_, append-nil, append-assoc}
 use Prim.Native.Nat.{ℕ, suc, _+_, _-_, _*_, _≤_, _<_}
@@ -15,29 +17,30 @@ use Rattle.guide.proofs.restore.Lts as lts
 use Rattle.card.proofs.check.check.Reads as check-reads
 use Rattle.card.proofs.load.answer_of.Reads as answer-of-reads
 use Rattle.card.proofs.load.empty_configuration.Reads as empty-configuration-reads
+use Rattle.guide.proofs.whole.Reads as whole-reads
 use Rattle.place.proofs.restore.restore.Reads as restore-reads
 
--- src/lib.rt:100:9
+-- src/lib.rt:155:9
 check-requires : tie.Need-check-requires
 check-requires c κs = search needs
 
--- src/lib.rt:101:23
+-- src/lib.rt:156:23
 enum-known-v : tie.Need-enum-known-v
 enum-known-v c = search needs
 
--- src/lib.rt:102:13
+-- src/lib.rt:157:13
 enum-told : tie.Need-enum-told
 enum-told c = search needs
 
--- src/lib.rt:102:13
+-- src/lib.rt:157:13
 empty-configuration-requires : tie.Need-empty-configuration-requires
 empty-configuration-requires c κs = search needs
 
--- src/lib.rt:104:21
+-- src/lib.rt:159:21
 answer-of-requires : tie.Need-answer-of-requires
 answer-of-requires c κs = search needs
 
--- src/lib.rt:103:9
+-- src/lib.rt:158:9
 returns : tie.Need-returns
 returns c =
     let a = c .before .before .before .before .before .before .before .args in
@@ -47,15 +50,21 @@ returns c =
     (λ i. record { answer = (c .answer-of .ensures ∙ ap answerOf told) i; configuration = c .before .empty-configuration .ensures i })
     ∙ sym (restores-refused b (now (a .p)) _ (card-first-of-place b _ e (now (a .p))))
 
--- src/lib.rt:108:5
+-- src/lib.rt:164:9
 restore-requires : tie.Need-restore-requires
 restore-requires c κs =
-    let b = now (c .before .before .before .before .before .before .args .card) in
-    good-judged b _ (sym (c .before .before .before .check .ensures) ∙ c .before .v .given .1)
+    let b = now (c .before .before .before .before .before .before .before .args .card) in
+    good-judged b _ (sym (c .before .before .before .before .check .ensures) ∙ c .before .before .v .given .1)
 
--- src/lib.rt:97:1
+-- src/lib.rt:167:9
+whole-requires : tie.Need-whole-requires
+whole-requires c κs = search needs
+
+-- src/lib.rt:152:1
 returns-2 : tie.Need-returns-2
-returns-2 c = search needs
+returns-2 c =
+    let t = c .before .before .restore in
+    ap (reply (t .result .answer)) (c .whole .ensures) ∙ t .ensures .0
 
 pub restore-spec : {M : Type 1} → statement M
 restore-spec =
@@ -68,4 +77,5 @@ restore-spec =
     answer-of-requires
     returns
     restore-requires
+    whole-requires
     returns-2)

@@ -1,7 +1,13 @@
+use Rattle.house.specs.declared.Ending.{Ending}
 use Rattle.guide.proofs.Laws.{card-first}
 use Rattle.meaning.proofs.Calls.{good-judged, refused-judged, runs-refused}
-use Rattle.house.specs.declared.Ending.{Ending}
 use Rattle.card.specs.Stair.{answerOf}
+use Rattle.meaning.specs.Calls.{reply, runs}
+use Rattle.meaning.specs.declared.Configuration.{Configuration}
+use Rattle.moves.specs.declared.mind.Mind.{Mind}
+use Rattle.moves.specs.Minds.{configurationIn, endedIn}
+use mathlib.Core.Path.{subst}
+use mathlib.Core.Logic.{⊎-elim}
 use mathlib.Core.Path.{_≡_, refl, sym, ap, _∙_}
 use mathlib.Core.List.{List, [], _∷_, _++_, append-nil, append-assoc}
 use Prim.Native.Nat.{ℕ, suc, _+_, _-_, _*_, _≤_, _<_}
@@ -15,25 +21,27 @@ use Rattle.guide.proofs.run.Reads as reads
 use Rattle.guide.proofs.run.Lts as lts
 use Rattle.card.proofs.check.check.Reads as check-reads
 use Rattle.card.proofs.load.answer_of.Reads as answer-of-reads
+use Rattle.guide.proofs.whole.Reads as whole-reads
+use Rattle.moves.proofs.configuration.mind_of.Reads as mind-of-reads
 use Rattle.moves.proofs.run.run.Reads as run-reads
 
--- src/lib.rt:68:9
+-- src/lib.rt:105:9
 check-requires : tie.Need-check-requires
 check-requires c κs = search needs
 
--- src/lib.rt:69:23
+-- src/lib.rt:106:23
 enum-known-v : tie.Need-enum-known-v
 enum-known-v c = search needs
 
--- src/lib.rt:71:21
+-- src/lib.rt:108:21
 enum-told : tie.Need-enum-told
 enum-told c = search needs
 
--- src/lib.rt:71:21
+-- src/lib.rt:108:21
 answer-of-requires : tie.Need-answer-of-requires
 answer-of-requires c κs = search needs
 
--- src/lib.rt:70:9
+-- src/lib.rt:107:9
 returns : tie.Need-returns
 returns c =
     let a = c .before .before .before .before .before .args in
@@ -43,15 +51,32 @@ returns c =
     (λ i. record { answer = (c .answer-of .ensures ∙ ap answerOf told) i; count = 0; ending = Ending.Spent; configuration = a .c })
     ∙ sym (runs-refused b (a .c) (a .budget) _ (card-first b _ e (a .c)))
 
--- src/lib.rt:77:5
+-- src/lib.rt:114:9
+mind-of-requires : tie.Need-mind-of-requires
+mind-of-requires c κs = search needs
+
+-- src/lib.rt:116:9
 run-requires : tie.Need-run-requires
 run-requires c κs =
-    let b = now (c .before .before .before .before .before .args .card) in
-    good-judged b _ (sym (c .before .before .before .check .ensures) ∙ c .before .v .given .1)
+    let b = now (c .before .before .before .before .before .before .before .before .args .card) in
+    good-judged b _ (sym (c .before .before .before .before .before .before .check .ensures) ∙ c .before .before .before .before .v .given .1)
 
--- src/lib.rt:65:1
+-- src/lib.rt:120:9
+whole-requires : tie.Need-whole-requires
+whole-requires c κs =
+    let t = c .before .run in
+    let m = c .before .before .before .before .mind-of in
+    ⊎-elim (λ h. omega arith) (λ e. subst (λ (x : Mind). x .length ≤ 65535) (sym e) (m .ensures .2)) (t .ensures .1)
+
+-- src/lib.rt:102:1
 returns-2 : tie.Need-returns-2
-returns-2 c = search needs
+returns-2 c =
+    let a = c .before .before .before .before .before .before .before .before .before .before .before .args in
+    let b = now (a .card) in
+    let t = c .before .before .run in
+    let p = t .last .1 .1 .1 .0 in
+    ap (λ (x : Configuration). record { answer = t .result .answer; count = t .result .count; ending = t .result .ending; configuration = x }) (c .whole .ensures)
+    ∙ subst (λ (x : Mind). endedIn (t .result) p ≡ runs b (configurationIn x (a .c .plan)) (a .budget)) (c .before .before .before .before .before .mind-of .ensures .0) (t .ensures .0)
 
 pub run-spec : {M : Type 1} → statement M
 run-spec =
@@ -62,5 +87,7 @@ run-spec =
     enum-told
     answer-of-requires
     returns
+    mind-of-requires
     run-requires
+    whole-requires
     returns-2)

@@ -1,6 +1,11 @@
-use Rattle.guide.proofs.Laws.{card-first, saves-refused}
 use Rattle.meaning.proofs.Calls.{good-judged, refused-judged}
+use Rattle.guide.proofs.Laws.{card-first}
+use Rattle.demands.proofs.Ways.{saves-refused}
 use Rattle.card.specs.Stair.{answerOf}
+use Rattle.meaning.specs.Calls.{written, saves, saveLeaves}
+use Rattle.moves.specs.declared.mind.Mind.{Mind}
+use Rattle.moves.specs.Minds.{configurationIn}
+use mathlib.Core.Path.{subst}
 use mathlib.Core.Path.{_≡_, refl, sym, ap, _∙_}
 use mathlib.Core.List.{List, [], _∷_, _++_, append-nil, append-assoc}
 use Prim.Native.Nat.{ℕ, suc, _+_, _-_, _*_, _≤_, _<_}
@@ -14,47 +19,57 @@ use Rattle.guide.proofs.save.Reads as reads
 use Rattle.guide.proofs.save.Lts as lts
 use Rattle.card.proofs.check.check.Reads as check-reads
 use Rattle.card.proofs.load.answer_of.Reads as answer-of-reads
+use Rattle.moves.proofs.configuration.mind_of.Reads as mind-of-reads
 use Rattle.place.proofs.save.save.Reads as save-reads
 
--- src/lib.rt:85:9
+-- src/lib.rt:133:9
 check-requires : tie.Need-check-requires
 check-requires c κs = search needs
 
--- src/lib.rt:86:23
+-- src/lib.rt:134:23
 enum-known-v : tie.Need-enum-known-v
 enum-known-v c = search needs
 
--- src/lib.rt:88:21
+-- src/lib.rt:136:21
 enum-told : tie.Need-enum-told
 enum-told c = search needs
 
--- src/lib.rt:88:21
+-- src/lib.rt:136:21
 answer-of-requires : tie.Need-answer-of-requires
 answer-of-requires c κs = search needs
 
--- src/lib.rt:87:9
+-- src/lib.rt:135:9
 returns : tie.Need-returns
 returns c =
     let a = c .before .before .before .before .before .before .args in
     let b = now (a .card) in
     let told = c .before .enum-told .given .1 in
     let e = refused-judged b _ (sym (c .before .before .before .check .ensures) ∙ told) in
-    let r = saves-refused b (a .c) (now (a .out)) _ (card-first b _ e (a .c)) in
-    ((λ i. record { answer = (c .answer-of .ensures ∙ ap answerOf told) i; count = 0; configuration = a .c }) ∙ sym (r .0), sym (r .1))
+    let r = saves-refused b (a .t2) (now (a .out)) _ (card-first b _ e (a .t2)) in
+    ((λ i. record { answer = (c .answer-of .ensures ∙ ap answerOf told) i; count = 0; configuration = a .t2 }) ∙ sym (r .0), sym (r .1))
 
--- src/lib.rt:93:5
+-- src/lib.rt:141:9
+mind-of-requires : tie.Need-mind-of-requires
+mind-of-requires c κs = search needs
+
+-- src/lib.rt:142:9
 save-requires : tie.Need-save-requires
 save-requires c κs =
-    let b = now (c .before .before .before .before .before .before .before .args .card) in
-    good-judged b _ (sym (c .before .before .before .before .check .ensures) ∙ c .before .before .v .given .1)
+    let b = now (c .before .before .before .before .before .before .before .before .before .before .args .card) in
+    good-judged b _ (sym (c .before .before .before .before .before .before .before .check .ensures) ∙ c .before .before .before .before .before .v .given .1)
 
--- src/lib.rt:82:1
+-- src/lib.rt:130:1
 same-length : tie.Need-same-length
 same-length c = search needs
 
--- src/lib.rt:82:1
+-- src/lib.rt:130:1
 returns-2 : tie.Need-returns-2
-returns-2 c = search needs
+returns-2 c =
+    let a = c .before .before .before .before .before .before .before .before .before .before .before .before .before .args in
+    let b = now (a .card) in
+    let out = now (a .out) in
+    let t = c .before .before .save in
+    subst (λ (x : Mind). (written (t .result .answer) (t .result .count) (configurationIn x (a .t2 .plan)) ≡ saves b (configurationIn x (a .t2 .plan)) out) × (t .last .1 .1 .1 .1 .0 ≡ saveLeaves b (configurationIn x (a .t2 .plan)) out)) (c .before .before .before .before .before .before .mind-of .ensures .0) (t .ensures)
 
 pub save-spec : {M : Type 1} → statement M
 save-spec =
@@ -65,6 +80,7 @@ save-spec =
     enum-told
     answer-of-requires
     returns
+    mind-of-requires
     save-requires
     same-length
     returns-2)

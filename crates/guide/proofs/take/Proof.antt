@@ -1,6 +1,12 @@
 use Rattle.guide.proofs.Laws.{card-first}
 use Rattle.meaning.proofs.Calls.{good-judged, refused-judged, takes-refused}
 use Rattle.card.specs.Stair.{answerOf}
+use Rattle.meaning.specs.Calls.{reply, takes}
+use Rattle.meaning.specs.declared.Configuration.{Configuration}
+use Rattle.moves.specs.declared.mind.Mind.{Mind}
+use Rattle.moves.specs.Minds.{configurationIn, endedIn}
+use mathlib.Core.Path.{subst}
+use mathlib.Core.Logic.{⊎-elim}
 use mathlib.Core.Path.{_≡_, refl, sym, ap, _∙_}
 use mathlib.Core.List.{List, [], _∷_, _++_, append-nil, append-assoc}
 use Prim.Native.Nat.{ℕ, suc, _+_, _-_, _*_, _≤_, _<_}
@@ -14,25 +20,27 @@ use Rattle.guide.proofs.take.Reads as reads
 use Rattle.guide.proofs.take.Lts as lts
 use Rattle.card.proofs.check.check.Reads as check-reads
 use Rattle.card.proofs.load.answer_of.Reads as answer-of-reads
+use Rattle.guide.proofs.whole.Reads as whole-reads
+use Rattle.moves.proofs.configuration.mind_of.Reads as mind-of-reads
 use Rattle.moves.proofs.take.take.Reads as take-reads
 
--- src/lib.rt:54:9
+-- src/lib.rt:82:9
 check-requires : tie.Need-check-requires
 check-requires c κs = search needs
 
--- src/lib.rt:55:23
+-- src/lib.rt:83:23
 enum-known-v : tie.Need-enum-known-v
 enum-known-v c = search needs
 
--- src/lib.rt:57:21
+-- src/lib.rt:85:21
 enum-told : tie.Need-enum-told
 enum-told c = search needs
 
--- src/lib.rt:57:21
+-- src/lib.rt:85:21
 answer-of-requires : tie.Need-answer-of-requires
 answer-of-requires c κs = search needs
 
--- src/lib.rt:56:9
+-- src/lib.rt:84:9
 returns : tie.Need-returns
 returns c =
     let a = c .before .before .before .before .before .args in
@@ -42,15 +50,32 @@ returns c =
     (λ i. record { answer = (c .answer-of .ensures ∙ ap answerOf told) i; configuration = a .c })
     ∙ sym (takes-refused b (a .c) (a .choice) _ (card-first b _ e (a .c)))
 
--- src/lib.rt:61:5
+-- src/lib.rt:89:9
+mind-of-requires : tie.Need-mind-of-requires
+mind-of-requires c κs = search needs
+
+-- src/lib.rt:91:9
 take-requires : tie.Need-take-requires
 take-requires c κs =
-    let b = now (c .before .before .before .before .before .args .card) in
-    good-judged b _ (sym (c .before .before .before .check .ensures) ∙ c .before .v .given .1)
+    let b = now (c .before .before .before .before .before .before .before .before .args .card) in
+    good-judged b _ (sym (c .before .before .before .before .before .before .check .ensures) ∙ c .before .before .before .before .v .given .1)
 
--- src/lib.rt:51:1
+-- src/lib.rt:94:9
+whole-requires : tie.Need-whole-requires
+whole-requires c κs =
+    let t = c .before .take in
+    let m = c .before .before .before .before .mind-of in
+    ⊎-elim (λ h. omega arith) (λ e. subst (λ (x : Mind). x .length ≤ 65535) (sym e) (m .ensures .2)) (t .ensures .1)
+
+-- src/lib.rt:79:1
 returns-2 : tie.Need-returns-2
-returns-2 c = search needs
+returns-2 c =
+    let a = c .before .before .before .before .before .before .before .before .before .before .before .args in
+    let b = now (a .card) in
+    let t = c .before .before .take in
+    let p = t .last .1 .1 .1 .0 in
+    ap (reply (t .result .answer)) (c .whole .ensures)
+    ∙ subst (λ (x : Mind). reply (t .result .answer) (configurationIn (t .result .mind) p) ≡ takes b (configurationIn x (a .c .plan)) (a .choice)) (c .before .before .before .before .before .mind-of .ensures .0) (t .ensures .0)
 
 pub take-spec : {M : Type 1} → statement M
 take-spec =
@@ -61,5 +86,7 @@ take-spec =
     enum-told
     answer-of-requires
     returns
+    mind-of-requires
     take-requires
+    whole-requires
     returns-2)

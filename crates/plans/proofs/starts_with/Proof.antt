@@ -1,12 +1,9 @@
 use native.Mathlib.Nat.{add-zero}
-use Rattle.plans.proofs.Laws.{Same, same-turn, same-all, first-differs, too-long}
+use Rattle.plans.proofs.Laws.{Agree, agree-more, last-block, block-differs, first-differs, too-long}
 use Rattle.meaning.proofs.Parts.{length-part, part-at}
 use Rattle.meaning.specs.Card.{part}
-use Rattle.paper.specs.Next.{isPrefix}
-use borrow.Author.Tests.{ne-eqb, eq-eqb}
+use borrow.Author.Tests.{ne-eqb, not-true, not-false}
 use lib.Seq.{getD-take, length-take-le}
-use lib.Dec.{eqb}
-use mathlib.Core.Bool.{Bool, true, false, _&&_}
 use mathlib.Core.Path.{_≡_, refl, sym, ap, _∙_}
 use mathlib.Core.List.{List, [], _∷_, _++_, append-nil, append-assoc}
 use Prim.Native.Nat.{ℕ, suc, _+_, _-_, _*_, _≤_, _<_}
@@ -18,35 +15,36 @@ use Rattle.plans.proofs.starts_with.Statement.{statement}
 use Rattle.plans.proofs.starts_with.Tie as tie
 use Rattle.plans.proofs.starts_with.Reads as reads
 use Rattle.plans.proofs.starts_with.Lts as lts
+use Rattle.plans.proofs.same_bytes.Reads as same-bytes-reads
 
 abbrev Inv-loop : tie.InvT-loop
-Inv-loop card hstart hlen plan len same₀ i₀ same i = (1 ≤ i) × (i ≤ hlen) × Same (part card hstart hlen) (take len plan) same i
+Inv-loop card hstart hlen plan len last i₀ i = (i ≤ hlen) × Agree card plan hstart i
 
 abbrev μ-loop : tie.MeasureT-loop
-μ-loop card hstart hlen plan len same₀ i₀ same i = hlen - i
+μ-loop card hstart hlen plan len last i₀ i = hlen - i
 
--- src/lib.rt:104:9
+-- src/lib.rt:121:9
 returns : tie.Need-returns Inv-loop μ-loop
 returns c =
-    let a = c .before .args in
+    let a = c .before .before .args in
     let h = part (now (a .card)) (a .hstart) (a .hlen) in
     let π = take (a .len) (now (a .plan)) in
     let m : length h ≡ a .hlen = length-part (now (a .card)) (a .hstart) (a .hlen) (omega arith) in
     let n : length π ≡ a .len = length-take-le (a .len) (now (a .plan)) (omega arith) in
     sym (too-long h π (omega arith))
 
--- src/lib.rt:106:8
+-- src/lib.rt:123:8
 shared-slice-read-if2 : tie.Need-shared-slice-read-if2 Inv-loop μ-loop
 shared-slice-read-if2 c = search needs
 
--- src/lib.rt:106:24
+-- src/lib.rt:123:24
 element-copy-out-if2 : tie.Need-element-copy-out-if2 Inv-loop μ-loop
 element-copy-out-if2 c = search needs
 
--- src/lib.rt:107:9
+-- src/lib.rt:124:9
 returns-2 : tie.Need-returns-2 Inv-loop μ-loop
 returns-2 c =
-    let a = c .before .before .before .before .args in
+    let a = c .before .before .before .before .before .args in
     let b = now (a .card) in
     let d = now (a .plan) in
     let h = part b (a .hstart) (a .hlen) in
@@ -57,69 +55,72 @@ returns-2 c =
     let y : getD π 0 0 ≡ getD d 0 0 = getD-take (a .len) d 0 0 (omega arith) in
     sym (first-differs h π (omega arith) (omega arith) (rw (x, y) (ne-eqb _ _ (c .if2 .taken))))
 
--- src/lib.rt:111:5
-loop-holds : tie.Need-loop-holds Inv-loop μ-loop
-loop-holds c =
-    let a = c .before .before .before .before .args in
+-- src/lib.rt:127:9
+same-bytes-requires : tie.Need-same-bytes-requires Inv-loop μ-loop
+same-bytes-requires c κs = search needs
+
+-- src/lib.rt:127:9
+returns-3 : tie.Need-returns-3 Inv-loop μ-loop
+returns-3 c =
+    let a = c .before .before .before .before .before .before .before .args in
     let b = now (a .card) in
     let d = now (a .plan) in
-    let h = part b (a .hstart) (a .hlen) in
-    let π = take (a .len) d in
-    let m : length h ≡ a .hlen = length-part b (a .hstart) (a .hlen) (omega arith) in
-    let n : length π ≡ a .len = length-take-le (a .len) d (omega arith) in
-    let x : getD h 0 0 ≡ getD b (a .hstart) 0 = part-at b (a .hstart) (a .hlen) 0 (omega arith) ∙ ap (λ k. getD b k 0) (add-zero (a .hstart)) in
-    let y : getD π 0 0 ≡ getD d 0 0 = getD-take (a .len) d 0 0 (omega arith) in
-    let e : eqb (getD h 0 0) (getD π 0 0) ≡ true = rw (x, y) (eq-eqb _ _ (c .if2 .left)) in
-    let s : Same h π (true && eqb (getD h 0 0) (getD π 0 0)) (0 + 1) = same-turn h π (omega arith) true 0 (omega arith) refl in
-    (omega arith, omega arith, rw e at s)
+    last-block b d (a .hstart) (a .hlen) (a .len) (omega arith) (omega arith) (omega arith) (a .hstart) 0 (a .hlen) 0 (omega arith) (omega arith) (omega arith) (λ j g. absurd (omega arith)) (c .same-bytes .result) (c .same-bytes .ensures)
 
--- src/lib.rt:112:29
-add-same : tie.Need-add-same Inv-loop μ-loop
-add-same c = search needs
+-- src/lib.rt:131:5
+loop-holds : tie.Need-loop-holds Inv-loop μ-loop
+loop-holds c = (omega arith, λ j g. absurd (omega arith))
 
--- src/lib.rt:112:24
-shared-slice-read-same : tie.Need-shared-slice-read-same Inv-loop μ-loop
-shared-slice-read-same c = search needs
+-- src/lib.rt:132:30
+add-same-bytes : tie.Need-add-same-bytes Inv-loop μ-loop
+add-same-bytes c = search needs
 
--- src/lib.rt:112:44
-element-copy-out-same : tie.Need-element-copy-out-same Inv-loop μ-loop
-element-copy-out-same c = search needs
+-- src/lib.rt:132:13
+same-bytes-requires-2 : tie.Need-same-bytes-requires-2 Inv-loop μ-loop
+same-bytes-requires-2 c κs = search needs
 
--- src/lib.rt:113:9
+-- src/lib.rt:133:13
+returns-4 : tie.Need-returns-4 Inv-loop μ-loop
+returns-4 c =
+    let a = c .before .before .before .before .before .before .before .before .before .before .args in
+    let b = now (a .card) in
+    let d = now (a .plan) in
+    let l = c .before .before .before .loop in
+    block-differs b d (a .hstart) (a .hlen) (a .len) (omega arith) (omega arith) (omega arith) (a .hstart + l .i) (l .i) 64 refl (omega arith) (c .before .same-bytes2 .result) (c .before .same-bytes2 .ensures) (not-true _ (c .if4 .taken))
+
+-- src/lib.rt:135:9
 add-i : tie.Need-add-i Inv-loop μ-loop
 add-i c = search needs
 
--- src/lib.rt:111:5
+-- src/lib.rt:131:5
 loop-less : tie.Need-loop-less Inv-loop μ-loop
 loop-less c = search needs
 
--- src/lib.rt:111:5
+-- src/lib.rt:131:5
 loop-again : tie.Need-loop-again Inv-loop μ-loop
 loop-again c =
-    let a = c .before .before .before .before .before .before .before .before .args in
+    let a = c .before .before .before .before .before .before .before .before .before .before .args in
+    let b = now (a .card) in
+    let d = now (a .plan) in
     let l = c .before .before .before .loop in
-    let b = now (a .card) in
-    let d = now (a .plan) in
-    let h = part b (a .hstart) (a .hlen) in
-    let π = take (a .len) d in
-    let m : length h ≡ a .hlen = length-part b (a .hstart) (a .hlen) (omega arith) in
-    let n : length π ≡ a .len = length-take-le (a .len) d (omega arith) in
-    let x : getD h (l .i) 0 ≡ getD b (a .hstart + l .i) 0 = part-at b (a .hstart) (a .hlen) (l .i) (omega arith) in
-    let y : getD π (l .i) 0 ≡ getD d (l .i) 0 = getD-take (a .len) d (l .i) 0 (omega arith) in
-    (omega arith, omega arith, rw (x, y) at (same-turn h π (omega arith) (l .same) (l .i) (omega arith) (l .inv .2)))
+    (omega arith, agree-more b d (a .hstart) (a .hlen) (a .len) (omega arith) (omega arith) (omega arith) (a .hstart + l .i) (l .i) 64 (l .i) refl (omega arith) (l .inv .1) (sym (c .before .same-bytes2 .ensures) ∙ not-false _ (c .if4 .left)))
 
--- src/lib.rt:99:1
-returns-3 : tie.Need-returns-3 Inv-loop μ-loop
-returns-3 c =
-    let a = c .before .before .before .before .before .before .args in
-    let l = c .before .loop in
+-- src/lib.rt:137:22
+add-same-bytes-2 : tie.Need-add-same-bytes-2 Inv-loop μ-loop
+add-same-bytes-2 c = search needs
+
+-- src/lib.rt:137:5
+same-bytes-requires-3 : tie.Need-same-bytes-requires-3 Inv-loop μ-loop
+same-bytes-requires-3 c κs = search needs
+
+-- src/lib.rt:116:1
+returns-5 : tie.Need-returns-5 Inv-loop μ-loop
+returns-5 c =
+    let a = c .before .before .before .before .before .before .before .before .before .args in
     let b = now (a .card) in
     let d = now (a .plan) in
-    let h = part b (a .hstart) (a .hlen) in
-    let π = take (a .len) d in
-    let m : length h ≡ a .hlen = length-part b (a .hstart) (a .hlen) (omega arith) in
-    let n : length π ≡ a .len = length-take-le (a .len) d (omega arith) in
-    same-all h π (omega arith) (l .same) (l .i) (omega arith) (l .inv .2)
+    let l = c .before .before .loop in
+    last-block b d (a .hstart) (a .hlen) (a .len) (omega arith) (omega arith) (omega arith) (a .hstart + (a .hlen - 64)) (a .hlen - 64) 64 (l .i) refl (omega arith) (omega arith) (l .inv .1) (c .same-bytes3 .result) (c .same-bytes3 .ensures)
 
 pub starts-with-spec : {M : Type 1} → statement M
 starts-with-spec =
@@ -131,11 +132,15 @@ starts-with-spec =
     shared-slice-read-if2
     element-copy-out-if2
     returns-2
+    same-bytes-requires
+    returns-3
     loop-holds
-    add-same
-    shared-slice-read-same
-    element-copy-out-same
+    add-same-bytes
+    same-bytes-requires-2
+    returns-4
     add-i
     loop-less
     loop-again
-    returns-3)
+    add-same-bytes-2
+    same-bytes-requires-3
+    returns-5)

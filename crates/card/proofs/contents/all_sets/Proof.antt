@@ -1,13 +1,13 @@
 use native.Mathlib.Nat.{sub-zero}
 use Rattle.sets.proofs.Loops.{and-true}
-use Rattle.card.proofs.Sets.{good-∪, union-start, union-turn}
+use Rattle.card.proofs.Sets.{good-∪, union-turn}
 use Rattle.meaning.proofs.Parts.{length-part}
 use Rattle.meaning.specs.Refusals.{all, every, setGood, setsGood}
 use Rattle.meaning.specs.Card.{Bytes, part}
 use Rattle.house.specs.Order.{numbers}
 use Rattle.paper.specs.Atoms.{Atoms, _∪_}
 use Rattle.paper.proofs.Sets.{length-∪}
-use mathlib.Core.Bool.{Bool, _&&_}
+use mathlib.Core.Bool.{Bool, _&&_, and-assoc}
 use mathlib.Core.Path.{_≡_, refl, sym, ap, ap₂, _∙_}
 use mathlib.Core.List.{List, [], _∷_, _++_, append-nil, append-assoc}
 use Prim.Native.Nat.{ℕ, suc, _+_, _-_, _*_, _≤_, _<_}
@@ -65,7 +65,7 @@ loop-holds c =
       ap length e ∙ length-∪ X Y (lx ∙ sym ly) ∙ lx,
       λ k. ap (λ s. setGood k s && all (f k) (numbers 0 (n - 0))) e
           ∙ ap₂ (λ x y. x && all (f k) (numbers 0 y)) (good-∪ k X Y (lx ∙ sym ly)) (sub-zero n)
-          ∙ union-start (setGood k X) (setGood k Y) (every n (f k)),
+          ∙ and-assoc (setGood k X) (setGood k Y) (every n (f k)),
     )
 
 -- src/contents.rt:87:25

@@ -1,4 +1,4 @@
-use Rattle.moves.proofs.Choices.{in-first, in-second, in-third}
+use Rattle.moves.proofs.Choices.{Tried, found-in-turn, none-in-turn, tried-more}
 use Rattle.moves.specs.Minds.{mentalOf}
 use Rattle.meaning.specs.Card.{agentFor}
 use mathlib.Core.Path.{_≡_, refl, sym, ap, _∙_}
@@ -14,72 +14,73 @@ use Rattle.moves.proofs.enabled.choose.Reads as reads
 use Rattle.moves.proofs.enabled.choose.Lts as lts
 use Rattle.moves.proofs.enabled.first_of_kind.Reads as first-of-kind-reads
 
--- src/enabled.rt:138:9
-first-of-kind-requires : tie.Need-first-of-kind-requires
-first-of-kind-requires c κs = search needs
+abbrev Inv-loop : tie.InvT-loop
+Inv-loop card l m plan marks p t₀ t = (t ≤ 3) × Tried (agentFor l card) (mentalOf m plan) p t
 
-enum-told : tie.Need-enum-told
-enum-told c = search needs
+abbrev μ-loop : tie.MeasureT-loop
+μ-loop card l m plan marks p t₀ t = 3 - t
 
--- src/enabled.rt:140:9
-enum-told-2 : tie.Need-enum-told-2
-enum-told-2 c = search needs
+-- src/enabled.rt:173:5
+loop-holds : tie.Need-loop-holds Inv-loop μ-loop
+loop-holds c = (omega arith, λ k h. absurd (omega arith))
 
--- src/enabled.rt:140:9
-returns : tie.Need-returns
-returns c =
-    let a = c .before .before .before .before .args in
-    in-first (agentFor (a .l) (now (a .card))) (mentalOf (a .m) (now (a .plan))) (a .m .phase) _ (c .before .before .first-of-kind .ensures) _ _ (c .enum-told2 .given .1)
-
--- src/enabled.rt:142:58
-add-first-of-kind : tie.Need-add-first-of-kind
+-- src/enabled.rt:174:62
+add-first-of-kind : tie.Need-add-first-of-kind Inv-loop μ-loop
 add-first-of-kind c = search needs
 
--- src/enabled.rt:142:9
-first-of-kind-requires-2 : tie.Need-first-of-kind-requires-2
-first-of-kind-requires-2 c κs = search needs
+-- src/enabled.rt:174:13
+first-of-kind-requires : tie.Need-first-of-kind-requires Inv-loop μ-loop
+first-of-kind-requires c κs = search needs
 
-enum-told-3 : tie.Need-enum-told-3
-enum-told-3 c = search needs
+enum-told : tie.Need-enum-told Inv-loop μ-loop
+enum-told c = search needs
 
--- src/enabled.rt:144:9
-enum-told-4 : tie.Need-enum-told-4
-enum-told-4 c = search needs
+-- src/enabled.rt:176:13
+enum-told-2 : tie.Need-enum-told-2 Inv-loop μ-loop
+enum-told-2 c = search needs
 
--- src/enabled.rt:144:9
-returns-2 : tie.Need-returns-2
+-- src/enabled.rt:176:13
+returns : tie.Need-returns Inv-loop μ-loop
+returns c =
+    let a = c .before .before .before .before .before .before .args in
+    let l = c .before .before .before .before .loop in
+    found-in-turn (agentFor (a .l) (now (a .card))) (mentalOf (a .m) (now (a .plan))) (a .m .phase) (l .t) (omega arith) (l .inv .1) (c .before .before .first-of-kind .result) (c .before .before .first-of-kind .ensures) _ _ (c .enum-told2 .given .1)
+
+-- src/enabled.rt:178:9
+add-t : tie.Need-add-t Inv-loop μ-loop
+add-t c = search needs
+
+-- src/enabled.rt:173:5
+loop-less : tie.Need-loop-less Inv-loop μ-loop
+loop-less c = search needs
+
+-- src/enabled.rt:173:5
+loop-again : tie.Need-loop-again Inv-loop μ-loop
+loop-again c =
+    let a = c .before .before .before .before .before .before .args in
+    let l = c .before .before .before .before .loop in
+    (omega arith, tried-more (agentFor (a .l) (now (a .card))) (mentalOf (a .m) (now (a .plan))) (a .m .phase) (l .t) (l .inv .1) (sym (c .before .before .first-of-kind .ensures) ∙ c .enum-told .given .1))
+
+-- src/enabled.rt:167:1
+returns-2 : tie.Need-returns-2 Inv-loop μ-loop
 returns-2 c =
-    let a = c .before .before .before .before .before .before .before .args in
-    in-second (agentFor (a .l) (now (a .card))) (mentalOf (a .m) (now (a .plan))) (a .m .phase) _ (c .before .before .before .before .before .first-of-kind .ensures) (c .before .before .before .enum-told .given .1) _ (c .before .before .first-of-kind2 .ensures) _ _ (c .enum-told4 .given .1)
-
--- src/enabled.rt:146:45
-add-first-of-kind-2 : tie.Need-add-first-of-kind-2
-add-first-of-kind-2 c = search needs
-
--- src/enabled.rt:146:5
-first-of-kind-requires-3 : tie.Need-first-of-kind-requires-3
-first-of-kind-requires-3 c κs = search needs
-
--- src/enabled.rt:133:1
-returns-3 : tie.Need-returns-3
-returns-3 c =
-    let a = c .before .before .before .before .before .before .before .before .args in
-    c .first-of-kind3 .ensures
-    ∙ in-third (agentFor (a .l) (now (a .card))) (mentalOf (a .m) (now (a .plan))) (a .m .phase) _ (c .before .before .before .before .before .before .first-of-kind .ensures) (c .before .before .before .before .enum-told .given .1) _ (c .before .before .before .first-of-kind2 .ensures) (c .before .enum-told3 .given .1)
+    let a = c .before .before .before .args in
+    let l = c .before .loop in
+    none-in-turn (agentFor (a .l) (now (a .card))) (mentalOf (a .m) (now (a .plan))) (a .m .phase) (λ k h. l .inv .1 k (omega arith))
 
 pub choose-spec : {M : Type 1} → statement M
 choose-spec =
     tie.close
     (tie.spec
+    Inv-loop
+    μ-loop
+    loop-holds
+    add-first-of-kind
     first-of-kind-requires
     enum-told
     enum-told-2
     returns
-    add-first-of-kind
-    first-of-kind-requires-2
-    enum-told-3
-    enum-told-4
-    returns-2
-    add-first-of-kind-2
-    first-of-kind-requires-3
-    returns-3)
+    add-t
+    loop-less
+    loop-again
+    returns-2)

@@ -1,14 +1,16 @@
+use mathlib.Core.Logic.{inl, inr}
 use Prim.Native.Nat.{_/_, _%_}
-use Rattle.moves.specs.Choosing.{taking, moveBy, choiceAt}
-use Rattle.meaning.specs.Calls.{takes}
-use Rattle.meaning.specs.Configurations.{stateOf}
-use Rattle.meaning.specs.Card.{agent, agentFor}
-use Rattle.meaning.specs.declared.Reply.{Reply}
-use Rattle.meaning.specs.Card.{layout}
-use Rattle.meaning.specs.declared.Refusal.{Refusal}
-use Rattle.moves.proofs.Taking.{judged-bad, judged-good, takes-unknown, takes-known}
-use Rattle.meaning.proofs.Calls.{takes-refused}
 use Rattle.card.proofs.GoodCard.{good-card}
+use Rattle.meaning.specs.declared.Refusal.{Refusal}
+use Rattle.meaning.specs.declared.Layout.{Layout}
+use Rattle.meaning.specs.Card.{agent, agentFor}
+use Rattle.meaning.specs.Configurations.{stateOf}
+use Rattle.meaning.specs.Calls.{reply}
+use Rattle.meaning.proofs.Calls.{takes-refused}
+use Rattle.meaning.proofs.Configurations.{good}
+use Rattle.moves.specs.Minds.{configurationIn}
+use Rattle.moves.specs.Choosing.{choiceAt, moveBy, taking}
+use Rattle.moves.proofs.Taking.{judged-bad, judged-good, held-configuration, mind-within, taken, takes-unknown, takes-known}
 use mathlib.Core.Path.{_≡_, refl, sym, ap, _∙_}
 use mathlib.Core.List.{List, [], _∷_, _++_, append-nil, append-assoc}
 use Prim.Native.Nat.{ℕ, suc, _+_, _-_, _*_, _≤_, _<_}
@@ -20,66 +22,101 @@ use Rattle.moves.proofs.take.take.Statement.{statement}
 use Rattle.moves.proofs.take.take.Tie as tie
 use Rattle.moves.proofs.take.take.Reads as reads
 use Rattle.moves.proofs.take.take.Lts as lts
-use Rattle.moves.proofs.configuration.configuration_good.Reads as configuration-good-reads
-use Rattle.moves.proofs.take.take_choice.Reads as take-choice-reads
+use Rattle.moves.proofs.configuration.judge_mind.Reads as judge-mind-reads
+use Rattle.moves.proofs.take.answer_to.Reads as answer-to-reads
+use Rattle.moves.proofs.take.attempt.Reads as attempt-reads
 
--- src/take.rt:153:9
-configuration-good-requires : tie.Need-configuration-good-requires
-configuration-good-requires c κs =
-    let a = c .before .args in
-    let p = c .before .pre in
+-- src/take.rt:132:9
+judge-mind-requires : tie.Need-judge-mind-requires
+judge-mind-requires c κs =
+    let a = c .before .before .args in
+    let p = c .before .before .pre in
     good-card (a .l) (now (a .card)) (p .0) (p .1) .laid .atoms
 
--- src/take.rt:154:9
+enum-told : tie.Need-enum-told
+enum-told c = search needs
+
+-- src/take.rt:134:9
+enum-told-2 : tie.Need-enum-told-2
+enum-told-2 c = search needs
+
+-- src/take.rt:134:9
 returns : tie.Need-returns
 returns c =
-    let a = c .before .before .before .args in
-    let p = c .before .before .before .pre in
-    let e = judged-bad (a .l) (now (a .card)) (a .c) (p .0) (p .1) (c .before .configuration-good .result) (c .before .configuration-good .ensures) (c .if1 .taken) in
-    sym (takes-refused (now (a .card)) (a .c) (a .choice) Refusal.Configuration e)
-
--- src/take.rt:161:9
-returns-2 : tie.Need-returns-2
-returns-2 c =
-    let a = c .before .before .before .before .args in
-    let p = c .before .before .before .before .pre in
-    let e = judged-good (a .l) (now (a .card)) (a .c) (p .0) (p .1) (c .before .before .configuration-good .result) (c .before .before .configuration-good .ensures) (c .before .if1 .left) in
-    takes-unknown (now (a .card)) (a .c) (e .1) (a .choice) (omega arith)
-
--- src/take.rt:166:29
-cast-take-choice : tie.Need-cast-take-choice
-cast-take-choice c = search needs
-
--- src/take.rt:166:41
-cast-take-choice-2 : tie.Need-cast-take-choice-2
-cast-take-choice-2 c = search needs
-
--- src/take.rt:166:5
-take-choice-requires : tie.Need-take-choice-requires
-take-choice-requires c κs =
-    let a = c .before .before .before .before .args in
-    let p = c .before .before .before .before .pre in
-    let e = judged-good (a .l) (now (a .card)) (a .c) (p .0) (p .1) (c .before .before .configuration-good .result) (c .before .before .configuration-good .ensures) (c .before .if1 .left) in
-    (good-card (a .l) (now (a .card)) (p .0) (p .1), e .0, omega arith)
-
--- src/take.rt:149:1
-returns-3 : tie.Need-returns-3
-unfolding agent
-returns-3 c =
     let a = c .before .before .before .before .before .args in
     let p = c .before .before .before .before .before .pre in
-    let e = judged-good (a .l) (now (a .card)) (a .c) (p .0) (p .1) (c .before .before .before .configuration-good .result) (c .before .before .before .configuration-good .ensures) (c .before .before .if1 .left) in
-    let r : c .take-choice .result ≡ taking (moveBy (agentFor (layout (now (a .card))) (now (a .card))) (stateOf (a .c)) (choiceAt (a .choice / 256) (a .choice % 256))) (a .c) = rw (p .1) at (c .take-choice .ensures) in
-    r ∙ takes-known (now (a .card)) (a .c) (e .1) (a .choice) (omega arith)
+    let b = now (a .card) in
+    let d = configurationIn (a .m) (now (a .plan)) in
+    let g = c .before .before .judge-mind in
+    let e = judged-bad (a .l) b d (p .0) (p .1) (g .result) (g .ensures .0) _ (c .enum-told2 .given .1) in
+    (ap (λ x. reply x d) (e .0) ∙ sym (takes-refused b d (a .choice) Refusal.Configuration (e .1)), inr refl)
+
+-- src/take.rt:138:9
+returns-2 : tie.Need-returns-2
+returns-2 c =
+    let a = c .before .before .before .before .before .before .args in
+    let p = c .before .before .before .before .before .before .pre in
+    let b = now (a .card) in
+    let d = configurationIn (a .m) (now (a .plan)) in
+    let g = c .before .before .before .judge-mind in
+    let e = judged-good (a .l) b d (p .0) (p .1) (g .result) (g .ensures .0) (c .before .enum-told .given .1) in
+    (takes-unknown b d (e .1) (a .choice) (omega arith), inr refl)
+
+-- src/take.rt:143:39
+cast-attempt : tie.Need-cast-attempt
+cast-attempt c = search needs
+
+-- src/take.rt:143:51
+cast-attempt-2 : tie.Need-cast-attempt-2
+cast-attempt-2 c = search needs
+
+-- src/take.rt:143:9
+attempt-requires : tie.Need-attempt-requires
+attempt-requires c κs =
+    let a = c .before .before .before .before .before .before .before .args in
+    let p = c .before .before .before .before .before .before .before .pre in
+    let b = now (a .card) in
+    let d = configurationIn (a .m) (now (a .plan)) in
+    let g = c .before .before .before .before .judge-mind in
+    let e = judged-good (a .l) b d (p .0) (p .1) (g .result) (g .ensures .0) (c .before .before .enum-told .given .1) in
+    (good-card (a .l) b (p .0) (p .1), held-configuration (a .l) d (g .ensures .1) (e .0), omega arith)
+
+-- src/take.rt:147:17
+answer-to-requires : tie.Need-answer-to-requires
+answer-to-requires c κs = search needs
+
+-- src/take.rt:128:1
+returns-3 : tie.Need-returns-3
+unfolding agent stateOf
+returns-3 c =
+    let a = c .before .before .before .before .before .before .before .before .before .before .args in
+    let p = c .before .before .before .before .before .before .before .before .before .before .pre in
+    let b = now (a .card) in
+    let d = configurationIn (a .m) (now (a .plan)) in
+    let g = c .before .before .before .before .before .before .before .judge-mind in
+    let e = judged-good (a .l) b d (p .0) (p .1) (g .result) (g .ensures .0) (c .before .before .before .before .before .enum-told .given .1) in
+    let t = c .before .before .attempt in
+    let k = choiceAt (a .choice / 256) (a .choice % 256) in
+    let A = agentFor (a .l) b in
+    let w = mind-within A d k (t .result) (t .ensures .0) (good (a .l) d (e .0) .fits) in (
+      ap (λ x. reply x (configurationIn (t .result .mind) (t .last .1 .1 .1 .0))) (c .answer-to .ensures)
+          ∙ taken A d k (t .result) (t .ensures .0) (t .last .1 .1 .1 .0) (t .ensures .1)
+          ∙ ap (λ (x : Layout). taking (moveBy (agentFor x b) (stateOf d) k) d) (p .1)
+          ∙ takes-known b d (e .1) (a .choice) (omega arith),
+      inl w,
+    )
 
 pub take-spec : {M : Type 1} → statement M
 take-spec =
     tie.close
     (tie.spec
-    configuration-good-requires
+    judge-mind-requires
+    enum-told
+    enum-told-2
     returns
     returns-2
-    cast-take-choice
-    cast-take-choice-2
-    take-choice-requires
+    cast-attempt
+    cast-attempt-2
+    attempt-requires
+    answer-to-requires
     returns-3)

@@ -14,45 +14,40 @@ use Rattle.moves.proofs.turn.step.Tie as tie
 use Rattle.moves.proofs.turn.step.Reads as reads
 use Rattle.moves.proofs.turn.step.Lts as lts
 use Rattle.moves.proofs.enabled.choose.Reads as choose-reads
-use Rattle.moves.proofs.truth.judge.Reads as judge-reads
 use Rattle.moves.proofs.turn.make.Reads as make-reads
 
--- src/turn.rt:45:17
-judge-requires : tie.Need-judge-requires
-judge-requires c κs = search needs
-
--- src/turn.rt:46:9
+-- src/turn.rt:45:9
 choose-requires : tie.Need-choose-requires
 choose-requires c κs = search needs
 
--- src/turn.rt:47:20
+-- src/turn.rt:46:20
 enum-known-chosen : tie.Need-enum-known-chosen
 enum-known-chosen c = search needs
 
--- src/turn.rt:49:19
+-- src/turn.rt:48:19
 enum-told : tie.Need-enum-told
 enum-told c = search needs
 
--- src/turn.rt:48:9
+-- src/turn.rt:47:9
 returns : tie.Need-returns
 returns c =
-    let a = c .before .before .before .before .before .before .before .before .before .args in
+    let a = c .before .before .before .before .before .args in
     let d = now (a .plan) in
     let t = steps-nowhere (agentFor (a .l) (now (a .card))) (stateIn (a .m) d) (sym (c .before .before .choose .ensures) ∙ c .enum-told .given .1) in
     (ap (λ (r : Reached). told r (a .m)) (sym t), ap (λ (r : Reached). left r d) (sym t))
 
--- src/turn.rt:53:5
+-- src/turn.rt:52:5
 make-requires : tie.Need-make-requires
 make-requires c κs =
-    let a = c .before .before .before .before .before .before .before .before .before .before .before .args in
-    let p = c .before .before .before .before .before .before .before .before .before .before .before .pre in
+    let a = c .before .before .before .before .before .before .before .args in
+    let p = c .before .before .before .before .before .before .before .pre in
     let b = steps-by (agentFor (a .l) (now (a .card))) (stateIn (a .m) (now (a .plan))) _ _ (sym (c .before .before .before .before .choose .ensures) ∙ c .before .before .chosen .given .1) in
     (p .0, p .1, b .0, b .1)
 
--- src/turn.rt:39:1
+-- src/turn.rt:41:1
 returns-2 : tie.Need-returns-2
 returns-2 c =
-    let a = c .before .before .before .before .before .before .before .before .before .before .before .before .args in
+    let a = c .before .before .before .before .before .before .before .before .args in
     let d = now (a .plan) in
     let b = steps-by (agentFor (a .l) (now (a .card))) (stateIn (a .m) d) _ _ (sym (c .before .before .before .before .before .choose .ensures) ∙ c .before .before .before .chosen .given .1) in
     (c .make .ensures .0 ∙ ap (λ (r : Reached). told r (a .m)) (sym (b .2)), c .make .ensures .1 ∙ ap (λ (r : Reached). left r d) (sym (b .2)))
@@ -60,11 +55,4 @@ returns-2 c =
 pub step-spec : {M : Type 1} → statement M
 step-spec =
     tie.close
-    (tie.spec
-    judge-requires
-    choose-requires
-    enum-known-chosen
-    enum-told
-    returns
-    make-requires
-    returns-2)
+    (tie.spec choose-requires enum-known-chosen enum-told returns make-requires returns-2)

@@ -1,7 +1,11 @@
-use Rattle.moves.specs.declared.mind.Stepped.{Stepped}
-use Rattle.moves.proofs.Turning.{Running, running-start, running-spent, running-rest, running-full, running-moved}
+use Rattle.moves.proofs.Turning.{Running, running-start, running-spent, running-rest, running-full, running-moved, running-judged}
+use Rattle.moves.specs.Truth.{Judged}
 use Rattle.moves.specs.Minds.{stateIn}
+use Rattle.moves.specs.declared.mind.Stepped.{Stepped}
 use Rattle.meaning.specs.Card.{agentFor}
+use Rattle.paper.proofs.Relation.{false≢true}
+use lib.ListN.{length-replicate}
+use mathlib.Core.Bool.{true, false}
 use mathlib.Core.Path.{_≡_, refl, sym, ap, _∙_}
 use mathlib.Core.List.{List, [], _∷_, _++_, append-nil, append-assoc}
 use Prim.Native.Nat.{ℕ, suc, _+_, _-_, _*_, _≤_, _<_}
@@ -13,83 +17,112 @@ use Rattle.moves.proofs.turn.turns.Statement.{statement}
 use Rattle.moves.proofs.turn.turns.Tie as tie
 use Rattle.moves.proofs.turn.turns.Reads as reads
 use Rattle.moves.proofs.turn.turns.Lts as lts
+use Rattle.card.proofs.nodes.no_marks.Reads as no-marks-reads
+use Rattle.moves.proofs.turn.end.Reads as end-reads
+use Rattle.moves.proofs.turn.refresh.Reads as refresh-reads
 use Rattle.moves.proofs.turn.step.Reads as step-reads
 
 abbrev Inv-loop : tie.InvT-loop
-Inv-loop card l plan₀ budget cur₀ count₀ plan cur count = Running (agentFor l card) budget (stateIn cur₀ plan₀) cur plan count
+Inv-loop card l plan₀ budget cur₀ marks₀ known₀ count₀ plan cur marks known count = Running (agentFor l card) budget (stateIn cur₀ plan₀) cur plan count × (length marks ≡ 256) × (known ≡ true → Judged l card (cur .beliefs) (cur .goals) marks)
 
 abbrev μ-loop : tie.MeasureT-loop
-μ-loop card l plan₀ budget cur₀ count₀ plan cur count = budget - count
+μ-loop card l plan₀ budget cur₀ marks₀ known₀ count₀ plan cur marks known count = budget - count
 
--- src/turn.rt:63:5
+-- src/turn.rt:85:21
+no-marks-requires : tie.Need-no-marks-requires Inv-loop μ-loop
+no-marks-requires c κs = search needs
+
+-- src/turn.rt:88:5
 loop-holds : tie.Need-loop-holds Inv-loop μ-loop
 loop-holds c =
-    let a = c .before .args in
-    let p = c .before .pre in
-    running-start (agentFor (a .l) (now (a .card))) (a .budget) (a .m) (now (a .plan)) (p .1) (p .2)
+    let a = c .before .before .args in
+    let p = c .before .before .pre in (
+      running-start (agentFor (a .l) (now (a .card))) (a .budget) (a .m) (now (a .plan)) (p .1) (p .2),
+      rw (c .no-marks .ensures) (length-replicate 256 false),
+      λ e. absurd (false≢true e),
+    )
 
--- src/turn.rt:64:13
+-- src/turn.rt:89:9
+refresh-requires : tie.Need-refresh-requires Inv-loop μ-loop
+refresh-requires c κs = (c .before .before .before .before .before .pre .0, c .before .before .loop .inv .1, c .before .before .loop .inv .2)
+
+-- src/turn.rt:90:13
 step-requires : tie.Need-step-requires Inv-loop μ-loop
 step-requires c κs =
-    let r = c .before .before .loop .inv in
-    (c .before .before .before .before .pre .0, r .held, r .phase)
+    let r = c .before .before .before .before .before .loop .inv .0 in
+    (c .before .before .before .before .before .before .before .before .pre .0, r .held, r .phase, c .before .before .refresh .ensures .0)
 
--- src/turn.rt:68:21
+-- src/turn.rt:94:21
 enum-told : tie.Need-enum-told Inv-loop μ-loop
 enum-told c = search needs
 
--- src/turn.rt:70:17
+-- src/turn.rt:102:17
 add-count : tie.Need-add-count Inv-loop μ-loop
 add-count c = search needs
 
--- src/turn.rt:63:5
+-- src/turn.rt:88:5
 loop-less : tie.Need-loop-less Inv-loop μ-loop
 loop-less c = search needs
 
--- src/turn.rt:63:5
+-- src/turn.rt:88:5
 loop-again : tie.Need-loop-again Inv-loop μ-loop
 loop-again c =
-    let a = c .before .before .before .before .before .before .before .before .args in
-    let l = c .before .before .before .before .before .before .loop in
-    let e = c .before .before .before .step .ensures in
-    rw (e .0, e .1)
-    (running-moved (agentFor (a .l) (now (a .card))) (a .budget) (stateIn (a .m) (now (a .plan))) (l .cur) (l .plan) (l .count) (l .inv) (omega arith)
-    (ap (λ (x : Stepped). x .next) (sym (e .0)) ∙ c .before .enum-told .given .1))
+    let a = c .before .before .before .before .before .before .before .before .before .before .before .before .before .before .before .args in
+    let l = c .before .before .before .before .before .before .before .before .before .before .before .before .loop in
+    let e = c .before .before .before .before .before .before .step .ensures in
+    let n = ap (λ (x : Stepped). x .next) (sym (e .0)) ∙ c .before .before .before .before .enum-told .given .1 in
+    let f = c .before .before .before .before .before .before .before .before .before .refresh in
+    rw (e .0, e .1) (
+      running-moved (agentFor (a .l) (now (a .card))) (a .budget) (stateIn (a .m) (now (a .plan))) (l .cur) (l .plan) (l .count) (l .inv .0) (omega arith) n,
+      f .ensures .1,
+      λ h. running-judged (agentFor (a .l) (now (a .card))) (a .budget) (stateIn (a .m) (now (a .plan))) (l .cur) (l .plan) (l .count) (l .inv .0) (omega arith) (a .l) (now (a .card)) (f .last .1 .1 .1 .1 .0) (f .ensures .0) n h,
+    )
 
--- src/turn.rt:76:29
+-- src/turn.rt:105:40
 enum-told-2 : tie.Need-enum-told-2 Inv-loop μ-loop
 enum-told-2 c = search needs
 
--- src/turn.rt:73:17
+-- src/turn.rt:105:17
+end-requires : tie.Need-end-requires Inv-loop μ-loop
+end-requires c κs = search needs
+
+-- src/turn.rt:105:17
 returns : tie.Need-returns Inv-loop μ-loop
 returns c =
-    let a = c .before .before .before .before .before .before .before .args in
-    let l = c .before .before .before .before .before .loop in
-    let e = c .before .before .step .ensures in
-    let x = running-rest (agentFor (a .l) (now (a .card))) (a .budget) (stateIn (a .m) (now (a .plan))) (l .cur) (l .plan) (l .count) (l .inv) (omega arith)
-    (ap (λ (x : Stepped). x .next) (sym (e .0)) ∙ c .enum-told2 .given .1) in
-    (x .0, e .1 ∙ x .1)
+    let a = c .before .before .before .before .before .before .before .before .before .before .before .before .args in
+    let l = c .before .before .before .before .before .before .before .before .before .loop in
+    let e = c .before .before .before .step .ensures in
+    let x = running-rest (agentFor (a .l) (now (a .card))) (a .budget) (stateIn (a .m) (now (a .plan))) (l .cur) (l .plan) (l .count) (l .inv .0) (omega arith) (ap (λ (x : Stepped). x .next) (sym (e .0)) ∙ c .before .enum-told2 .given .1) in
+    (c .end .ensures ∙ x .0, e .1 ∙ x .1)
 
--- src/turn.rt:83:29
+-- src/turn.rt:108:40
 enum-told-3 : tie.Need-enum-told-3 Inv-loop μ-loop
 enum-told-3 c = search needs
 
--- src/turn.rt:80:17
+-- src/turn.rt:108:17
+end-requires-2 : tie.Need-end-requires-2 Inv-loop μ-loop
+end-requires-2 c κs = search needs
+
+-- src/turn.rt:108:17
 returns-2 : tie.Need-returns-2 Inv-loop μ-loop
 returns-2 c =
-    let a = c .before .before .before .before .before .before .before .args in
-    let l = c .before .before .before .before .before .loop in
-    let e = c .before .before .step .ensures in
-    let x = running-full (agentFor (a .l) (now (a .card))) (a .budget) (stateIn (a .m) (now (a .plan))) (l .cur) (l .plan) (l .count) (l .inv) (omega arith)
-    (ap (λ (x : Stepped). x .next) (sym (e .0)) ∙ c .enum-told3 .given .1) in
-    (x .0, e .1 ∙ x .1)
+    let a = c .before .before .before .before .before .before .before .before .before .before .before .before .args in
+    let l = c .before .before .before .before .before .before .before .before .before .loop in
+    let e = c .before .before .before .step .ensures in
+    let x = running-full (agentFor (a .l) (now (a .card))) (a .budget) (stateIn (a .m) (now (a .plan))) (l .cur) (l .plan) (l .count) (l .inv .0) (omega arith) (ap (λ (x : Stepped). x .next) (sym (e .0)) ∙ c .before .enum-told3 .given .1) in
+    (c .end2 .ensures ∙ x .0, e .1 ∙ x .1)
 
--- src/turn.rt:57:1
+-- src/turn.rt:112:5
+end-requires-3 : tie.Need-end-requires-3 Inv-loop μ-loop
+end-requires-3 c κs = search needs
+
+-- src/turn.rt:80:1
 returns-3 : tie.Need-returns-3 Inv-loop μ-loop
 returns-3 c =
-    let a = c .before .before .before .args in
-    let l = c .before .loop in
-    running-spent (agentFor (a .l) (now (a .card))) (a .budget) (stateIn (a .m) (now (a .plan))) (l .cur) (l .plan) (l .count) (l .inv) (omega arith)
+    let a = c .before .before .before .before .before .args in
+    let l = c .before .before .loop in
+    let x = running-spent (agentFor (a .l) (now (a .card))) (a .budget) (stateIn (a .m) (now (a .plan))) (l .cur) (l .plan) (l .count) (l .inv .0) (omega arith) in
+    (c .end3 .ensures ∙ x .0, x .1)
 
 pub turns-spec : {M : Type 1} → statement M
 turns-spec =
@@ -97,14 +130,19 @@ turns-spec =
     (tie.spec
     Inv-loop
     μ-loop
+    no-marks-requires
     loop-holds
+    refresh-requires
     step-requires
     enum-told
     add-count
     loop-less
     loop-again
     enum-told-2
+    end-requires
     returns
     enum-told-3
+    end-requires-2
     returns-2
+    end-requires-3
     returns-3)

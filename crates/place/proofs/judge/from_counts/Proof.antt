@@ -15,7 +15,7 @@ use Rattle.place.proofs.judge.from_counts.Reads as reads
 use Rattle.place.proofs.judge.from_counts.Lts as lts
 use Rattle.place.proofs.judge.counts_good.Reads as counts-good-reads
 use Rattle.place.proofs.judge.from_offsets.Reads as from-offsets-reads
-use Rattle.place.proofs.rows.row.Reads as row-reads
+use Rattle.card.proofs.check.row.Reads as row-reads
 
 -- src/judge.rt:100:17
 counts-good-requires : tie.Need-counts-good-requires

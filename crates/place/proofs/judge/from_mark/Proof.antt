@@ -15,7 +15,7 @@ use Rattle.place.proofs.judge.from_mark.Reads as reads
 use Rattle.place.proofs.judge.from_mark.Lts as lts
 use Rattle.place.proofs.judge.from_counts.Reads as from-counts-reads
 use Rattle.place.proofs.judge.mark_good.Reads as mark-good-reads
-use Rattle.place.proofs.rows.row.Reads as row-reads
+use Rattle.card.proofs.check.row.Reads as row-reads
 
 -- src/judge.rt:120:17
 mark-good-requires : tie.Need-mark-good-requires

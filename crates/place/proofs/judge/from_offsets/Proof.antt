@@ -15,7 +15,7 @@ use Rattle.place.proofs.judge.from_offsets.Reads as reads
 use Rattle.place.proofs.judge.from_offsets.Lts as lts
 use Rattle.place.proofs.judge.from_plan.Reads as from-plan-reads
 use Rattle.place.proofs.judge.offsets_good.Reads as offsets-good-reads
-use Rattle.place.proofs.rows.row.Reads as row-reads
+use Rattle.card.proofs.check.row.Reads as row-reads
 
 -- src/judge.rt:78:17
 offsets-good-requires : tie.Need-offsets-good-requires

@@ -15,7 +15,7 @@ use Rattle.place.proofs.judge.from_plan.Reads as reads
 use Rattle.place.proofs.judge.from_plan.Lts as lts
 use Rattle.place.proofs.judge.from_sets.Reads as from-sets-reads
 use Rattle.place.proofs.judge.plan_good.Reads as plan-good-reads
-use Rattle.place.proofs.rows.row.Reads as row-reads
+use Rattle.card.proofs.check.row.Reads as row-reads
 
 -- src/judge.rt:57:17
 plan-good-requires : tie.Need-plan-good-requires

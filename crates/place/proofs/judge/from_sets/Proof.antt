@@ -14,7 +14,7 @@ use Rattle.place.proofs.judge.from_sets.Tie as tie
 use Rattle.place.proofs.judge.from_sets.Reads as reads
 use Rattle.place.proofs.judge.from_sets.Lts as lts
 use Rattle.place.proofs.judge.sets_good.Reads as sets-good-reads
-use Rattle.place.proofs.rows.row.Reads as row-reads
+use Rattle.card.proofs.check.row.Reads as row-reads
 
 -- src/judge.rt:42:9
 sets-good-requires : tie.Need-sets-good-requires

@@ -15,7 +15,7 @@ use Rattle.place.proofs.judge.judge_place.Tie as tie
 use Rattle.place.proofs.judge.judge_place.Reads as reads
 use Rattle.place.proofs.judge.judge_place.Lts as lts
 use Rattle.place.proofs.judge.from_mark.Reads as from-mark-reads
-use Rattle.place.proofs.rows.row.Reads as row-reads
+use Rattle.card.proofs.check.row.Reads as row-reads
 
 -- src/judge.rt:132:9
 row-requires : tie.Need-row-requires

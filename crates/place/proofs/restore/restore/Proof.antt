@@ -1,4 +1,5 @@
 use Rattle.meaning.specs.declared.Answer.the-variants.{Done}
+use Rattle.meaning.specs.Calls.{reply}
 use Rattle.place.proofs.Laws.{few-atoms, sized, restores-good, restores-refused}
 use mathlib.Core.Path.{_≡_, refl, sym, ap, _∙_}
 use mathlib.Core.List.{List, [], _∷_, _++_, append-nil, append-assoc}
@@ -11,57 +12,65 @@ use Rattle.place.proofs.restore.restore.Statement.{statement}
 use Rattle.place.proofs.restore.restore.Tie as tie
 use Rattle.place.proofs.restore.restore.Reads as reads
 use Rattle.place.proofs.restore.restore.Lts as lts
-use Rattle.card.proofs.load.empty_configuration.Reads as empty-configuration-reads
+use Rattle.moves.proofs.configuration.size.Reads as size-reads
 use Rattle.place.proofs.judge.judge_place.Reads as judge-place-reads
-use Rattle.place.proofs.restore.configuration_in.Reads as configuration-in-reads
+use Rattle.place.proofs.restore.empty_mind.Reads as empty-mind-reads
+use Rattle.place.proofs.restore.read.Reads as read-reads
 
--- src/restore.rt:45:9
+-- src/restore.rt:59:9
+size-requires : tie.Need-size-requires
+size-requires c κs = search needs
+
+-- src/restore.rt:60:9
 judge-place-requires : tie.Need-judge-place-requires
 judge-place-requires c κs =
-    let p = c .before .before .pre in
+    let p = c .before .before .before .before .before .pre in
     few-atoms _ _ (p .0) (p .1)
 
 enum-told : tie.Need-enum-told
 enum-told c = search needs
 
--- src/restore.rt:47:13
+-- src/restore.rt:62:31
 enum-told-2 : tie.Need-enum-told-2
 enum-told-2 c = search needs
 
--- src/restore.rt:47:13
-empty-configuration-requires : tie.Need-empty-configuration-requires
-empty-configuration-requires c κs = search needs
+-- src/restore.rt:62:13
+empty-mind-requires : tie.Need-empty-mind-requires
+empty-mind-requires c κs = search needs
 
--- src/restore.rt:48:9
+-- src/restore.rt:63:9
 returns : tie.Need-returns
 returns c =
-    let s = c .before .before .before .before .before .before in
-    let told = c .before .enum-told2 .given .1 in
-    let j = c .before .before .before .judge-place .ensures in
-    (λ i. record { answer = told i; configuration = c .empty-configuration .ensures i })
-    ∙ sym (restores-refused (now (s .args .card)) (s .args .l) (s .pre .0) (s .pre .1) (now (s .args .p)) _ (sym j ∙ told))
+    let s = c .before .before .before .before .before .before .before .before .before .before in
+    let told = c .before .before .enum-told2 .given .1 in
+    let j = c .before .before .before .before .judge-place .ensures in
+    let m = c .empty-mind in
+    ((λ i. reply (told i) (m .ensures .0 i)) ∙ sym (restores-refused (now (s .args .card)) (s .args .l) (s .pre .0) (s .pre .1) (now (s .args .p)) _ (sym j ∙ told)), m .ensures .1)
 
--- src/restore.rt:53:9
-configuration-in-requires : tie.Need-configuration-in-requires
-configuration-in-requires c κs = sized _ _ (sym (c .before .before .judge-place .ensures) ∙ c .enum-told .given .1)
+-- src/restore.rt:68:9
+read-requires : tie.Need-read-requires
+read-requires c κs =
+    let r : length (now (c .before .before .before .before .before .before .before .before .before .args .plan)) ≡ 1024 = search needs in
+    (sized _ _ (sym (c .before .before .before .judge-place .ensures) ∙ c .before .enum-told .given .1), r)
 
--- src/restore.rt:41:1
+-- src/restore.rt:55:1
 returns-2 : tie.Need-returns-2
 returns-2 c =
-    let s = c .before .before .before .before .before .before in
-    let told = c .before .enum-told .given .1 in
-    let j = c .before .before .before .judge-place .ensures in
-    (λ i. record { answer = Done; configuration = c .configuration-in .ensures i })
-    ∙ sym (restores-good (now (s .args .card)) (s .args .l) (s .pre .0) (s .pre .1) (now (s .args .p)) (sym j ∙ told))
+    let s = c .before .before .before .before .before .before .before .before .before .before in
+    let told = c .before .before .enum-told .given .1 in
+    let j = c .before .before .before .before .judge-place .ensures in
+    let m = c .read in
+    (ap (reply Done) (m .ensures .0) ∙ sym (restores-good (now (s .args .card)) (s .args .l) (s .pre .0) (s .pre .1) (now (s .args .p)) (sym j ∙ told)), m .ensures .1)
 
 pub restore-spec : {M : Type 1} → statement M
 restore-spec =
     tie.close
     (tie.spec
+    size-requires
     judge-place-requires
     enum-told
     enum-told-2
-    empty-configuration-requires
+    empty-mind-requires
     returns
-    configuration-in-requires
+    read-requires
     returns-2)

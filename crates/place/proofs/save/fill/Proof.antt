@@ -1,4 +1,5 @@
 use Rattle.meaning.specs.Place.{placeHeader}
+use Rattle.moves.specs.Minds.{configurationIn}
 use Rattle.place.proofs.Written.{place-written}
 use mathlib.Core.Path.{_≡_, refl, sym, ap, _∙_}
 use mathlib.Core.List.{List, [], _∷_, _++_, append-nil, append-assoc}
@@ -14,19 +15,12 @@ use Rattle.place.proofs.save.fill.Lts as lts
 use Rattle.place.proofs.save.copy.Reads as copy-reads
 use Rattle.place.proofs.save.head.Reads as head-reads
 
--- the arrays of the configuration are as long as their types say
-lb : (c : tie.Start) → length (c .args .t1 .beliefs) ≡ 16
+-- the sets of the configuration are as long as their types say
+lb : (c : tie.Start) → length (c .args .m .beliefs) ≡ 16
 lb c = search needs
 
-lg : (c : tie.Start) → length (c .args .t1 .goals) ≡ 16
+lg : (c : tie.Start) → length (c .args .m .goals) ≡ 16
 lg c = search needs
-
-lp : (c : tie.Start) → length (c .args .t1 .plan) ≡ 1024
-lp c = search needs
-
--- src/save.rt:62:13
-cast-n : tie.Need-cast-n
-cast-n c = search needs
 
 -- src/save.rt:64:13
 head-requires : tie.Need-head-requires
@@ -63,27 +57,27 @@ copy-requires-3 c κs =
 -- src/save.rt:68:5
 copy-requires-4 : tie.Need-copy-requires-4
 copy-requires-4 c κs =
-    let s = c .before .before .before .before .before .before .before .before .before .before .before .before .before .before .before .before .before .before .before .before .before .before .before in
-    (omega (arith, c .before .before .before .before .before .before .copy3 .kept .0, c .before .before .before .before .before .before .before .before .before .before .before .copy2 .kept .0, c .before .before .before .before .before .before .before .before .before .before .before .before .before .before .before .before .copy .kept .0, s .pre .2), omega (arith, lp s, s .pre .0))
+    let s = c .before .before .before .before .before .before .before .before .before .before .before .before .before .before .before .before .before .before .before .before .before in
+    (omega (arith, c .before .before .before .before .copy3 .kept .0, c .before .before .before .before .before .before .before .before .before .copy2 .kept .0, c .before .before .before .before .before .before .before .before .before .before .before .before .before .before .copy .kept .0, s .pre .2), omega (arith, s .pre .3, s .pre .0))
 
--- src/save.rt:56:1
+-- src/save.rt:57:1
 same-length : tie.Need-same-length
 same-length c = search needs
 
--- src/save.rt:56:1
+-- src/save.rt:57:1
 returns : tie.Need-returns
 unfolding placeHeader
 returns c =
-    let s = c .before .before .before .before .before .before .before .before .before .before .before .before .before .before .before .before .before .before .before .before .before .before .before .before .before .before in
-    let h = c .before .before .before .before .before .before .before .before .before .before .before .before .before .before .before .before .before .before .before .before .before .before .head in
-    place-written (s .args .t1) (now (s .args .out)) (c .before .before .before .before .before .before .before .before .before .before .before .before .before .before .before .before .before .before .before .copy .last .0) (c .before .before .before .before .before .before .before .before .before .before .before .before .before .before .copy2 .last .0) (c .before .before .before .before .before .before .before .before .before .copy3 .last .0) (c .before .before .copy4 .last .0) (lb s) (lg s) (lp s) (s .pre .0)
-    (h .result) (h .ensures) (ap length (h .ensures)) (c .before .before .before .before .before .before .before .before .before .before .before .before .before .before .before .before .before .before .before .copy .ensures) (c .before .before .before .before .before .before .before .before .before .before .before .before .before .before .copy2 .ensures) (c .before .before .before .before .before .before .before .before .before .copy3 .ensures) (c .before .before .copy4 .ensures)
+    let s = c .before .before .before .before .before .before .before .before .before .before .before .before .before .before .before .before .before .before .before .before .before .before .before .before in
+    let a = s .args in
+    let h = c .before .before .before .before .before .before .before .before .before .before .before .before .before .before .before .before .before .before .before .before .head in
+    place-written (configurationIn (a .m) (now (a .plan))) (now (a .out)) (c .before .before .before .before .before .before .before .before .before .before .before .before .before .before .before .before .before .copy .last .0) (c .before .before .before .before .before .before .before .before .before .before .before .before .copy2 .last .0) (c .before .before .before .before .before .before .before .copy3 .last .0) (c .before .before .copy4 .last .0) (lb s) (lg s) (s .pre .3) (s .pre .0)
+    (h .result) (h .ensures) (ap length (h .ensures)) (c .before .before .before .before .before .before .before .before .before .before .before .before .before .before .before .before .before .copy .ensures) (c .before .before .before .before .before .before .before .before .before .before .before .before .copy2 .ensures) (c .before .before .before .before .before .before .before .copy3 .ensures) (c .before .before .copy4 .ensures)
 
 pub fill-spec : {M : Type 1} → statement M
 fill-spec =
     tie.close
     (tie.spec
-    cast-n
     head-requires
     slice-aggregate-copy
     copy-requires

@@ -10,60 +10,56 @@ use native.Mathlib.Omega.{arith}
 use borrow.Author.Needs.{needs}
 use denote.Ref.{now}
 use lib.ListN.{length, getD, set, take, drop, replicate}
-use Rattle.place.proofs.restore.configuration_in.Statement.{statement}
-use Rattle.place.proofs.restore.configuration_in.Tie as tie
-use Rattle.place.proofs.restore.configuration_in.Reads as reads
-use Rattle.place.proofs.restore.configuration_in.Lts as lts
-use Rattle.card.proofs.load.plan_at.Reads as plan-at-reads
+use Rattle.place.proofs.restore.read.Statement.{statement}
+use Rattle.place.proofs.restore.read.Tie as tie
+use Rattle.place.proofs.restore.read.Reads as reads
+use Rattle.place.proofs.restore.read.Lts as lts
 use Rattle.card.proofs.readers.number_at.Reads as number-at-reads
 use Rattle.card.proofs.readers.set_at.Reads as set-at-reads
+use Rattle.plans.proofs.fill.Reads as fill-reads
 
--- src/restore.rt:25:9
+-- src/restore.rt:26:9
 number-at-requires : tie.Need-number-at-requires
 number-at-requires c κs = search needs
 
--- src/restore.rt:26:9
+-- src/restore.rt:27:9
 set-at-requires : tie.Need-set-at-requires
 set-at-requires c κs = search needs
 
--- src/restore.rt:27:9
+-- src/restore.rt:28:9
 set-at-requires-2 : tie.Need-set-at-requires-2
 set-at-requires-2 c κs = search needs
 
--- src/restore.rt:28:9
-plan-at-requires : tie.Need-plan-at-requires
-plan-at-requires c κs = search needs
-
--- src/restore.rt:29:18
-cast-length : tie.Need-cast-length
-cast-length c = search needs
+-- src/restore.rt:29:5
+fill-requires : tie.Need-fill-requires
+fill-requires c κs = search needs
 
 -- src/restore.rt:30:17
 shared-slice-read-phase : tie.Need-shared-slice-read-phase
 shared-slice-read-phase c = search needs
 
--- src/restore.rt:21:1
+-- src/restore.rt:22:1
 returns : tie.Need-returns
 unfolding configurationOf placed part
 returns c =
-    let b = now (c .before .before .before .before .before .before .args .p) in
-    let s = c .before .before .before .before .before .before .pre in
-    let n = c .before .before .before .before .number-at in
+    let b = now (c .before .before .before .before .before .before .before .args .p) in
+    let s = c .before .before .before .before .before .before .before .pre .0 in
+    let n = c .before .before .before .before .before .number-at in
     let f = s .phase in
     let t = s .ends in
     let l : length (drop 44 b) ≡ n .result = length-drop 44 b ∙ omega (arith, n .ensures .0) in
     let π : part b 44 (n .result) ≡ drop 44 b = take-all (n .result) (drop 44 b) (omega arith) in
     let k : byte b 8 ≡ number b 8 = omega arith in
-    λ i. record { beliefs = c .before .before .before .set-at .ensures i; goals = c .before .before .set-at2 .ensures i; plan = (c .before .plan-at .ensures ∙ ap padded π) i; length = sym l i; phase = k i }
+    let m = s .fits in
+    (λ i. record { beliefs = c .before .before .before .before .set-at .ensures i; goals = c .before .before .before .set-at2 .ensures i; plan = (c .before .fill .ensures ∙ ap padded π) i; length = sym l i; phase = k i }, omega (arith, n .ensures .0))
 
-pub configuration-in-spec : {M : Type 1} → statement M
-configuration-in-spec =
+pub read-spec : {M : Type 1} → statement M
+read-spec =
     tie.close
     (tie.spec
     number-at-requires
     set-at-requires
     set-at-requires-2
-    plan-at-requires
-    cast-length
+    fill-requires
     shared-slice-read-phase
     returns)

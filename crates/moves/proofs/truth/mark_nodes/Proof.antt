@@ -1,7 +1,7 @@
 use Rattle.moves.proofs.Truths.{truth-next}
 use Rattle.moves.specs.Truth.{truths}
 use Rattle.sets.proofs.Loops.{below-turn}
-use lib.ListN.{length-set, length-replicate}
+use lib.ListN.{length-set}
 use mathlib.Core.Bool.{false}
 use mathlib.Core.Path.{_≡_, refl, sym, ap, _∙_}
 use mathlib.Core.List.{List, [], _∷_, _++_, append-nil, append-assoc}
@@ -10,48 +10,43 @@ use native.Mathlib.Omega.{arith}
 use borrow.Author.Needs.{needs}
 use denote.Ref.{now}
 use lib.ListN.{length, getD, set, take, drop, replicate}
-use Rattle.moves.proofs.truth.judge.Statement.{statement}
-use Rattle.moves.proofs.truth.judge.Tie as tie
-use Rattle.moves.proofs.truth.judge.Reads as reads
-use Rattle.moves.proofs.truth.judge.Lts as lts
-use Rattle.card.proofs.nodes.no_marks.Reads as no-marks-reads
+use Rattle.moves.proofs.truth.mark_nodes.Statement.{statement}
+use Rattle.moves.proofs.truth.mark_nodes.Tie as tie
+use Rattle.moves.proofs.truth.mark_nodes.Reads as reads
+use Rattle.moves.proofs.truth.mark_nodes.Lts as lts
 use Rattle.moves.proofs.truth.truth_at.Reads as truth-at-reads
 
 abbrev Inv-loop : tie.InvT-loop
-Inv-loop card l beliefs goals n marks₀ i₀ marks i = (i ≤ n) × (length marks ≡ 256) × ((j : ℕ) → j < i → getD marks j false ≡ getD (truths l card beliefs goals) j false)
+Inv-loop card l beliefs goals marks₀ n i₀ marks i = (i ≤ n) × (length marks ≡ 256) × ((j : ℕ) → j < i → getD marks j false ≡ getD (truths l card beliefs goals) j false)
 
 abbrev μ-loop : tie.MeasureT-loop
-μ-loop card l beliefs goals n marks₀ i₀ marks i = n - i
+μ-loop card l beliefs goals marks₀ n i₀ marks i = n - i
 
--- src/truth.rt:43:21
-no-marks-requires : tie.Need-no-marks-requires Inv-loop μ-loop
-no-marks-requires c κs = search needs
-
--- src/truth.rt:45:5
+-- src/truth.rt:57:5
 loop-holds : tie.Need-loop-holds Inv-loop μ-loop
-loop-holds c = (omega arith, rw (c .no-marks .ensures) (length-replicate 256 false), λ j h. absurd (omega arith))
+loop-holds c = (omega arith, c .before .before .pre .1, λ j h. absurd (omega arith))
 
--- src/truth.rt:46:13
+-- src/truth.rt:58:13
 truth-at-requires : tie.Need-truth-at-requires Inv-loop μ-loop
 truth-at-requires c κs = search needs
 
--- src/truth.rt:47:9
-array-write-marks : tie.Need-array-write-marks Inv-loop μ-loop
-array-write-marks c = search needs
+-- src/truth.rt:59:9
+element-write-marks : tie.Need-element-write-marks Inv-loop μ-loop
+element-write-marks c = search needs
 
--- src/truth.rt:48:9
+-- src/truth.rt:60:9
 add-i : tie.Need-add-i Inv-loop μ-loop
 add-i c = search needs
 
--- src/truth.rt:45:5
+-- src/truth.rt:57:5
 loop-less : tie.Need-loop-less Inv-loop μ-loop
 loop-less c = search needs
 
--- src/truth.rt:45:5
+-- src/truth.rt:57:5
 loop-again : tie.Need-loop-again Inv-loop μ-loop
 loop-again c =
-    let a = c .before .before .before .before .before .before .before .args in
-    let p = c .before .before .before .before .before .before .before .pre in
+    let a = c .before .before .before .before .before .before .args in
+    let p = c .before .before .before .before .before .before .pre .0 in
     let l = c .before .before .before .loop in
     let b = now (a .card) in
     let k : l .i < a .l .nodes .count = omega arith in
@@ -62,20 +57,19 @@ loop-again c =
           (c .truth-at .ensures ∙ truth-next (a .l) b (p .nodes) (a .beliefs) (a .goals) (l .i) k (l .marks) (l .inv .2)),
     )
 
--- src/truth.rt:37:1
+-- src/truth.rt:44:1
 returns : tie.Need-returns Inv-loop μ-loop
-returns c = λ n h. c .before .loop .inv .2 n (omega arith)
+returns c = (λ n h. c .before .loop .inv .2 n (omega arith), c .before .loop .inv .1)
 
-pub judge-spec : {M : Type 1} → statement M
-judge-spec =
+pub mark-nodes-spec : {M : Type 1} → statement M
+mark-nodes-spec =
     tie.close
     (tie.spec
     Inv-loop
     μ-loop
-    no-marks-requires
     loop-holds
     truth-at-requires
-    array-write-marks
+    element-write-marks
     add-i
     loop-less
     loop-again

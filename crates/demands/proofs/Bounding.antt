@@ -1,0 +1,83 @@
+-- Demand 3: a card that is graded bounded is, and bounds its runs.
+use mathlib.Core.Path.{_≡_, refl, ap, _∙_, sym}
+use mathlib.Core.Logic.{_↔_}
+use mathlib.Core.List.{[], _∷_, _++_}
+use Prim.Native.Nat.{ℕ, _+_, _≤_, _<_}
+use native.Mathlib.Omega.{arith}
+use lib.ListN.{length}
+use Rattle.house.specs.declared.Ending.{Ending}
+use Rattle.house.specs.declared.Offender.{Offender}
+use Rattle.house.specs.declared.Verdict.{Verdict}
+use Rattle.house.specs.Order.{State, after}
+use Rattle.house.specs.Run.{stay, _then_}
+use Rattle.house.specs.Weight.{weigh, Bounded, verdict}
+use Rattle.house.specs.Theorems as House
+use Rattle.meaning.specs.declared.Refusal.{Refusal}
+use Rattle.meaning.specs.declared.Answer.the-variants.{Done, Refused}
+use Rattle.meaning.specs.declared.Configuration.{Configuration}
+use Rattle.meaning.specs.declared.Reply.{Reply}
+use Rattle.meaning.specs.declared.Graded.{Graded}
+use Rattle.meaning.specs.declared.Ran.{Ran}
+use Rattle.meaning.specs.Card.{Bytes, weight, agent, initialPlan}
+use Rattle.meaning.specs.Configurations.{stateOf}
+use Rattle.meaning.specs.Refusals.{numberOf, answerNumber, cardAnswer, configurationAnswer}
+use Rattle.meaning.proofs.Tables.{done≢refused}
+use Rattle.meaning.proofs.Accepted.{card-laws}
+use Rattle.demands.specs.Contracts.{Grades}
+use Rattle.demands.specs.Demands.{doneOrCard}
+use Rattle.demands.proofs.Among.{outside, configuration-among}
+use Rattle.demands.proofs.Codes.{led}
+use Rattle.demands.proofs.Choosing.{full≢not-enabled}
+use Rattle.demands.proofs.Ways.{Grading, Running, Taking, refused, not-enabled, plan-full, done, grading}
+
+open≢bounded : {o : Offender} → Verdict.Open o ≡ Verdict.Bounded → ⊥
+open≢bounded e = let z : _≡_ {A = ℕ} 0 1 = cc in omega arith
+
+spent≢full : Ending.Spent ≡ Ending.Full → ⊥
+spent≢full e = let z : _≡_ {A = ℕ} 0 1 = cc in omega arith
+
+-- neither the card nor the configuration is refused with 11
+never-by-configuration : (b : Bytes) (c : Configuration) → configurationAnswer b c ≡ Refused Refusal.PlanFull → ⊥
+unfolding doneOrCard answerNumber numberOf
+never-by-configuration b c e = outside (doneOrCard ++ (13 ∷ [])) 11 refl (rw e at (configuration-among b c))
+
+pub graded-exactly : (b : Bytes) → cardAnswer b ≡ Done → (g : Graded) → Grading b g → (g .verdict ≡ Verdict.Bounded) ↔ Bounded (weight b) (agent b) (initialPlan b)
+graded-exactly b e g (done h) = card-laws b h .demand3 .exactly
+graded-exactly b e g (refused h) = absurd (done≢refused (sym e ∙ h))
+
+pub refused-never : (b : Bytes) (g : Graded) → Grading b g → (q : Refusal) → g .answer ≡ Refused q → g .verdict ≡ Verdict.Bounded → ⊥
+refused-never b g (done h) q e v = done≢refused e
+refused-never b g (refused h) q e v = open≢bounded v
+
+-- a card that is graded bounded is accepted, and its verdict is that of the definition
+its-verdict : (b : Bytes) (g : Graded) → Grading b g → g .verdict ≡ Verdict.Bounded
+    → (cardAnswer b ≡ Done) × (verdict (weight b) (agent b) (initialPlan b) ≡ Verdict.Bounded)
+its-verdict b g (done h) v = (h, v)
+its-verdict b g (refused h) v = absurd (open≢bounded v)
+
+module _ (b : Bytes) (g : Graded) (e : Grades b g) (v : g .verdict ≡ Verdict.Bounded) where
+  accepted : cardAnswer b ≡ Done
+  accepted = its-verdict b g (grading b g e) v .0
+
+  pub bounded : verdict (weight b) (agent b) (initialPlan b) ≡ Verdict.Bounded
+  bounded = its-verdict b g (grading b g e) v .1
+
+  pub law : House.Demand3 (weight b) (agent b) (initialPlan b)
+  law = card-laws b accepted .demand3
+
+  module _ (c : Configuration) (w : weigh (weight b) (stateOf c .mental .π) ≤ 1024) where
+    pub never-full : (budget : ℕ) (r : Ran) → Running b c budget r → r .ending ≡ Ending.Full → ⊥
+    never-full budget r (refused h) f = spent≢full f
+    never-full budget r (done h) f = law .never-full bounded (stateOf c) budget w f
+
+    pub never-plan-full : (n : ℕ) (r : Reply) → Taking b c n r → r .answer ≡ Refused Refusal.PlanFull → ⊥
+    unfolding after
+    never-plan-full n r (refused h) f = never-by-configuration b c (h ∙ f)
+    never-plan-full n r (not-enabled h l) f = full≢not-enabled (sym f)
+    never-plan-full n r (plan-full h s l t) f =
+        let m = led (agent b) (stateOf c) n s l in
+        let e : s .mental .π ≡ m .to .π = ap (λ (x : State). x .mental .π) (m .state) in
+        let k : length (m .to .π) ≤ 1024 = law .never-too-long bounded w (_then_ (m .step) stay) in
+        let j : 1024 < length (m .to .π) = rw e at t in
+        omega arith
+    never-plan-full n r (done h s l t) f = done≢refused f

@@ -1,0 +1,12 @@
+pub mod Among
+pub mod Ways
+pub mod Refusing
+pub mod Codes
+pub mod Choosing
+pub mod Moving
+pub mod Offering
+pub mod Ordering
+pub mod Saving
+pub mod Restoring
+pub mod Bounding
+pub mod Demands

@@ -1,0 +1,183 @@
+-- Demand 2: a place that is saved is accepted, and restored it is the same configuration.
+use mathlib.Core.Path.{_≡_, refl, ap, _∙_, sym}
+use mathlib.Core.Bool.{true, false, not, _&&_}
+use mathlib.Core.List.{List, [], _∷_, _++_}
+use Prim.Native.Nat.{_+_, _*_, _-_, _/_, _%_, _≤_}
+use native.Mathlib.Omega.{arith}
+use lib.Dec.{leb, ltb, eqb}
+use lib.ListN.{length, take, drop, length-append}
+use lib.Seq.{take-append-seam, drop-append-seam, length-take-le}
+use borrow.Author.Tests.{le-leb, le-ltb, eq-eqb}
+use Rattle.house.specs.Order.{State}
+use Rattle.meaning.specs.declared.Answer.the-variants.{Done}
+use Rattle.meaning.specs.declared.Layout.{Layout}
+use Rattle.meaning.specs.declared.Configuration.{Configuration}
+use Rattle.meaning.specs.declared.Reply.{Reply}
+use Rattle.meaning.specs.declared.Written.{Written}
+use Rattle.meaning.specs.Card.{Bytes, byte, number, part, layout}
+use Rattle.meaning.specs.Configurations.{stateOf, configurationOf}
+use Rattle.meaning.specs.Place.{placeHeader, place, placed}
+use Rattle.meaning.specs.Refusals.{Row, firstGiven, andThen, cardAnswer, placeTable, placeAnswer, actionsGood, setGood}
+use Rattle.meaning.specs.Calls.{reply, over, restores}
+use Rattle.meaning.proofs.Every.{both-true}
+use Rattle.meaning.proofs.Tables.{done≢refused, not-given}
+use Rattle.meaning.proofs.Places.{place-laws}
+use Rattle.meaning.proofs.Configurations.{good, configuration-laws}
+use Rattle.demands.specs.Contracts.{Shaped, Restores}
+use Rattle.demands.specs.Demands.{OnAccepted}
+use Rattle.demands.proofs.Choosing.{card-accepted}
+use Rattle.demands.proofs.Ordering.{passed-good, plan-fits}
+use Rattle.demands.proofs.Ways.{Writing, refused, no-room, done, restores-good}
+
+-- ---- a table whose rows are passed
+
+module _ {X : Type 0} where
+  row-passed : (q : Row X) (rows : List (Row X)) (x : X) → q .when x ≡ false → firstGiven rows x ≡ Done → firstGiven (q ∷ rows) x ≡ Done
+  row-passed q rows x h e = not-given q rows x h ∙ e
+
+  no-row : (x : X) → firstGiven [] x ≡ Done
+  unfolding firstGiven
+  no-row x = refl
+
+-- ---- what is saved is accepted
+
+-- a state whose place is accepted under a card's layout
+pub record Kept (l : Layout) (s : State) : Type 0 where
+  pub beliefs : length (s .mental .σ) ≡ 16
+  pub goals : length (s .mental .γ) ≡ 16
+  pub fits : length (s .mental .π) ≤ 1024
+  pub phase : s .phase ≤ 2
+  pub known-actions : actionsGood (l .actions) (s .mental .π) ≡ true
+  pub known-beliefs : setGood (l .atoms) (s .mental .σ) ≡ true
+  pub known-goals : setGood (l .atoms) (s .mental .γ) ≡ true
+
+module _ (l : Layout) (s : State) (k : Kept l s) where
+  same : placed (place s) ≡ s
+  same = place-laws .saved-restored s (k .beliefs) (k .goals) (k .phase)
+
+  length-place : length (place s) ≡ 44 + length (s .mental .π)
+  unfolding place placeHeader
+  length-place =
+      let σ = s .mental .σ in
+      let γ = s .mental .γ in
+      let π = s .mental .π in
+      let x : length (σ ++ (γ ++ π)) ≡ length σ + length (γ ++ π) = length-append σ (γ ++ π) in
+      let y : length (γ ++ π) ≡ length γ + length π = length-append γ π in
+      let m = k .beliefs in
+      let n = k .goals in
+      omega arith
+
+  length-at : number (place s) 4 ≡ length (s .mental .π)
+  unfolding place placeHeader
+  length-at =
+      let f = k .fits in
+      let n = length (s .mental .π) in
+      let z : n % 256 + 256 * (n / 256 % 256) ≡ n = omega arith in
+      z
+
+  phase-at : number (place s) 8 ≡ s .phase
+  unfolding placed
+  phase-at = ap (λ (x : State). x .phase) same
+
+  plan-at : drop 44 (place s) ≡ s .mental .π
+  unfolding placed
+  plan-at = ap (λ (x : State). x .mental .π) same
+
+  beliefs-at : part (place s) 12 16 ≡ s .mental .σ
+  unfolding placed
+  beliefs-at = ap (λ (x : State). x .mental .σ) same
+
+  goals-at : part (place s) 28 16 ≡ s .mental .γ
+  unfolding placed
+  goals-at = ap (λ (x : State). x .mental .γ) same
+
+  marked : (eqb (byte (place s) 0) 0x33 && (eqb (byte (place s) 1) 0x50 && eqb (number (place s) 2) 1)) ≡ true
+  unfolding place placeHeader
+  marked = refl
+
+  zeros : eqb (number (place s) 10) 0 ≡ true
+  unfolding place placeHeader
+  zeros = refl
+
+  offset : eqb (number (place s) 6) 44 ≡ true
+  unfolding place placeHeader
+  offset = refl
+
+  counted : (leb (number (place s) 4) 1024 && (leb (number (place s) 8) 2 && eqb (number (place s) 10) 0)) ≡ true
+  counted =
+      let a : leb (number (place s) 4) 1024 ≡ true = rw length-at (le-leb _ _ (k .fits)) in
+      let b : leb (number (place s) 8) 2 ≡ true = rw phase-at (le-leb _ _ (k .phase)) in
+      both-true _ _ a (both-true _ _ b zeros)
+
+  laid-out : (eqb (number (place s) 6) 44 && eqb (length (place s)) (44 + number (place s) 4)) ≡ true
+  laid-out = both-true _ _ offset (eq-eqb _ _ (length-place ∙ ap (λ n. 44 + n) (sym length-at)))
+
+  long-enough : ltb (length (place s)) 44 ≡ false
+  long-enough = let e = length-place in le-ltb (length (place s)) 44 (omega arith)
+
+  plan-good : actionsGood (l .actions) (drop 44 (place s)) ≡ true
+  plan-good = rw plan-at (k .known-actions)
+
+  beliefs-good : setGood (l .atoms) (part (place s) 12 16) ≡ true
+  beliefs-good = rw beliefs-at (k .known-beliefs)
+
+  goals-good : setGood (l .atoms) (part (place s) 28 16) ≡ true
+  goals-good = rw goals-at (k .known-goals)
+
+  pub place-done : firstGiven (placeTable l) (place s) ≡ Done
+  unfolding placeTable
+  place-done =
+      row-passed _ _ (place s) long-enough
+      (row-passed _ _ (place s) (ap not marked)
+      (row-passed _ _ (place s) (ap not counted)
+      (row-passed _ _ (place s) (ap not laid-out)
+      (row-passed _ _ (place s) (ap not plan-good)
+      (row-passed _ _ (place s) (ap not (both-true _ _ beliefs-good goals-good))
+      (no-row (place s)))))))
+
+place-accepted : (b : Bytes) (s : State) → cardAnswer b ≡ Done → Kept (layout b) s → placeAnswer b (place s) ≡ Done
+unfolding placeAnswer
+place-accepted b s e k = ap (λ a. andThen a (firstGiven (placeTable (layout b)) (place s))) e ∙ place-done (layout b) s k
+
+kept : (b : Bytes) (c : Configuration) → OnAccepted b c → Shaped c → Kept (layout b) (stateOf c)
+unfolding stateOf
+kept b c on h =
+    let g = good (layout b) c (passed-good b c on) in
+    record {
+      beliefs = h .beliefs .0;
+      goals = h .goals .0;
+      fits = plan-fits b c on;
+      phase = g .phase;
+      known-actions = g .actions;
+      known-beliefs = g .beliefs;
+      known-goals = g .goals;
+    }
+
+pub saved-restored : (b : Bytes) (c : Configuration) → Shaped c → (out left : Bytes) (r : Written) → Writing b c (place (stateOf c)) out r left
+    → r .answer ≡ Done → (r′ : Reply) → Restores b (take (r .count) left) r′ → (r′ .answer ≡ Done) × (r′ .configuration ≡ c)
+saved-restored b c h out left r (refused w) e r′ f = absurd (done≢refused (sym e))
+saved-restored b c h out left r (no-room w l) e r′ f = absurd (done≢refused (sym e))
+saved-restored b c h out left r (done on l) e r′ f =
+    let p = place (stateOf c) in
+    let k = kept b c on h in
+    let t : take (length p) (over p out) ≡ p = take-append-seam p (drop (length p) out) in
+    let a : placeAnswer b p ≡ Done = place-accepted b (stateOf c) (card-accepted b c on) k in
+    let z : r′ ≡ reply Done (configurationOf (placed p)) = f ∙ ap (restores b) t ∙ restores-good b p a in
+    let y : configurationOf (placed p) ≡ c = ap configurationOf (same (layout b) (stateOf c) k) ∙ configuration-laws .of-configuration (layout b) c (h .plan .0) (passed-good b c on) in
+    (ap (λ (x : Reply). x .answer) z, ap (λ (x : Reply). x .configuration) z ∙ y)
+
+-- ---- 44 + L bytes, and no others
+
+pub saved-length : (b : Bytes) (c : Configuration) → Shaped c → OnAccepted b c → length (place (stateOf c)) ≡ 44 + c .length
+unfolding stateOf
+saved-length b c h on =
+    let f : c .length ≤ 1024 = good (layout b) c (passed-good b c on) .fits in
+    let p : length (c .plan) ≡ 1024 = h .plan .0 in
+    let n : length (take (c .length) (c .plan)) ≡ c .length = length-take-le (c .length) (c .plan) (omega arith) in
+    length-place (layout b) (stateOf c) (kept b c on h) ∙ ap (λ k. 44 + k) n
+
+pub saved : (b : Bytes) (c : Configuration) → Shaped c → (out left : Bytes) (r : Written) → Writing b c (place (stateOf c)) out r left → r .answer ≡ Done
+    → (r .count ≡ 44 + c .length) × (drop (r .count) left ≡ drop (r .count) out)
+saved b c h out left r (refused w) e = absurd (done≢refused (sym e))
+saved b c h out left r (no-room w l) e = absurd (done≢refused (sym e))
+saved b c h out left r (done on l) e = (saved-length b c h on, drop-append-seam (place (stateOf c)) (drop (length (place (stateOf c))) out))

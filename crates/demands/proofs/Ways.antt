@@ -1,0 +1,171 @@
+-- The ways in which each call may answer, with what holds in each.
+use mathlib.Core.Path.{_≡_, refl, _∙_}
+use mathlib.Core.Bool.{Bool, true, false}
+use mathlib.Core.List.{List}
+use mathlib.Core.Option.{Option, none, some}
+use Prim.Native.Nat.{ℕ, _≤_, _<_}
+use lib.Dec.{leb}
+use lib.ListN.{length}
+use borrow.Author.Tests.{leb-true, leb-false}
+use Rattle.house.specs.declared.Ending.{Ending}
+use Rattle.house.specs.declared.Offender.{Offender}
+use Rattle.house.specs.declared.Verdict.{Verdict}
+use Rattle.house.specs.Order.{State, enabledCodes}
+use Rattle.house.specs.Run.{fits, run}
+use Rattle.house.specs.Weight.{verdict}
+use Rattle.meaning.specs.declared.Refusal.{Refusal}
+use Rattle.meaning.specs.declared.Answer.{Answer}
+use Rattle.meaning.specs.declared.Answer.the-variants.{Done, Refused}
+use Rattle.meaning.specs.declared.Configuration.{Configuration}
+use Rattle.meaning.specs.declared.Checked.{Checked}
+use Rattle.meaning.specs.declared.Reply.{Reply}
+use Rattle.meaning.specs.declared.Graded.{Graded}
+use Rattle.meaning.specs.declared.Written.{Written}
+use Rattle.meaning.specs.declared.Ran.{Ran}
+use Rattle.meaning.specs.Card.{Bytes, layout, weight, agent, initialPlan, start}
+use Rattle.meaning.specs.Configurations.{stateOf, configurationOf, empty}
+use Rattle.meaning.specs.Place.{place, placed}
+use Rattle.meaning.specs.Refusals.{cardAnswer, placeAnswer, configurationAnswer}
+use Rattle.meaning.specs.Calls.{reply, graded, written, over, leadsTo, ran, saves, saveLeaves, restores}
+use Rattle.meaning.proofs.Calls.{checks-good, checks-refused, loads-good, loads-refused, grades-good, grades-refused}
+use Rattle.meaning.proofs.Calls.{lists-refused, lists-room, lists-no-room, takes-refused, takes-nothing, takes-full, takes-move, runs-refused, runs-good}
+use Rattle.demands.specs.Contracts.{Checks, Loads, Grades, Lists, Takes, Runs, Saves, Restores}
+
+-- ---- check, load, grade, restore
+
+pub data Checking (b : Bytes) : Checked → Type 0 where
+  good : cardAnswer b ≡ Done → Checking b (Checked.Good (layout b))
+  refused : {q : Refusal} → cardAnswer b ≡ Refused q → Checking b (Checked.Refused q)
+
+pub checking : (b : Bytes) (r : Checked) → Checks b r → Checking b r
+checking b r e = go (cardAnswer b) refl
+  where
+    go : (a : Answer) → cardAnswer b ≡ a → Checking b r
+    go Done h = rw (e ∙ checks-good b h) (good h)
+    go (Refused q) h = rw (e ∙ checks-refused b q h) (refused h)
+
+-- an answer with a configuration that comes from nothing but bytes: the one reached, or the empty one
+pub data Replying (a : Answer) (s : State) : Reply → Type 0 where
+  done : a ≡ Done → Replying a s (reply Done (configurationOf s))
+  refused : {q : Refusal} → a ≡ Refused q → Replying a s (reply (Refused q) empty)
+
+pub loading : (b : Bytes) (r : Reply) → Loads b r → Replying (cardAnswer b) (start b) r
+loading b r e = go (cardAnswer b) refl
+  where
+    go : (a : Answer) → cardAnswer b ≡ a → Replying (cardAnswer b) (start b) r
+    go Done h = rw (e ∙ loads-good b h) (done h)
+    go (Refused q) h = rw (e ∙ loads-refused b q h) (refused h)
+
+pub restores-good : (b p : Bytes) → placeAnswer b p ≡ Done → restores b p ≡ reply Done (configurationOf (placed p))
+unfolding restores
+restores-good b p e = rw (e, restores)
+
+pub restores-refused : (b p : Bytes) (q : Refusal) → placeAnswer b p ≡ Refused q → restores b p ≡ reply (Refused q) empty
+unfolding restores
+restores-refused b p q e = rw (e, restores)
+
+pub restoring : (b p : Bytes) (r : Reply) → Restores b p r → Replying (placeAnswer b p) (placed p) r
+restoring b p r e = go (placeAnswer b p) refl
+  where
+    go : (a : Answer) → placeAnswer b p ≡ a → Replying (placeAnswer b p) (placed p) r
+    go Done h = rw (e ∙ restores-good b p h) (done h)
+    go (Refused q) h = rw (e ∙ restores-refused b p q h) (refused h)
+
+pub data Grading (b : Bytes) : Graded → Type 0 where
+  done : cardAnswer b ≡ Done → Grading b (graded Done (verdict (weight b) (agent b) (initialPlan b)))
+  refused : {q : Refusal} → cardAnswer b ≡ Refused q → Grading b (graded (Refused q) (Verdict.Open Offender.InitialPlan))
+
+pub grading : (b : Bytes) (r : Graded) → Grades b r → Grading b r
+grading b r e = go (cardAnswer b) refl
+  where
+    go : (a : Answer) → cardAnswer b ≡ a → Grading b r
+    go Done h = rw (e ∙ grades-good b h) (done h)
+    go (Refused q) h = rw (e ∙ grades-refused b q h) (refused h)
+
+-- ---- list and save: xs is to be written to out
+
+pub data Writing (b : Bytes) (c : Configuration) (xs out : List ℕ) : Written → List ℕ → Type 0 where
+  refused : {q : Refusal} → configurationAnswer b c ≡ Refused q → Writing b c xs out (written (Refused q) 0 c) out
+  no-room : configurationAnswer b c ≡ Done → length out < length xs → Writing b c xs out (written (Refused Refusal.NoRoom) 0 c) out
+  done : configurationAnswer b c ≡ Done → length xs ≤ length out → Writing b c xs out (written Done (length xs) c) (over xs out)
+
+pub listing : (b : Bytes) (c : Configuration) (out left : List ℕ) (r : Written) → Lists b c out r left → Writing b c (enabledCodes (agent b) (stateOf c .mental)) out r left
+listing b c out left r (e, f) = go (configurationAnswer b c) refl
+  where
+    xs : List ℕ
+    xs = enabledCodes (agent b) (stateOf c .mental)
+
+    room : (t : Bool) → leb (length xs) (length out) ≡ t → configurationAnswer b c ≡ Done → Writing b c xs out r left
+    room true h k = let (p, q) = lists-room b c k out h in rw (e ∙ p, f ∙ q) (done k (leb-true _ _ h))
+    room false h k = let (p, q) = lists-no-room b c k out h in rw (e ∙ p, f ∙ q) (no-room k (leb-false _ _ h))
+
+    go : (a : Answer) → configurationAnswer b c ≡ a → Writing b c xs out r left
+    go Done h = room (leb (length xs) (length out)) refl h
+    go (Refused z) h = let (p, q) = lists-refused b c out z h in rw (e ∙ p, f ∙ q) (refused h)
+
+module _ (b : Bytes) (c : Configuration) (out : Bytes) where
+  pub saves-refused : (q : Refusal) → configurationAnswer b c ≡ Refused q → (saves b c out ≡ written (Refused q) 0 c) × (saveLeaves b c out ≡ out)
+  unfolding saves saveLeaves
+  saves-refused q e = (rw (e, saves), rw (e, saveLeaves))
+
+  module _ (good : configurationAnswer b c ≡ Done) where
+    pub saves-room : leb (length (place (stateOf c))) (length out) ≡ true
+        → (saves b c out ≡ written Done (length (place (stateOf c))) c) × (saveLeaves b c out ≡ over (place (stateOf c)) out)
+    unfolding saves saveLeaves
+    saves-room e = (rw (good, saves, e), rw (good, saveLeaves, e))
+
+    pub saves-no-room : leb (length (place (stateOf c))) (length out) ≡ false
+        → (saves b c out ≡ written (Refused Refusal.NoRoom) 0 c) × (saveLeaves b c out ≡ out)
+    unfolding saves saveLeaves
+    saves-no-room e = (rw (good, saves, e), rw (good, saveLeaves, e))
+
+pub saving : (b : Bytes) (c : Configuration) (out left : Bytes) (r : Written) → Saves b c out r left → Writing b c (place (stateOf c)) out r left
+saving b c out left r (e, f) = go (configurationAnswer b c) refl
+  where
+    room : (t : Bool) → leb (length (place (stateOf c))) (length out) ≡ t → configurationAnswer b c ≡ Done → Writing b c (place (stateOf c)) out r left
+    room true h k = let (p, q) = saves-room b c out k h in rw (e ∙ p, f ∙ q) (done k (leb-true _ _ h))
+    room false h k = let (p, q) = saves-no-room b c out k h in rw (e ∙ p, f ∙ q) (no-room k (leb-false _ _ h))
+
+    go : (a : Answer) → configurationAnswer b c ≡ a → Writing b c (place (stateOf c)) out r left
+    go Done h = room (leb (length (place (stateOf c))) (length out)) refl h
+    go (Refused z) h = let (p, q) = saves-refused b c out z h in rw (e ∙ p, f ∙ q) (refused h)
+
+-- ---- take
+
+pub data Taking (b : Bytes) (c : Configuration) (n : ℕ) : Reply → Type 0 where
+  refused : {q : Refusal} → configurationAnswer b c ≡ Refused q → Taking b c n (reply (Refused q) c)
+  not-enabled : configurationAnswer b c ≡ Done → leadsTo (agent b) (stateOf c) n ≡ none → Taking b c n (reply (Refused Refusal.NotEnabled) c)
+  plan-full : configurationAnswer b c ≡ Done → (s : State) → leadsTo (agent b) (stateOf c) n ≡ some s → 1024 < length (s .mental .π)
+      → Taking b c n (reply (Refused Refusal.PlanFull) c)
+  done : configurationAnswer b c ≡ Done → (s : State) → leadsTo (agent b) (stateOf c) n ≡ some s → length (s .mental .π) ≤ 1024
+      → Taking b c n (reply Done (configurationOf s))
+
+pub taking : (b : Bytes) (c : Configuration) (n : ℕ) (r : Reply) → Takes b c n r → Taking b c n r
+unfolding fits
+taking b c n r e = go (configurationAnswer b c) refl
+  where
+    fitting : configurationAnswer b c ≡ Done → (s : State) → leadsTo (agent b) (stateOf c) n ≡ some s → (t : Bool) → fits s ≡ t → Taking b c n r
+    fitting k s l true f = rw (e ∙ takes-move b c k n s l f) (done k s l (leb-true _ _ f))
+    fitting k s l false f = rw (e ∙ takes-full b c k n s l f) (plan-full k s l (leb-false _ _ f))
+
+    led : configurationAnswer b c ≡ Done → (o : Option State) → leadsTo (agent b) (stateOf c) n ≡ o → Taking b c n r
+    led k none l = rw (e ∙ takes-nothing b c k n l) (not-enabled k l)
+    led k (some s) l = fitting k s l (fits s) refl
+
+    go : (a : Answer) → configurationAnswer b c ≡ a → Taking b c n r
+    go Done h = led h (leadsTo (agent b) (stateOf c) n) refl
+    go (Refused q) h = rw (e ∙ takes-refused b c n q h) (refused h)
+
+-- ---- run
+
+pub data Running (b : Bytes) (c : Configuration) (budget : ℕ) : Ran → Type 0 where
+  refused : {q : Refusal} → configurationAnswer b c ≡ Refused q
+      → Running b c budget (record { answer = Refused q; count = 0; ending = Ending.Spent; configuration = c })
+  done : configurationAnswer b c ≡ Done → Running b c budget (ran (run (agent b) budget (stateOf c)))
+
+pub running : (b : Bytes) (c : Configuration) (budget : ℕ) (r : Ran) → Runs b c budget r → Running b c budget r
+running b c budget r e = go (configurationAnswer b c) refl
+  where
+    go : (a : Answer) → configurationAnswer b c ≡ a → Running b c budget r
+    go Done h = rw (e ∙ runs-good b c h budget) (done h)
+    go (Refused q) h = rw (e ∙ runs-refused b c budget q h) (refused h)

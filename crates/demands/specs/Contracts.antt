@@ -1,0 +1,60 @@
+-- What the contract of each of the eight calls says of an answer r, and of what a lent buffer holds afterwards (left). The
+-- definitions are meaning's.
+use mathlib.Core.Path.{_≡_}
+use mathlib.Core.List.{List}
+use Prim.Native.Nat.{ℕ, _<_}
+use lib.ListN.{length}
+use Rattle.paper.specs.Theorems.{AreBytes}
+use Rattle.meaning.specs.declared.Configuration.{Configuration}
+use Rattle.meaning.specs.declared.Checked.{Checked}
+use Rattle.meaning.specs.declared.Reply.{Reply}
+use Rattle.meaning.specs.declared.Graded.{Graded}
+use Rattle.meaning.specs.declared.Written.{Written}
+use Rattle.meaning.specs.declared.Ran.{Ran}
+use Rattle.meaning.specs.Card.{Bytes}
+use Rattle.meaning.specs.Calls.{checks, loads, grades, lists, listLeaves, takes, runs, saves, saveLeaves, restores}
+
+-- 01, "What the guide does": "check a card"
+abbrev pub Checks : Bytes → Checked → Type 0
+Checks b r = r ≡ checks b
+
+-- 01, "What the guide does": "load it"
+abbrev pub Loads : Bytes → Reply → Type 0
+Loads b r = r ≡ loads b
+
+-- 01, "What the guide does": "grade the card"
+abbrev pub Grades : Bytes → Graded → Type 0
+Grades b r = r ≡ grades b
+
+-- 01, "What the guide does": "list the enabled moves"
+abbrev pub Lists : Bytes → Configuration → List ℕ → Written → List ℕ → Type 0
+Lists b c out r left = (r ≡ lists b c out) × (left ≡ listLeaves b c out)
+
+-- 01, "What the guide does": "take a chosen move"
+abbrev pub Takes : Bytes → Configuration → ℕ → Reply → Type 0
+Takes b c n r = r ≡ takes b c n
+
+-- 01, "What the guide does": "run by itself"
+abbrev pub Runs : Bytes → Configuration → ℕ → Ran → Type 0
+Runs b c budget r = r ≡ runs b c budget
+
+-- 01, "What the guide does": "save a place"
+abbrev pub Saves : Bytes → Configuration → Bytes → Written → Bytes → Type 0
+Saves b c out r left = (r ≡ saves b c out) × (left ≡ saveLeaves b c out)
+
+-- 01, "What the guide does": "and restore it"
+abbrev pub Restores : Bytes → Bytes → Reply → Type 0
+Restores b p r = r ≡ restores b p
+
+-- What the types of its fields say of any configuration that is handed in.
+pub record Shaped (c : Configuration) : Type 0 where
+  -- 01, "The card, edition 1": "A set of atoms is 16 bytes"
+  pub beliefs : (length (c .beliefs) ≡ 16) × AreBytes (c .beliefs)
+  -- 01, "The card, edition 1": "A set of atoms is 16 bytes"
+  pub goals : (length (c .goals) ≡ 16) × AreBytes (c .goals)
+  -- 00, the machine: "A plan holds up to 1,024 actions."
+  pub plan : (length (c .plan) ≡ 1024) × AreBytes (c .plan)
+  -- the plan's length is a number of two bytes
+  pub length : c .length < 65536
+  -- the phase is a byte
+  pub phase : c .phase < 256

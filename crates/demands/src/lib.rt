@@ -1,0 +1,1 @@
+// The demands of the letter. It holds no code.

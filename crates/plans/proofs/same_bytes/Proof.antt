@@ -1,0 +1,83 @@
+use Rattle.plans.proofs.Laws.{differing-more}
+use Rattle.sets.proofs.Loops.{Kept, kept-start, kept-turn, kept-all}
+use lib.Dec.{eqb}
+use mathlib.Core.Bool.{Bool, _&&_}
+use mathlib.Core.Path.{_≡_, refl, sym, ap, _∙_}
+use mathlib.Core.List.{List, [], _∷_, _++_, append-nil, append-assoc}
+use Prim.Native.Nat.{ℕ, suc, _+_, _-_, _*_, _≤_, _<_}
+use native.Mathlib.Omega.{arith}
+use borrow.Author.Needs.{needs}
+use denote.Ref.{now}
+use lib.ListN.{length, getD, set, take, drop, replicate}
+use Rattle.plans.proofs.same_bytes.Statement.{statement}
+use Rattle.plans.proofs.same_bytes.Tie as tie
+use Rattle.plans.proofs.same_bytes.Reads as reads
+use Rattle.plans.proofs.same_bytes.Lts as lts
+
+abbrev Inv-loop : tie.InvT-loop
+Inv-loop card at plan from n differing₀ i₀ differing i = (i ≤ n) × Kept (λ j. eqb (getD card (at + j) 0) (getD plan (from + j) 0)) n (eqb differing 0) i
+
+abbrev μ-loop : tie.MeasureT-loop
+μ-loop card at plan from n differing₀ i₀ differing i = n - i
+
+-- src/lib.rt:107:5
+loop-holds : tie.Need-loop-holds Inv-loop μ-loop
+loop-holds c =
+    let a = c .args in
+    (omega arith, kept-start (λ j. eqb (getD (now (a .card)) (a .at + j) 0) (getD (now (a .plan)) (a .from + j) 0)) (a .n))
+
+-- src/lib.rt:108:39
+add-differing : tie.Need-add-differing Inv-loop μ-loop
+add-differing c = search needs
+
+-- src/lib.rt:108:34
+shared-slice-read-differing : tie.Need-shared-slice-read-differing Inv-loop μ-loop
+shared-slice-read-differing c = search needs
+
+-- src/lib.rt:108:54
+add-differing-2 : tie.Need-add-differing-2 Inv-loop μ-loop
+add-differing-2 c = search needs
+
+-- src/lib.rt:108:49
+element-copy-out-differing : tie.Need-element-copy-out-differing Inv-loop μ-loop
+element-copy-out-differing c = search needs
+
+-- src/lib.rt:109:9
+add-i : tie.Need-add-i Inv-loop μ-loop
+add-i c = search needs
+
+-- src/lib.rt:107:5
+loop-less : tie.Need-loop-less Inv-loop μ-loop
+loop-less c = search needs
+
+-- src/lib.rt:107:5
+loop-again : tie.Need-loop-again Inv-loop μ-loop
+loop-again c =
+    let a = c .before .before .before .before .args in
+    let l = c .before .before .before .loop in
+    let t : ℕ → Bool = λ j. eqb (getD (now (a .card)) (a .at + j) 0) (getD (now (a .plan)) (a .from + j) 0) in
+    let k : Kept t (a .n) (eqb (l .differing) 0 && t (l .i)) (l .i + 1) = kept-turn t (a .n) (eqb (l .differing) 0) (l .i) (omega arith) (l .inv .1) in
+    (omega arith, rw (← differing-more (l .differing) (getD (now (a .card)) (a .at + l .i) 0) (getD (now (a .plan)) (a .from + l .i) 0)) at k)
+
+-- src/lib.rt:101:1
+returns : tie.Need-returns Inv-loop μ-loop
+returns c =
+    let a = c .before .before .args in
+    let l = c .before .loop in
+    kept-all (λ j. eqb (getD (now (a .card)) (a .at + j) 0) (getD (now (a .plan)) (a .from + j) 0)) (a .n) (eqb (l .differing) 0) (l .i) (omega arith) (l .inv .1)
+
+pub same-bytes-spec : {M : Type 1} → statement M
+same-bytes-spec =
+    tie.close
+    (tie.spec
+    Inv-loop
+    μ-loop
+    loop-holds
+    add-differing
+    shared-slice-read-differing
+    add-differing-2
+    element-copy-out-differing
+    add-i
+    loop-less
+    loop-again
+    returns)

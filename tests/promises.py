@@ -1,0 +1,273 @@
+#!/usr/bin/env python3
+"""Holds docs/PROMISES.md against the tree: every file, name and edit in it is there, and every edit of the tree is in it.
+
+    python3 tests/promises.py [--documents DIR]    the last line is 'N passed, M failed'
+    python3 tests/promises.py --lines              how many lines of definitions there are, file by file, in reading order
+
+With --documents the quoted sentences are looked for in DIR/00-letter.md and DIR/01-scope.md too. The notation is explained at the
+head of docs/PROMISES.md. Python 3.9 or later, standard library only.
+"""
+
+import argparse
+import os
+import re
+import sys
+from typing import NamedTuple
+
+TOP = os.path.dirname(os.path.dirname(os.path.abspath(__file__)))
+PROMISES = "docs/PROMISES.md"
+DOCUMENTS = ("00-letter.md", "01-scope.md")
+THEOREMS = "## The theorems"
+
+# What a reader has to read, in an order in which each file uses only what stands before it.
+READING = (
+    ("the agent and its transitions", ("paper/specs/Atoms.antt", "paper/specs/Language.antt", "paper/specs/Transitions.antt")),
+    ("the transitions as a function", ("paper/specs/Next.antt",)),
+    ("the order, a run, the grade", ("house/src/lib.rt", "house/specs/Order.antt", "house/specs/Run.antt", "house/specs/Weight.antt")),
+    ("a card's bytes, a configuration, a place", ("meaning/src/lib.rt", "meaning/specs/Card.antt", "meaning/specs/Configurations.antt",
+                                                  "meaning/specs/Place.antt")),
+    ("the refusals and the eight answers", ("meaning/specs/Refusals.antt", "meaning/specs/Calls.antt", "meaning/specs/Numbers.antt")),
+    ("what is proved of the definitions", ("paper/specs/Theorems.antt", "house/specs/Theorems.antt", "meaning/specs/Theorems.antt")),
+    ("the letter's demands", ("demands/specs/Contracts.antt", "demands/specs/Demands.antt")),
+    ("the cases", ("paper/specs/Cases.antt", "meaning/specs/Stripe.antt", "meaning/specs/Cases.antt")),
+)
+READ_CRATES = ("paper", "house", "meaning", "demands")
+
+
+class Piece(NamedTuple):
+    """A cell of a table, a paragraph or an item of a list: the line it begins on, its text, the heading it stands under, and its
+    column (0 for a row's first cell, -1 outside tables)."""
+
+    line: int
+    text: str
+    heading: str
+    column: int
+
+
+class Tally:
+    """What was looked at: how often it was so, and what was not."""
+
+    def __init__(self):
+        self.passed = 0
+        self.failed = 0
+
+    def hold(self, line, so, what):
+        if so:
+            self.passed += 1
+        else:
+            self.failed += 1
+            print(f"{PROMISES}:{line}: {what}")
+
+
+# ---- the page
+
+
+def pieces(text):
+    """The pieces of a page; commands (four spaces) and the lines under the heads of tables are left out."""
+    found, heading, paragraph, began = [], "", [], 0
+
+    def flush():
+        if paragraph:
+            found.append(Piece(began, " ".join(paragraph), heading, -1))
+        paragraph.clear()
+
+    for number, line in enumerate(text.split("\n"), 1):
+        if line.startswith("|"):
+            flush()
+            if not re.fullmatch(r"[|\s:-]+", line):
+                for column, cell in enumerate(line.strip().strip("|").split("|")):
+                    found.append(Piece(number, cell.strip(), heading, column))
+        elif line.startswith("#"):
+            flush()
+            heading = line.strip()
+        elif not line.strip() or line.startswith("    "):
+            flush()
+        else:
+            if line.startswith("- "):
+                flush()
+            if not paragraph:
+                began = number
+            paragraph.append(line.strip())
+    flush()
+    return found
+
+
+def spans(text):
+    return re.findall(r"`([^`]*)`", text)
+
+
+# ---- the tree
+
+
+def where(path):
+    """A path from the top of the tree, or from crates/; None if there is nothing."""
+    for start in ("", "crates"):
+        if os.path.exists(os.path.join(TOP, start, path)):
+            return os.path.join(TOP, start, path)
+    return None
+
+
+def read(path):
+    with open(path, encoding="utf-8") as file:
+        return file.read()
+
+
+def antt_names(text):
+    """The declarations of a file of antt, each with its fields or constructors."""
+    names, last = {}, None
+    for line in text.split("\n"):
+        if line.strip().startswith("--"):
+            continue
+        head = re.match(r"\s*(?:pub )?(?:record|data) (\S+)", line)
+        if head:
+            last = head.group(1)
+            names[last] = set()
+            continue
+        signature = re.match(r"\s*(?:(?:unfoldable|abbrev|pub) )*([^\s(){}=,→]+(?: [^\s(){}=,→]+)*) : ", line)
+        if line and not line[0].isspace():
+            last = None
+        if signature and signature.group(1).split()[0] != "let":
+            if last:
+                names[last].update(signature.group(1).split())
+            else:
+                names.update((name, set()) for name in signature.group(1).split())
+    return names
+
+
+def rattle_names(text):
+    """The functions, enums and structs of a file of Rattle, the latter two with their variants or fields."""
+    names, last = {}, None
+    for line in text.split("\n"):
+        head = re.match(r'(?:pub )?(?:extern "C" )?(fn|enum|struct) (\w+)', line)
+        member = re.match(r"    (?:pub )?(\w+)", line)
+        if head:
+            last = head.group(2) if head.group(1) != "fn" else None
+            names[head.group(2)] = set()
+        elif last and member:
+            names[last].add(member.group(1))
+    return names
+
+
+def declares(path, name):
+    """Whether a file declares a name; `A.b` is the field, constructor or variant b of A."""
+    text = read(path)
+    if path.endswith(".antt"):
+        names = antt_names(text)
+    elif path.endswith(".rt"):
+        names = rattle_names(text)
+    else:
+        return re.search(rf"\b{re.escape(name)}\b", text) is not None
+    owner, dot, member = name.partition(".")
+    return name in names or bool(dot and owner in names and member in names[owner])
+
+
+def edits():
+    """The edits of the tree, as crate/must-fail/name."""
+    found = set()
+    for crate in sorted(os.listdir(os.path.join(TOP, "crates"))):
+        folder = os.path.join(TOP, "crates", crate, "must-fail")
+        if os.path.isdir(folder):
+            found.update(f"{crate}/must-fail/{name[:-5]}" for name in os.listdir(folder) if name.endswith(".edit"))
+    return found
+
+
+# ---- the checks
+
+
+def theorem_files(page):
+    """The table of theorems: each name with the file that its type stands in."""
+    files, name = {}, None
+    for piece in page:
+        if piece.heading == THEOREMS and piece.column == 0 and spans(piece.text):
+            name = spans(piece.text)[0]
+        elif piece.heading == THEOREMS and piece.column == 1 and spans(piece.text):
+            files[name] = where(spans(piece.text)[0])
+    return files
+
+
+def check_names(page, tally):
+    theorems, known, named = theorem_files(page), edits(), set()
+    for piece in page:
+        path = None
+        for span in spans(piece.text):
+            if "/must-fail/" in span:
+                named.add(span)
+                tally.hold(piece.line, span in known, f"there is no edit {span}")
+            elif "/" in span:
+                path = where(span)
+                tally.hold(piece.line, path, f"there is no file {span}")
+                if not path:
+                    break
+            else:
+                file = path or theorems.get(span.partition(".")[0])
+                if not file:
+                    tally.hold(piece.line, False, f"{span} stands behind no file, and is no theorem of the table")
+                else:
+                    tally.hold(piece.line, os.path.isfile(file) and declares(file, span),
+                               f"{os.path.relpath(file, TOP)} declares no {span}")
+    for edit in sorted(known):
+        tally.hold(1, edit in named, f"the edit {edit} is not named")
+
+
+def check_quotes(page, folder, tally):
+    """Every quoted sentence stands in a paragraph of a document; its parts, where … joins them, in their order."""
+    paragraphs = []
+    for name in DOCUMENTS:
+        paragraphs += re.sub(r"\*", "", read(os.path.join(folder, name))).split("\n")
+    for piece in page:
+        if piece.text.count('"') % 2:
+            tally.hold(piece.line, False, "a quotation does not end")
+            continue
+        # the first cell of a row has one sentence, which may have quotation marks of its own
+        quotes = re.findall(r'"(.*)"' if piece.column == 0 else r'"([^"]*)"', piece.text)
+        for quote in quotes:
+            parts = ".*".join(re.escape(part.strip()) for part in quote.split("…"))
+            tally.hold(piece.line, any(re.search(parts, line) for line in paragraphs), f"not in the documents: {quote}")
+
+
+# ---- the lines
+
+
+def counted(path):
+    """Lines that are neither blank nor a comment nor an import."""
+    lines = (line.strip() for line in read(os.path.join(TOP, "crates", path)).split("\n"))
+    return sum(1 for line in lines if line and not line.startswith(("--", "//", "use ", "ghost use ")))
+
+
+def print_lines():
+    total, listed = 0, set()
+    for title, files in READING:
+        numbers = [counted(file) for file in files]
+        total += sum(numbers)
+        listed.update(files)
+        print(f"{sum(numbers):5}  {title}: " + ", ".join(f"{file} {number}" for file, number in zip(files, numbers)))
+    print(f"{total:5}  together")
+    for crate in READ_CRATES:
+        for file in sorted(os.listdir(os.path.join(TOP, "crates", crate, "specs"))):
+            path = f"{crate}/specs/{file}"
+            if path not in listed and file != "Lib.antt":
+                print(f"not in the reading order: {path}")
+                return 1
+    return 0
+
+
+def main():
+    parser = argparse.ArgumentParser(description="Holds docs/PROMISES.md against the tree.")
+    parser.add_argument("--documents", metavar="DIR", help="the folder of documents 00 and 01, for the quoted sentences")
+    parser.add_argument("--lines", action="store_true", help="count the lines of definitions instead")
+    options = parser.parse_args()
+    if options.lines:
+        return print_lines()
+    page = pieces(read(os.path.join(TOP, PROMISES)))
+    tally = Tally()
+    check_names(page, tally)
+    if options.documents:
+        check_quotes(page, options.documents, tally)
+    else:
+        print("the quoted sentences were not looked for: --documents DIR names the folder of documents 00 and 01")
+    print(f"{tally.passed} passed, {tally.failed} failed")
+    return 1 if tally.failed else 0
+
+
+if __name__ == "__main__":
+    sys.exit(main())
