@@ -7,6 +7,7 @@ use native.Mathlib.Nat.{sub-zero}
 use native.Mathlib.Numerals.{add-one}
 use native.Mathlib.Omega.{arith}
 use borrow.Author.Tests.{le-leb, lt-leb}
+use Rattle.house.proofs.Numbers.{made-next}
 use Rattle.house.specs.declared.Offender.{Offender}
 use Rattle.house.specs.declared.Verdict.{Verdict}
 use Rattle.house.specs.Order.{numbers}
@@ -24,15 +25,11 @@ module _ {R : Type 0} (good : R → Bool) (name : ℕ → Offender) (f : ℕ →
   pub left-start : Left 0
   left-start = rw sub-zero
 
-  next : (i : ℕ) → i < n → map f (numbers i (n - i)) ≡ f i ∷ map f (numbers (i + 1) (n - (i + 1)))
-  unfolding numbers
-  next i h = let e : n - i ≡ suc (n - (i + 1)) = omega arith in rw (e, add-one i)
-
   pub left-turn : (i : ℕ) → i < n → good (f i) ≡ true → Left i → Left (i + 1)
-  left-turn i h g e = sym (rw (next i h, g, firstOffender, add-one i)) ∙ e
+  left-turn i h g e = sym (rw (made-next f i n h, g, firstOffender, add-one i)) ∙ e
 
   pub left-bad : (i : ℕ) → i < n → good (f i) ≡ false → Left i → Verdict.Open (name i) ≡ found
-  left-bad i h g e = sym (rw (next i h, g, firstOffender)) ∙ e
+  left-bad i h g e = sym (rw (made-next f i n h, g, firstOffender)) ∙ e
 
   pub left-none : (i : ℕ) → n ≤ i → Left i → otherwise ≡ found
   unfolding numbers

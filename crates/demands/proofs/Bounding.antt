@@ -22,6 +22,7 @@ use Rattle.meaning.specs.Card.{Bytes, weight, agent, initialPlan}
 use Rattle.meaning.specs.Configurations.{stateOf}
 use Rattle.meaning.specs.Refusals.{numberOf, answerNumber, cardAnswer, configurationAnswer}
 use Rattle.meaning.proofs.Tables.{done≢refused}
+use Rattle.house.proofs.Weight.{open≢bounded}
 use Rattle.meaning.proofs.Accepted.{card-laws}
 use Rattle.demands.specs.Contracts.{Grades}
 use Rattle.demands.specs.Demands.{doneOrCard}
@@ -29,9 +30,6 @@ use Rattle.demands.proofs.Among.{outside, configuration-among}
 use Rattle.demands.proofs.Codes.{led}
 use Rattle.demands.proofs.Choosing.{full≢not-enabled}
 use Rattle.demands.proofs.Ways.{Grading, Running, Taking, refused, not-enabled, plan-full, done, grading}
-
-open≢bounded : {o : Offender} → Verdict.Open o ≡ Verdict.Bounded → ⊥
-open≢bounded e = let z : _≡_ {A = ℕ} 0 1 = cc in omega arith
 
 spent≢full : Ending.Spent ≡ Ending.Full → ⊥
 spent≢full e = let z : _≡_ {A = ℕ} 0 1 = cc in omega arith

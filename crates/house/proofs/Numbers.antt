@@ -2,8 +2,9 @@
 use mathlib.Core.Path.{_≡_, refl, ap, _∙_, sym}
 use mathlib.Core.List.{List, [], _∷_, map}
 use mathlib.Core.Option.{Option, none, some}
-use Prim.Native.Nat.{ℕ, zero, suc, _+_, _≤_, _<_}
+use Prim.Native.Nat.{ℕ, zero, suc, _+_, _-_, _≤_, _<_}
 use native.Mathlib.Nat.{add-zero, le-of-suc-le-suc, not-suc-le-zero}
+use native.Mathlib.Numerals.{add-one}
 use native.Mathlib.Omega.{arith}
 use lib.ListN.{length, getD, getElem?, length-map}
 use Rattle.house.specs.Order.{numbers}
@@ -22,6 +23,11 @@ module _ {X : Type 0} (f : ℕ → X) where
   made-at k zero i z h = absurd (not-suc-le-zero h)
   made-at k (suc n) zero z h = ap f (sym (add-zero k))
   made-at k (suc n) (suc i) z h = made-at (suc k) n i z (le-of-suc-le-suc h) ∙ ap f (omega arith)
+
+  -- of what is left from i on: the first, and what is left after it
+  pub made-next : (i n : ℕ) → i < n → map f (numbers i (n - i)) ≡ f i ∷ map f (numbers (i + 1) (n - (i + 1)))
+  unfolding numbers
+  made-next i n h = let e : n - i ≡ suc (n - (i + 1)) = omega arith in rw (e, add-one i)
 
   pub made-entry : (k n i : ℕ) → i < n → getElem? (map f (numbers k n)) i ≡ some (f (k + i))
   unfolding numbers

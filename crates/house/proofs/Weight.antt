@@ -74,7 +74,7 @@ module _ (w : ℕ → ℕ) (least : (a : ℕ) → 1 ≤ w a) where
 
 -- ---- graded
 
-open≢bounded : {o : Offender} → Verdict.Open o ≡ Verdict.Bounded → ⊥
+pub open≢bounded : {o : Offender} → Verdict.Open o ≡ Verdict.Bounded → ⊥
 open≢bounded e = let z : _≡_ {A = ℕ} 0 1 = cc in omega arith
 
 module _ {R : Type 0} (good : R → Bool) (name : ℕ → Offender) where

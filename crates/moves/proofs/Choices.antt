@@ -11,6 +11,7 @@ use lib.ListN.{length}
 use Rattle.paper.specs.Language.{𝐁, 𝐆, Agent, Config}
 use Rattle.paper.specs.Transitions.{Choice, select, act, revise}
 use Rattle.paper.specs.Next.{enabled}
+use Rattle.house.proofs.Numbers.{made-next}
 use Rattle.house.specs.Order.{numbers, ofKind, inTurn}
 use Rattle.meaning.specs.declared.Layout.{Layout}
 use Rattle.meaning.specs.Card.{Bytes, conditions, specificationAt, selectionAt, revisionAt, agentOf, agentFor}
@@ -40,15 +41,11 @@ module _ (A : Agent) (c : Config) where
     pub left-start : Left 0
     left-start = rw sub-zero
 
-    next : (i : ℕ) → i < n → map f (numbers i (n - i)) ≡ f i ∷ map f (numbers (i + 1) (n - (i + 1)))
-    unfolding numbers
-    next i h = let e : n - i ≡ suc (n - (i + 1)) = omega arith in rw (e, add-one i)
-
     pub left-turn : (i : ℕ) → i < n → enabled A c (f i) ≡ false → Left i → Left (i + 1)
-    left-turn i h g e = sym (ap (firstEnabled A c) (next i h) ∙ first-no (f i) _ g) ∙ e
+    left-turn i h g e = sym (ap (firstEnabled A c) (made-next f i n h) ∙ first-no (f i) _ g) ∙ e
 
     pub left-found : (i : ℕ) → i < n → enabled A c (f i) ≡ true → Left i → chosen (f i) ≡ firstEnabled A c (map f (numbers 0 n))
-    left-found i h g e = sym (ap (firstEnabled A c) (next i h) ∙ first-yes (f i) _ g) ∙ e
+    left-found i h g e = sym (ap (firstEnabled A c) (made-next f i n h) ∙ first-yes (f i) _ g) ∙ e
 
     pub left-none : (i : ℕ) → n ≤ i → Left i → Chosen.Nothing ≡ firstEnabled A c (map f (numbers 0 n))
     unfolding numbers firstEnabled

@@ -21,6 +21,7 @@ use Rattle.meaning.specs.Refusals.{firstGiven, placeTable, andThen, cardAnswer,
 use Rattle.meaning.specs.Calls.{reply, restores, written, over, roomFor, saveAnswer, saves, saveLeaves}
 use Rattle.meaning.proofs.Tables.{passes, and-then-done, done≢refused}
 use Rattle.meaning.proofs.Configurations.{Good, good}
+use Rattle.demands.proofs.Ways as Ways
 use Rattle.card.specs.Stair.{rowAnswer}
 use Rattle.card.proofs.Stair.{row-done, last-row, no-row}
 use Rattle.card.proofs.GoodCard.{good-card}
@@ -57,12 +58,10 @@ module _ (b : Bytes) (l : Layout) (ok : cardAnswer b ≡ Done) (q : l ≡ layout
   place-judged p = ap (λ a. andThen a (firstGiven (placeTable (layout b)) p)) ok ∙ ap (λ (x : Layout). firstGiven (placeTable x) p) (sym q)
 
   pub restores-good : (p : Bytes) → firstGiven (placeTable l) p ≡ Done → restores b p ≡ reply Done (configurationOf (placed p))
-  unfolding restores
-  restores-good p e = rw (place-judged p ∙ e, restores)
+  restores-good p e = Ways.restores-good b p (place-judged p ∙ e)
 
   pub restores-refused : (p : Bytes) (r : Refusal) → firstGiven (placeTable l) p ≡ Refused r → restores b p ≡ reply (Refused r) empty
-  unfolding restores
-  restores-refused p r e = rw (place-judged p ∙ e, restores)
+  restores-refused p r e = Ways.restores-refused b p r (place-judged p ∙ e)
 
   -- ---- save
 

@@ -17,6 +17,7 @@ use Rattle.paper.proofs.Relation.{both, false≢true}
 use Rattle.meaning.specs.Card.{part}
 use Rattle.meaning.specs.Configurations.{padded}
 use Rattle.meaning.specs.Refusals.{every}
+use Rattle.meaning.proofs.Configurations as Configurations
 use Rattle.meaning.proofs.Every.{both-true, same-truth, every-at, every-of}
 use Rattle.meaning.proofs.Parts.{length-part, part-at}
 
@@ -138,7 +139,7 @@ length-padded p h = simp (length-append, length-replicate) (omega arith)
 -- the plan is what stands before the end
 pub take-padded : (p : List ℕ) (n : ℕ) → length p ≡ n → take n (padded p) ≡ p
 unfolding padded
-take-padded p n e = take-at p (replicate (1024 - length p) 0) n e
+take-padded p n e = ap (λ k. take k (padded p)) (sym e) ∙ Configurations.take-padded p
 
 pub padded-at : (p : List ℕ) (i : ℕ) → i < length p → getD (padded p) i 0 ≡ getD p i 0
 unfolding padded

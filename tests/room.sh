@@ -1,0 +1,58 @@
+#!/usr/bin/env bash
+# Measures the room that the guide needs: the deepest stack of each call through the header (tests/stack.sh), what an app lends with
+# the largest card, and the stack of the program. The last line is 'N passed, M failed': each call within 8,192 bytes, and all
+# together, and the program, within 65,536.
+#
+#   tests/room.sh
+set -eu
+
+die() { printf 'room.sh: %s\n' "$*" >&2; exit 2; }
+
+[ $# -eq 0 ] || die "usage: room.sh"
+root=$(cd "$(dirname "$0")/.." && pwd)
+most=65536
+passed=0
+failed=0
+
+# Says whether a figure is within its bound.
+within() { # WHAT BYTES BOUND
+    if [ "$2" -le "$3" ]; then passed=$((passed + 1)); else failed=$((failed + 1)); fi
+    printf '%-42s %6d bytes, at most %d\n' "$1" "$2" "$3"
+}
+
+calls=$("$root/tests/stack.sh" | grep ' bytes of stack') || die "tests/stack.sh failed"
+deepest=0
+while read -r call bytes _; do
+    within "the stack of $call" "$bytes" 8192
+    [ "$bytes" -le "$deepest" ] || deepest=$bytes
+done <<END
+$calls
+END
+
+# What an app lends: the largest card, a configuration as the header lays it out, a list of every choice, the largest place.
+card=24128
+configuration=1060
+list=$((2 * 768))
+place=$((44 + 1024))
+printf '%-42s %6d bytes\n' 'the largest card' "$card" 'a configuration' "$configuration" 'a list of 768 choices' "$list" \
+    'the largest place' "$place"
+within 'all of it with the deepest stack' $((card + configuration + list + place + deepest)) "$most"
+
+# The program: the least limit of its stack, by 4,096 bytes, under which it runs the largest card to its end. What the system and
+# the C library put on the stack before the program begins is in it.
+if [ "$(uname -m)" = x86_64 ]; then
+    (cd "$root" && rt check rigtemple) >/dev/null || die "rt check rigtemple failed"
+    program=$root/target/bin/rigtemple
+    want=$("$program" <"$root/cards/maximal.card")
+    limit=4
+    while [ "$limit" -le 256 ]; do
+        { got=$(ulimit -s "$limit" && env -i "$program" <"$root/cards/maximal.card"); } 2>/dev/null || got=
+        [ "$got" != "$want" ] || break
+        limit=$((limit + 4))
+    done
+    within 'the program on the largest card' $((1024 * limit)) "$most"
+else
+    printf 'the program is not measured here: it runs in an emulator, whose stack this would be\n'
+fi
+printf '%d passed, %d failed\n' "$passed" "$failed"
+[ "$failed" -eq 0 ]
