@@ -125,7 +125,7 @@ refusals() {
 
 building() {
     rm -r "$room/house/target"
-    expect 'the program is missing' 0 "$good" 'about a minute' guide "$room/good.card"
+    expect 'the program is missing' 0 "$good" 'some minutes' guide "$room/good.card"
     holds 'one line about the proof' test "$(wc -l <"$room/err")" -eq 1
     expect 'the program is there' 0 "$good" '' guide "$room/good.card"
     touch -t 200001010000 "$room/house/target/bin/rigtemple"
@@ -146,7 +146,7 @@ finding_rt() {
     sed "s|/usr/local/bin|$room/local|" "$top/rigtemple" >"$room/house/rigtemple"
     expect 'rt is not found' 2 '' 'install the Rattle kit' env PATH="$room/plain" "$room/house/rigtemple" "$room/good.card"
     mv "$room/bin/rt" "$room/local/rt"
-    expect 'rt is found in /usr/local/bin' 0 "$good" 'about a minute' \
+    expect 'rt is found in /usr/local/bin' 0 "$good" 'some minutes' \
         env PATH="$room/plain" "$room/house/rigtemple" "$room/good.card"
     mv "$room/local/rt" "$room/bin/rt"
     cp "$top/rigtemple" "$room/house/rigtemple"
