@@ -11,7 +11,7 @@ use Rattle.paper.proofs.Relation.{both}
 use Rattle.meaning.specs.declared.Answer.the-variants.{Done}
 use Rattle.meaning.specs.declared.Span.{Span}
 use Rattle.meaning.specs.declared.Layout.{Layout}
-use Rattle.meaning.specs.Card.{Bytes, byte, number, part, span, layout, entryAt, weightAt}
+use Rattle.meaning.specs.Card.{Bytes, byte, numberAt, part, span, layout, entryAt, weightAt}
 use Rattle.meaning.specs.Refusals.{all, every, everyEntry, within, weightsGood, containing, conditionGood, spanGood, specificationGood, selectionGood, revisionGood, rulesGood, actionsGood, pool, cardAnswer}
 use Rattle.meaning.specs.Theorems.{Accepted}
 use Rattle.meaning.proofs.Accepted.{accepted, within-low, within-high}

@@ -5,7 +5,7 @@ ghost use mathlib.Core.Bool.{true, not};
 ghost use Prim.Native.Nat.{_≤_};
 ghost use lib.ListN.{length};
 ghost use Rattle.meaning.specs.Card.{layout};
-ghost use Rattle.meaning.specs.Refusals.{cardMark, countsGood, nodesGood, cardAnswer};
+ghost use Rattle.meaning.specs.Refusals.{cardMark, countsGood, nodesGood, cardTable, cardAnswer};
 ghost use Rattle.meaning.specs.Calls.{checks};
 ghost use Rattle.card.specs.Laid.{Narrow, NarrowSpan, Laid};
 ghost use Rattle.card.specs.Stair.{rowAnswer, rowsFrom};
@@ -37,7 +37,7 @@ pub fn row(good: bool, refusal: Refusal) -> Answer
 // Row 9.
 fn from_sets(card: &[u8], l: Layout) -> Answer
     requires { ⌜ Laid l (now card) ⌝ }
-    ensures { λ r. ⌜ r ≡ rowsFrom 8 (now (card .entry)) ⌝ }
+    ensures { λ r. ⌜ r ≡ rowsFrom 8 cardTable (now (card .entry)) ⌝ }
 {
     row(sets_good(card, l), Refusal::Atom)
 }
@@ -45,7 +45,7 @@ fn from_sets(card: &[u8], l: Layout) -> Answer
 // Row 8, then 9.
 fn from_pool(card: &[u8], l: Layout) -> Answer
     requires { ⌜ Laid l (now card) ⌝ }
-    ensures { λ r. ⌜ r ≡ rowsFrom 7 (now (card .entry)) ⌝ }
+    ensures { λ r. ⌜ r ≡ rowsFrom 7 cardTable (now (card .entry)) ⌝ }
 {
     let a = row(pool_good(card, l), Refusal::ActionByte);
     let Answer::Done = a else {
@@ -57,7 +57,7 @@ fn from_pool(card: &[u8], l: Layout) -> Answer
 // Row 7, then 8 and 9.
 fn from_rules(card: &[u8], l: Layout) -> Answer
     requires { ⌜ Laid l (now card) × (nodesGood l (now card) ≡ true) × NarrowSpan (l .initial) ⌝ }
-    ensures { λ r. ⌜ r ≡ rowsFrom 6 (now (card .entry)) ⌝ }
+    ensures { λ r. ⌜ r ≡ rowsFrom 6 cardTable (now (card .entry)) ⌝ }
 {
     let a = row(rules_good(card, l), Refusal::Rule);
     let Answer::Done = a else {
@@ -69,7 +69,7 @@ fn from_rules(card: &[u8], l: Layout) -> Answer
 // Row 6, then 7 to 9.
 fn from_nodes(card: &[u8], l: Layout) -> Answer
     requires { ⌜ Laid l (now card) × NarrowSpan (l .initial) ⌝ }
-    ensures { λ r. ⌜ r ≡ rowsFrom 5 (now (card .entry)) ⌝ }
+    ensures { λ r. ⌜ r ≡ rowsFrom 5 cardTable (now (card .entry)) ⌝ }
 {
     let a = row(nodes_good(card, l), Refusal::Node);
     let Answer::Done = a else {
@@ -81,7 +81,7 @@ fn from_nodes(card: &[u8], l: Layout) -> Answer
 // Row 5, then 6 to 9.
 fn from_weights(card: &[u8], l: Layout) -> Answer
     requires { ⌜ Laid l (now card) × NarrowSpan (l .initial) ⌝ }
-    ensures { λ r. ⌜ r ≡ rowsFrom 4 (now (card .entry)) ⌝ }
+    ensures { λ r. ⌜ r ≡ rowsFrom 4 cardTable (now (card .entry)) ⌝ }
 {
     let a = row(weights_good(card, l), Refusal::Weight);
     let Answer::Done = a else {
@@ -93,7 +93,7 @@ fn from_weights(card: &[u8], l: Layout) -> Answer
 // Row 4, then 5 to 9.
 fn from_offsets(card: &[u8], l: Layout) -> Answer
     requires { ⌜ (l ≡ layout (now card)) × Narrow l × (countsGood l ≡ true) ⌝ }
-    ensures { λ r. ⌜ r ≡ rowsFrom 3 (now (card .entry)) ⌝ }
+    ensures { λ r. ⌜ r ≡ rowsFrom 3 cardTable (now (card .entry)) ⌝ }
 {
     let a = row(offsets_good(l, card.len()), Refusal::Offsets);
     let Answer::Done = a else {
@@ -105,7 +105,7 @@ fn from_offsets(card: &[u8], l: Layout) -> Answer
 // Row 3, then 4 to 9.
 fn from_counts(card: &[u8], l: Layout) -> Answer
     requires { ⌜ (l ≡ layout (now card)) × Narrow l ⌝ }
-    ensures { λ r. ⌜ r ≡ rowsFrom 2 (now (card .entry)) ⌝ }
+    ensures { λ r. ⌜ r ≡ rowsFrom 2 cardTable (now (card .entry)) ⌝ }
 {
     let a = row(counts_good(l), Refusal::Count);
     let Answer::Done = a else {
@@ -126,7 +126,7 @@ fn marked(card: &[u8]) -> bool
 // Row 2, then 3 to 9.
 fn from_mark(card: &[u8]) -> Answer
     requires { ⌜ 64 ≤ length (now card) ⌝ }
-    ensures { λ r. ⌜ r ≡ rowsFrom 1 (now (card .entry)) ⌝ }
+    ensures { λ r. ⌜ r ≡ rowsFrom 1 cardTable (now (card .entry)) ⌝ }
 {
     let a = row(marked(card), Refusal::Mark);
     let Answer::Done = a else {

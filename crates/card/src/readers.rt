@@ -3,7 +3,7 @@ ghost use mathlib.Core.Path.{_≡_};
 ghost use Prim.Native.Nat.{_+_, _*_, _≤_};
 ghost use lib.Dec.{ltb};
 ghost use lib.ListN.{length};
-ghost use Rattle.meaning.specs.Card.{number, part};
+ghost use Rattle.meaning.specs.Card.{numberAt, part};
 
 // Two bytes, low byte first.
 fn two_bytes(low: u8, high: u8) -> usize
@@ -15,7 +15,7 @@ fn two_bytes(low: u8, high: u8) -> usize
 // The number at a place.
 pub fn number_at(card: &[u8], at: usize) -> usize
     requires { ⌜ at + 2 ≤ length (now card) ⌝ }
-    ensures { λ r. ⌜ (r ≡ number (now (card .entry)) at) × (r ≤ 65535) ⌝ }
+    ensures { λ r. ⌜ (r ≡ numberAt (now (card .entry)) at) × (r ≤ 65535) ⌝ }
 {
     two_bytes(card[at], card[at + 1])
 }

@@ -40,7 +40,7 @@ unfolding doneOrCard answerNumber numberOf
 never-by-configuration b c e = outside (doneOrCard ++ (13 ∷ [])) 11 refl (rw e at (configuration-among b c))
 
 pub graded-exactly : (b : Bytes) → cardAnswer b ≡ Done → (g : Graded) → Grading b g → (g .verdict ≡ Verdict.Bounded) ↔ Bounded (weight b) (agent b) (initialPlan b)
-graded-exactly b e g (done h) = card-laws b h .demand3 .exactly
+graded-exactly b e g (done h) = card-laws b h .graded .exactly
 graded-exactly b e g (refused h) = absurd (done≢refused (sym e ∙ h))
 
 pub refused-never : (b : Bytes) (g : Graded) → Grading b g → (q : Refusal) → g .answer ≡ Refused q → g .verdict ≡ Verdict.Bounded → ⊥
@@ -60,8 +60,8 @@ module _ (b : Bytes) (g : Graded) (e : Grades b g) (v : g .verdict ≡ Verdict.B
   pub bounded : verdict (weight b) (agent b) (initialPlan b) ≡ Verdict.Bounded
   bounded = its-verdict b g (grading b g e) v .1
 
-  pub law : House.Demand3 (weight b) (agent b) (initialPlan b)
-  law = card-laws b accepted .demand3
+  pub law : House.GradeLaws (weight b) (agent b) (initialPlan b)
+  law = card-laws b accepted .graded
 
   module _ (c : Configuration) (w : weigh (weight b) (stateOf c .mental .π) ≤ 1024) where
     pub never-full : (budget : ℕ) (r : Ran) → Running b c budget r → r .ending ≡ Ending.Full → ⊥

@@ -20,7 +20,7 @@ use Rattle.meaning.specs.Refusals.{numberOf, answerNumber, firstGiven, cardAnsw
 use Rattle.meaning.specs.Calls.{choice, leadsTo}
 use Rattle.meaning.proofs.Tables.{done≢refused, and-then-done}
 use Rattle.meaning.proofs.Configurations.{configuration-laws}
-use Rattle.demands.specs.Demands.{OnAccepted, Chosen, Reached}
+use Rattle.demands.specs.Demands.{OnAccepted, Chosen, StandsFor}
 use Rattle.demands.proofs.Codes.{coded, read-back, leads, Led, led}
 use Rattle.demands.proofs.Ways.{Taking, refused, done, not-enabled, plan-full}
 
@@ -33,7 +33,7 @@ unfolding answerNumber numberOf
 full≢not-enabled e = let z : _≡_ {A = ℕ} 11 10 = ap answerNumber e in omega arith
 
 -- what is handed out for a state whose plan fits
-pub reached : (s : State) → length (s .mental .π) ≤ 1024 → Reached (configurationOf s) s
+pub reached : (s : State) → length (s .mental .π) ≤ 1024 → StandsFor (configurationOf s) s
 reached s f = record { handed-out = refl; stands-for = configuration-laws .of-state s f }
 
 -- the code's move fits
@@ -90,7 +90,7 @@ module _ (b : Bytes) (c : Configuration) (on : OnAccepted b c) (n : ℕ) where
       (λ e. absurd (done≢refused (sym e)), λ m. absurd (let g = by-its-plan s l (m .0) (m .1 .0) (m .1 .1 .0) (λ x. x ≤ 1024) (m .1 .1 .1) in omega arith))
   taken-exactly r (done h s l f) = (λ e. fitting s l f, λ m. refl)
 
-  pub taken-to : (r : Reply) → Taking b c n r → (k : Choice) (c′ : Config) → Chosen b c n k c′ → length (c′ .π) ≤ 1024 → Reached (r .configuration) (after k c′)
+  pub taken-to : (r : Reply) → Taking b c n r → (k : Choice) (c′ : Config) → Chosen b c n k c′ → length (c′ .π) ≤ 1024 → StandsFor (r .configuration) (after k c′)
   taken-to r (refused h) k c′ m f = absurd (done≢refused (sym on ∙ h))
   taken-to r (not-enabled h l) k c′ m f = absurd (no-move l k c′ m)
   taken-to r (plan-full h s l t) k c′ m f = absurd (let g = by-its-plan s l k c′ m (λ x. x ≤ 1024) f in omega arith)

@@ -15,7 +15,7 @@ use Rattle.meaning.specs.declared.Layout.{Layout}
 use Rattle.meaning.specs.declared.Configuration.{Configuration}
 use Rattle.meaning.specs.declared.Reply.{Reply}
 use Rattle.meaning.specs.declared.Written.{Written}
-use Rattle.meaning.specs.Card.{Bytes, number, part, layout}
+use Rattle.meaning.specs.Card.{Bytes, numberAt, part, layout}
 use Rattle.meaning.specs.Configurations.{padded, stateOf, configurationOf}
 use Rattle.meaning.specs.Place.{place, placed}
 use Rattle.meaning.specs.Refusals.{firstGiven, all, cardAnswer, placeTable, placeAnswer, actionsGood, setGood, configurationGood}
@@ -47,12 +47,12 @@ read l p e0 =
     let (h4, e4) = passes _ _ p e3 in
     let (h5, e5) = passes _ _ p e4 in
     let (h6, e6) = passes _ _ p e5 in
-    let (n, m) = both (leb (number p 4) 1024) _ (not-false _ h3) in
-    let (f, z) = both (leb (number p 8) 2) _ m in
-    let (o, t) = both (eqb (number p 6) 44) _ (not-false _ h4) in
+    let (n, m) = both (leb (numberAt p 4) 1024) _ (not-false _ h3) in
+    let (f, z) = both (leb (numberAt p 8) 2) _ m in
+    let (o, t) = both (eqb (numberAt p 6) 44) _ (not-false _ h4) in
     let (s, g) = both (setGood (l .atoms) (part p 12 16)) _ (not-false _ h6) in
-    let x : number p 4 ≤ 1024 = leb-true _ _ n in
-    let y : length p ≡ 44 + number p 4 = eqb-true _ _ t in
+    let x : numberAt p 4 ≤ 1024 = leb-true _ _ n in
+    let y : length p ≡ 44 + numberAt p 4 = eqb-true _ _ t in
     let d : length (drop 44 p) ≤ 1024 = rw (length-drop 44 p) (omega arith) in
     record { fits = d; phase = leb-true _ _ f; known-actions = not-false _ h5; known-beliefs = s; known-goals = g }
 

@@ -14,7 +14,7 @@ use Rattle.meaning.specs.declared.Layout.{Layout}
 use Rattle.meaning.specs.declared.Configuration.{Configuration}
 use Rattle.meaning.specs.declared.Reply.{Reply}
 use Rattle.meaning.specs.declared.Written.{Written}
-use Rattle.meaning.specs.Card.{Bytes, byte, number, part, layout}
+use Rattle.meaning.specs.Card.{Bytes, byte, numberAt, part, layout}
 use Rattle.meaning.specs.Configurations.{stateOf, configurationOf}
 use Rattle.meaning.specs.Place.{placeHeader, place, placed}
 use Rattle.meaning.specs.Refusals.{Row, firstGiven, andThen, cardAnswer, placeTable, placeAnswer, actionsGood, setGood}
@@ -67,7 +67,7 @@ module _ (l : Layout) (s : State) (k : Kept l s) where
       let n = k .goals in
       omega arith
 
-  length-at : number (place s) 4 ≡ length (s .mental .π)
+  length-at : numberAt (place s) 4 ≡ length (s .mental .π)
   unfolding place placeHeader
   length-at =
       let f = k .fits in
@@ -75,7 +75,7 @@ module _ (l : Layout) (s : State) (k : Kept l s) where
       let z : n % 256 + 256 * (n / 256 % 256) ≡ n = omega arith in
       z
 
-  phase-at : number (place s) 8 ≡ s .phase
+  phase-at : numberAt (place s) 8 ≡ s .phase
   unfolding placed
   phase-at = ap (λ (x : State). x .phase) same
 
@@ -91,25 +91,25 @@ module _ (l : Layout) (s : State) (k : Kept l s) where
   unfolding placed
   goals-at = ap (λ (x : State). x .mental .γ) same
 
-  marked : (eqb (byte (place s) 0) 0x33 && (eqb (byte (place s) 1) 0x50 && eqb (number (place s) 2) 1)) ≡ true
+  marked : (eqb (byte (place s) 0) 0x33 && (eqb (byte (place s) 1) 0x50 && eqb (numberAt (place s) 2) 1)) ≡ true
   unfolding place placeHeader
   marked = refl
 
-  zeros : eqb (number (place s) 10) 0 ≡ true
+  zeros : eqb (numberAt (place s) 10) 0 ≡ true
   unfolding place placeHeader
   zeros = refl
 
-  offset : eqb (number (place s) 6) 44 ≡ true
+  offset : eqb (numberAt (place s) 6) 44 ≡ true
   unfolding place placeHeader
   offset = refl
 
-  counted : (leb (number (place s) 4) 1024 && (leb (number (place s) 8) 2 && eqb (number (place s) 10) 0)) ≡ true
+  counted : (leb (numberAt (place s) 4) 1024 && (leb (numberAt (place s) 8) 2 && eqb (numberAt (place s) 10) 0)) ≡ true
   counted =
-      let a : leb (number (place s) 4) 1024 ≡ true = rw length-at (le-leb _ _ (k .fits)) in
-      let b : leb (number (place s) 8) 2 ≡ true = rw phase-at (le-leb _ _ (k .phase)) in
+      let a : leb (numberAt (place s) 4) 1024 ≡ true = rw length-at (le-leb _ _ (k .fits)) in
+      let b : leb (numberAt (place s) 8) 2 ≡ true = rw phase-at (le-leb _ _ (k .phase)) in
       both-true _ _ a (both-true _ _ b zeros)
 
-  laid-out : (eqb (number (place s) 6) 44 && eqb (length (place s)) (44 + number (place s) 4)) ≡ true
+  laid-out : (eqb (numberAt (place s) 6) 44 && eqb (length (place s)) (44 + numberAt (place s) 4)) ≡ true
   laid-out = both-true _ _ offset (eq-eqb _ _ (length-place ∙ ap (λ n. 44 + n) (sym length-at)))
 
   long-enough : ltb (length (place s)) 44 ≡ false

@@ -121,7 +121,7 @@ pub record Chosen (b : Bytes) (c : Configuration) (n : ℕ) (k : Choice) (c′ :
   pub transition : Transition b c k c′
 
 -- The configuration answered is the one that is handed out for a state, and stands for that state.
-pub record Reached (c : Configuration) (s : State) : Type 0 where
+pub record StandsFor (c : Configuration) (s : State) : Type 0 where
   pub handed-out : c ≡ configurationOf s
   pub stands-for : stateOf c ≡ s
 
@@ -130,7 +130,7 @@ pub record Reached (c : Configuration) (s : State) : Type 0 where
 pub record Answers (r : Ran) (o : Outcome) : Type 0 where
   pub done : r .answer ≡ Done
   -- 01, "A configuration and its transitions": "the configuration reached"
-  pub reached : Reached (r .configuration) (o .state)
+  pub reached : StandsFor (r .configuration) (o .state)
   -- 01, "A configuration and its transitions": "how many transitions were taken"
   pub count : r .count ≡ o .count
   -- 01, "A configuration and its transitions": "one of three endings"
@@ -153,7 +153,7 @@ pub record Demand2 : Type 0 where
   -- The configuration it leads to: 01, "A configuration and its transitions", The guide's order: "After any transition, the
   -- guide's or a chosen one, the phase is the kind taken plus 1, modulo 3."
   pub taken-to : (b : Bytes) (c : Configuration) → OnAccepted b c → (n : ℕ) (r : Reply) → Takes b c n r
-      → (k : Choice) (c′ : Config) → Chosen b c n k c′ → length (c′ .π) ≤ 1024 → Reached (r .configuration) (after k c′)
+      → (k : Choice) (c′ : Config) → Chosen b c n k c′ → length (c′ .π) ≤ 1024 → StandsFor (r .configuration) (after k c′)
   -- 01, "Numbers the guide may answer", row 10: "the code is no enabled choice"
   pub not-enabled-exactly : (b : Bytes) (c : Configuration) → OnAccepted b c → (n : ℕ) (r : Reply) → Takes b c n r
       → (r .answer ≡ Refused Refusal.NotEnabled) ↔ ((k : Choice) (c′ : Config) → Chosen b c n k c′ → ⊥)
@@ -171,7 +171,7 @@ pub record Demand2 : Type 0 where
   pub own-move : (b : Bytes) (s : State) → House.OrderLaws (agent b) s
   -- 00, demand 2: "The guide's own order is document 01's.": a run takes the guide's moves, each step of the chain.
   pub own-order : (b : Bytes) (c : Configuration) → OnAccepted b c → (budget : ℕ) (r : Ran) → Runs b c budget r
-      → (o : Outcome) × (House.Ran (agent b) budget (stateOf c) o × Answers r o)
+      → (o : Outcome) × (House.Traced (agent b) budget (stateOf c) o × Answers r o)
   -- 00, demand 2: "With budget left it says "rest" exactly when no transition exists."
   pub rest-exactly : (b : Bytes) (c : Configuration) → OnAccepted b c → (budget : ℕ) (r : Ran) → Runs b c budget r
       → r .count < budget → (r .ending ≡ Ending.Rest) ↔ AtRest (agent b) (stateOf (r .configuration) .mental)

@@ -13,7 +13,7 @@ use Rattle.paper.specs.Transitions.{Choice, Step}
 use Rattle.house.specs.declared.Ending.{Ending}
 use Rattle.house.specs.Order.{State, Move, guide}
 use Rattle.house.specs.Run.{Chain, stay, _then_, fits, Outcome, ended, oneMore, run}
-use Rattle.house.specs.Theorems.{AtRest, Guided, ends, goes, Because, spent, rest, full, Ran, RunLaw}
+use Rattle.house.specs.Theorems.{AtRest, Guided, ends, goes, Because, spent, rest, full, Traced, RunLaw}
 use Rattle.house.proofs.Order.{guide-takes, rests}
 
 -- ---- a run's three ways to go on, as equations
@@ -47,7 +47,7 @@ rest-exactly {A} {s = s} (full p m g l) h =
 
 -- ---- the run
 
-record Traced (A : Agent) (b : ℕ) (s : State) (o : Outcome) : Type 0 where
+record Walked (A : Agent) (b : ℕ) (s : State) (o : Outcome) : Type 0 where
   choices : List Choice
   guided : Guided A s choices (o .state)
   counted : o .count ≡ length choices
@@ -58,15 +58,15 @@ one-later (spent p) = spent (ap suc p)
 one-later (rest p r) = rest (omega arith) r
 one-later (full p m g l) = full (omega arith) m g l
 
-traced : (A : Agent) (b : ℕ) (s : State) → Traced A b s (run A b s)
+walked : (A : Agent) (b : ℕ) (s : State) → Walked A b s (run A b s)
 unfolding run fits
-traced A zero s = record { choices = []; guided = ends; counted = refl; because = spent refl }
-traced A (suc b) s = go (guide A s) refl (λ m. traced A b (m .to))
+walked A zero s = record { choices = []; guided = ends; counted = refl; because = spent refl }
+walked A (suc b) s = go (guide A s) refl (λ m. walked A b (m .to))
   where
-    stopped : (e : Ending) → Because A (suc b) 0 s e → run A (suc b) s ≡ ended e s → Traced A (suc b) s (run A (suc b) s)
+    stopped : (e : Ending) → Because A (suc b) 0 s e → run A (suc b) s ≡ ended e s → Walked A (suc b) s (run A (suc b) s)
     stopped e w q = rw q (record { choices = []; guided = ends; counted = refl; because = w })
 
-    moved : (m : Move) (t : Bool) → fits (m .to) ≡ t → guide A s ≡ some m → Traced A b (m .to) (run A b (m .to)) → Traced A (suc b) s (run A (suc b) s)
+    moved : (m : Move) (t : Bool) → fits (m .to) ≡ t → guide A s ≡ some m → Walked A b (m .to) (run A b (m .to)) → Walked A (suc b) s (run A (suc b) s)
     moved m true f e r =
         rw (run-goes-on A b s m e f)
         (record {
@@ -77,13 +77,13 @@ traced A (suc b) s = go (guide A s) refl (λ m. traced A b (m .to))
         })
     moved m false f e r = stopped Ending.Full (full (omega arith) m e (leb-false _ _ f)) (run-is-full A b s m e f)
 
-    go : (o : Option Move) → guide A s ≡ o → ((m : Move) → Traced A b (m .to) (run A b (m .to))) → Traced A (suc b) s (run A (suc b) s)
+    go : (o : Option Move) → guide A s ≡ o → ((m : Move) → Walked A b (m .to) (run A b (m .to))) → Walked A (suc b) s (run A (suc b) s)
     go none e r = stopped Ending.Rest (rest (omega arith) (rests A s .0 e)) (run-rests A b s e)
     go (some m) e r = moved m (fits (m .to)) refl e (r m)
 
 pub run-law : RunLaw
 run-law A b s =
-    let t = traced A b s in
+    let t = walked A b s in
     record {
       choices = t .choices;
       chain = guided-chain (t .guided);

@@ -19,7 +19,7 @@ use Rattle.house.specs.declared.Verdict.{Verdict}
 use Rattle.house.specs.Order.{State, Move, guide}
 use Rattle.house.specs.Run.{Chain, stay, _then_, run}
 use Rattle.house.specs.Weight.{weigh, Bounded, firstOffender, light, lowers, verdict, isSelection, selections}
-use Rattle.house.specs.Theorems.{Because, spent, rest, full, Offends, initial-plan, selection, revision, Demand3, BoundedLaw}
+use Rattle.house.specs.Theorems.{Because, spent, rest, full, Offends, initial-plan, selection, revision, GradeLaws, BoundedLaw}
 use Rattle.house.proofs.Order.{guide-takes}
 use Rattle.house.proofs.Run.{run-law}
 

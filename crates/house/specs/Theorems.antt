@@ -68,7 +68,7 @@ pub record ListLaws (A : Agent) (c : Config) : Type 0 where
   pub rising : Numbered A → Rising (enabledCodes A c)
 
 -- 01, "A configuration and its transitions": "the definition's own chain", where each choice is the guide's and what it leaves
--- fits. Serves Ran.
+-- fits. Serves Traced.
 pub data Guided (A : Agent) : State → List Choice → State → Type 0 where
   -- no step
   ends : {s : State} → Guided A s [] s
@@ -89,7 +89,7 @@ pub data Because (A : Agent) (budget n : ℕ) (s : State) : Ending → Type 0 wh
 
 -- 01, "A configuration and its transitions": "A run … answers the configuration reached, how many transitions were taken, and
 -- one of three endings."
-pub record Ran (A : Agent) (budget : ℕ) (s : State) (o : Outcome) : Type 0 where
+pub record Traced (A : Agent) (budget : ℕ) (s : State) (o : Outcome) : Type 0 where
   -- the choices that were made
   pub choices : List Choice
   -- 01, "A configuration and its transitions": "the definition's own chain from the first configuration to the last"
@@ -105,7 +105,7 @@ pub record Ran (A : Agent) (budget : ℕ) (s : State) (o : Outcome) : Type 0 whe
 
 -- 01, "What the contracts settle": "it fixes result and count by the definition's chain": for every agent, budget and state.
 abbrev pub RunLaw : Type 0
-RunLaw = (A : Agent) (budget : ℕ) (s : State) → Ran A budget s (run A budget s)
+RunLaw = (A : Agent) (budget : ℕ) (s : State) → Traced A budget s (run A budget s)
 
 -- 01, "Weight and grading": "the first offender: the initial plan, then selection rule n, then revision rule n, in that order":
 -- it offends, and nothing that is asked before it does.
@@ -123,7 +123,7 @@ pub data Offends (w : ℕ → ℕ) (A : Agent) (initial : Plan) : Offender → T
       → Entry (A .PR) n r → weigh w (r .πₕ) ≤ weigh w (r .πb) → Offends w A initial (Offender.Revision n)
 
 -- 00, demand 3, sentence by sentence, of an agent, its initial plan and weights.
-pub record Demand3 (w : ℕ → ℕ) (A : Agent) (initial : Plan) : Type 0 where
+pub record GradeLaws (w : ℕ → ℕ) (A : Agent) (initial : Plan) : Type 0 where
   -- 00, demand 3: "A card is graded bounded exactly if its starting plans weigh at most 1,024 and each revision lowers the
   -- weight."
   pub exactly : (verdict w A initial ≡ Verdict.Bounded) ↔ Bounded w A initial
@@ -146,4 +146,4 @@ pub record Demand3 (w : ℕ → ℕ) (A : Agent) (initial : Plan) : Type 0 where
 
 -- 00, demand 3, for weights of which 01, "Weight and grading" has: "Each action weighs 1 to 1,024." At least 1 is enough.
 abbrev pub BoundedLaw : Type 0
-BoundedLaw = (w : ℕ → ℕ) → ((a : ℕ) → 1 ≤ w a) → (A : Agent) (initial : Plan) → Demand3 w A initial
+BoundedLaw = (w : ℕ → ℕ) → ((a : ℕ) → 1 ≤ w a) → (A : Agent) (initial : Plan) → GradeLaws w A initial

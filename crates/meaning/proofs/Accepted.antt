@@ -117,5 +117,5 @@ card-laws b e =
     record {
       accepted = a;
       numbered = numbered b (a .counts);
-      demand3 = bounded-law (weight b) (weighs-something b (a .weights)) (agent b) (initialPlan b);
+      graded = bounded-law (weight b) (weighs-something b (a .weights)) (agent b) (initialPlan b);
     }

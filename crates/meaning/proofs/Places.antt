@@ -16,7 +16,7 @@ use Rattle.paper.proofs.Relation.{both}
 use Rattle.house.specs.Order.{State}
 use Rattle.meaning.specs.declared.Layout.{Layout}
 use Rattle.meaning.specs.declared.Answer.the-variants.{Done}
-use Rattle.meaning.specs.Card.{Bytes, byte, number, part}
+use Rattle.meaning.specs.Card.{Bytes, byte, numberAt, part}
 use Rattle.meaning.specs.Place.{twoBytes, placeHeader, place, placed}
 use Rattle.meaning.specs.Refusals.{firstGiven, placeTable, actionsGood, setGood}
 use Rattle.meaning.specs.Theorems.{PlaceLaws}
@@ -54,12 +54,12 @@ record Header (p : Bytes) : Type 0 where
   long-enough : 44 ≤ length p
   mark0 : byte p 0 ≡ 0x33
   mark1 : byte p 1 ≡ 0x50
-  edition : number p 2 ≡ 1
-  short-plan : number p 4 ≤ 1024
-  phase : number p 8 ≤ 2
-  zeros : number p 10 ≡ 0
-  offset : number p 6 ≡ 44
-  ends : length p ≡ 44 + number p 4
+  edition : numberAt p 2 ≡ 1
+  short-plan : numberAt p 4 ≤ 1024
+  phase : numberAt p 8 ≤ 2
+  zeros : numberAt p 10 ≡ 0
+  offset : numberAt p 6 ≡ 44
+  ends : length p ≡ 44 + numberAt p 4
 
 header : (y : Layout) (p : Bytes) → firstGiven (placeTable y) p ≡ Done → Header p
 unfolding placeTable
@@ -70,9 +70,9 @@ header y p e0 =
     let (h4, e4) = passes _ _ p e3 in
     let (m0, m) = both (eqb (byte p 0) 0x33) _ (not-false _ h2) in
     let (m1, m2) = both (eqb (byte p 1) 0x50) _ m in
-    let (l, r) = both (leb (number p 4) 1024) _ (not-false _ h3) in
-    let (f, z) = both (leb (number p 8) 2) _ r in
-    let (o, t) = both (eqb (number p 6) 44) _ (not-false _ h4) in
+    let (l, r) = both (leb (numberAt p 4) 1024) _ (not-false _ h3) in
+    let (f, z) = both (leb (numberAt p 8) 2) _ r in
+    let (o, t) = both (eqb (numberAt p 6) 44) _ (not-false _ h4) in
     record {
       long-enough = ltb-false _ _ h1;
       mark0 = eqb-true _ _ m0;
@@ -85,7 +85,7 @@ header y p e0 =
       ends = eqb-true _ _ t;
     }
 
-same-header : (p : Bytes) → AreBytes p → Header p → (n f : ℕ) → n ≡ number p 4 → f ≡ number p 8 → placeHeader n f ≡ bytesFrom p 0 12
+same-header : (p : Bytes) → AreBytes p → Header p → (n f : ℕ) → n ≡ numberAt p 4 → f ≡ numberAt p 8 → placeHeader n f ≡ bytesFrom p 0 12
 unfolding placeHeader bytesFrom
 same-header p bs h n f l k =
     let record { long-enough = _; mark0 = m0; mark1 = m1; edition = d; short-plan = s; phase = q; zeros = z; offset = o; ends = _ } = h in
@@ -108,8 +108,8 @@ restored-saved : (y : Layout) (p : Bytes) → AreBytes p → firstGiven (placeTa
 unfolding placed place part
 restored-saved y p bs e =
     let h = header y p e in
-    let l : length (drop 44 p) ≡ number p 4 = length-drop 44 p ∙ (let t = h .ends in omega arith) in
-    let q : placeHeader (length (drop 44 p)) (number p 8) ≡ bytesFrom p 0 12 = same-header p bs h (length (drop 44 p)) (number p 8) l refl in
+    let l : length (drop 44 p) ≡ numberAt p 4 = length-drop 44 p ∙ (let t = h .ends in omega arith) in
+    let q : placeHeader (length (drop 44 p)) (numberAt p 8) ≡ bytesFrom p 0 12 = same-header p bs h (length (drop 44 p)) (numberAt p 8) l refl in
     let r : take 16 (drop 28 p) ++ drop 44 p ≡ drop 28 p = ap (λ x. take 16 (drop 28 p) ++ x) (sym (drop-drop 16 28 p)) ∙ take-append-drop 16 (drop 28 p) in
     let s : take 16 (drop 12 p) ++ drop 28 p ≡ drop 12 p = ap (λ x. take 16 (drop 12 p) ++ x) (sym (drop-drop 16 12 p)) ∙ take-append-drop 16 (drop 12 p) in
     let n = h .long-enough in

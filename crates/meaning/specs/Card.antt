@@ -13,14 +13,14 @@ use Rattle.meaning.specs.declared.Layout.{Layout}
 abbrev pub Bytes : Type 0
 Bytes = List ℕ
 
--- The byte at a place; 0 past the end. Serves number and the entries: 01, "The card, edition 1": "a kind, a, b, an action, a
+-- The byte at a place; 0 past the end. Serves numberAt and the entries: 01, "The card, edition 1": "a kind, a, b, an action, a
 -- node and a plain 0 are one byte each".
 abbrev pub byte : Bytes → ℕ → ℕ
 byte b at = getD b at 0
 
 -- 01, "The card, edition 1": "Numbers are two bytes, low byte first"
-abbrev pub number : Bytes → ℕ → ℕ
-number b at = byte b at + 256 * byte b (at + 1)
+abbrev pub numberAt : Bytes → ℕ → ℕ
+numberAt b at = byte b at + 256 * byte b (at + 1)
 
 -- n bytes from a place on. Serves the sets (01, "The card, edition 1": "A set of atoms is 16 bytes") and plan.
 unfoldable pub part : Bytes → ℕ → ℕ → Bytes
@@ -28,19 +28,19 @@ part b at n = take n (drop at b)
 
 -- 01, "The card, edition 1", the table: "nodes, offset" and the like, two numbers in turn. Serves layout.
 abbrev pub section : Bytes → ℕ → Section
-section b at = record { count = number b at; offset = number b (at + 2) }
+section b at = record { count = numberAt b at; offset = numberAt b (at + 2) }
 
 -- 01, "The card, edition 1": "a start and a length in the pool", two numbers in turn. Serves layout and the rules.
 abbrev pub span : Bytes → ℕ → Span
-span b at = record { start = number b at; length = number b (at + 2) }
+span b at = record { start = numberAt b at; length = numberAt b (at + 2) }
 
 -- 01, "The card, edition 1": "counts and offsets in a header": the table, row by row.
 unfoldable pub layout : Bytes → Layout
 layout b = record {
   -- 01, "The card, edition 1", at 4: "atoms"
-  atoms = number b 4;
+  atoms = numberAt b 4;
   -- 01, "The card, edition 1", at 6: "actions"
-  actions = number b 6;
+  actions = numberAt b 6;
   -- 01, "The card, edition 1", at 8, 10: "nodes, offset"
   nodes = section b 8;
   -- 01, "The card, edition 1", at 12, 14: "specifications, offset"
@@ -66,7 +66,7 @@ entries read size s = map (λ i. read (entryAt size s i)) (numbers 0 (s .count))
 
 -- 01, "The card, edition 1", at 64: "weights, one for each action". The weight of action a.
 abbrev pub weightAt : Bytes → ℕ → ℕ
-weightAt b a = number b (64 + 2 * a)
+weightAt b a = numberAt b (64 + 2 * a)
 
 -- 01, "The card, edition 1", at 64: "weights, one for each action". All of them, from action 0 on.
 unfoldable pub weights : Layout → Bytes → List ℕ

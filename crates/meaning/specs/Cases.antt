@@ -77,9 +77,9 @@ stepLine n =
     suc n ∷ (guideCode (afterSteps n) ++ (c .length ∷ weigh (weight stripe) (ListN.take (c .length) (c .plan)) ∷ []))
 
 -- Some codes taken one after the other. Serves PCases.
-unfoldable pub chosen : Configuration → List ℕ → Configuration
-chosen c [] = c
-chosen c (k ∷ ks) = chosen (takes stripe c k .configuration) ks
+unfoldable pub takenInTurn : Configuration → List ℕ → Configuration
+takenInTurn c [] = c
+takenInTurn c (k ∷ ks) = takenInTurn (takes stripe c k .configuration) ks
 
 -- 01, P7: "33 50 01 00 02 00 2C 00 00 00 00 00, then 0B and 15 zeros, 04 and 15 zeros, 02 00", with a phase.
 unfoldable pub placeP7 : ℕ → Bytes
@@ -102,7 +102,7 @@ pub record PCases : Type 0 where
   -- 01, "The stripe card": "4 revise 1 2 2", "5 act 2 1 1", "6 act 0 0 0", likewise.
   pub last-steps : stepLine 3 ++ (stepLine 4 ++ stepLine 5) ≡ 4 ∷ 513 ∷ 2 ∷ 2 ∷ 5 ∷ 258 ∷ 1 ∷ 1 ∷ 6 ∷ 256 ∷ 0 ∷ 0 ∷ []
   -- 01, "The stripe card": the same six as chosen moves: select 0, revise 0, act 1, revise 1, act 2, act 0.
-  pub six-chosen : shown (chosen loaded (0 ∷ 512 ∷ 257 ∷ 513 ∷ 258 ∷ 256 ∷ [])) ≡ resting
+  pub six-chosen : shown (takenInTurn loaded (0 ∷ 512 ∷ 257 ∷ 513 ∷ 258 ∷ 256 ∷ [])) ≡ resting
   -- 01, P1: "The six steps above end with beliefs {0, 2}, no goals, phase 2."
   pub P1 : shownRun (runs stripe loaded 1000) ≡ 0 ∷ 1 ∷ 6 ∷ resting
   -- 01, P2: "Budget 6: spent, 6."

@@ -4,7 +4,7 @@ use Prim.Native.Nat.{ℕ, _+_, _/_, _%_}
 use lib.ListN.{length, drop}
 use Rattle.paper.specs.Language.{⟨_/_/_⟩}
 use Rattle.house.specs.Order.{State}
-use Rattle.meaning.specs.Card.{Bytes, number, part}
+use Rattle.meaning.specs.Card.{Bytes, numberAt, part}
 
 -- 01, "The card, edition 1": "Numbers are two bytes, low byte first"
 abbrev pub twoBytes : ℕ → Bytes
@@ -21,4 +21,4 @@ place s = placeHeader (length (s .mental .π)) (s .phase) ++ (s .mental .σ ++ (
 -- 01, "The place": "phase at 8; …; beliefs at 12; goals at 28; the plan's L bytes at 44": the state that a place's bytes stand
 -- for.
 unfoldable pub placed : Bytes → State
-placed p = record { mental = ⟨ part p 12 16 / drop 44 p / part p 28 16 ⟩; phase = number p 8 }
+placed p = record { mental = ⟨ part p 12 16 / drop 44 p / part p 28 16 ⟩; phase = numberAt p 8 }

@@ -13,7 +13,7 @@ use Rattle.meaning.specs.declared.Section.{Section}
 use Rattle.meaning.specs.declared.Span.{Span}
 use Rattle.meaning.specs.declared.Layout.{Layout}
 use Rattle.meaning.specs.declared.Configuration.{Configuration}
-use Rattle.meaning.specs.Card.{Bytes, byte, number, part, span, layout, entryAt, weightAt, Node, nodeAt, nodes, pass}
+use Rattle.meaning.specs.Card.{Bytes, byte, numberAt, part, span, layout, entryAt, weightAt, Node, nodeAt, nodes, pass}
 
 -- 01, "Numbers the guide may answer": the columns "no." and "name".
 unfoldable pub numberOf : Refusal → ℕ
@@ -84,7 +84,7 @@ cardShort b = ltb (length b) 64
 -- 01, "Numbers the guide may answer", row 2: "first two bytes or edition differ". 01, "The card, edition 1", at 0: "bytes 33 41
 -- hex"; at 2: "edition", 1.
 unfoldable pub cardMark : Bytes → Bool
-cardMark b = not (eqb (byte b 0) 0x33 && (eqb (byte b 1) 0x41 && eqb (number b 2) 1))
+cardMark b = not (eqb (byte b 0) 0x33 && (eqb (byte b 1) 0x41 && eqb (numberAt b 2) 1))
 
 -- Not 01, "Numbers the guide may answer", row 3: "the number of atoms, of actions or of a section's entries or bytes is out of
 -- range (the initial plan's length is 7)". The ranges: 01, "The card, edition 1", "1..128", "1..256", "0..256" and "0..8,192".
@@ -180,7 +180,7 @@ selectionGood bs gs l b at =
     conditionGood l gs (byte b at)
     && (conditionGood l bs (byte b (at + 1))
     && (spanGood l 1 (span b (at + 2))
-    && eqb (number b (at + 6)) 0))
+    && eqb (numberAt b (at + 6)) 0))
 
 -- Not 01, "Numbers the guide may answer", row 7: "an entry … breaks its rule", of 01, "The card, edition 1": "Revision rule, 12
 -- bytes: node, 0, head start, head length (1..1,024), body start, body length (0..1,024), zero number."
@@ -190,7 +190,7 @@ revisionGood gs l b at =
     && (eqb (byte b (at + 1)) 0
     && (spanGood l 1 (span b (at + 2))
     && (spanGood l 0 (span b (at + 6))
-    && eqb (number b (at + 10)) 0)))
+    && eqb (numberAt b (at + 10)) 0)))
 
 -- Not 01, "Numbers the guide may answer", row 7: "an entry or the initial plan breaks its rule: unknown action or node,
 -- condition of the wrong kind, plan outside the pool, length out of range, a zero field not zero"
@@ -252,24 +252,45 @@ cardAnswer b = firstGiven cardTable b
 
 -- ---- a place, judged against the card that it is given with
 
+-- 01, "Numbers the guide may answer", row 1: "place under 44"
+abbrev pub placeShort : Bytes → Bool
+placeShort p = ltb (length p) 44
+
+-- Not 01, "Numbers the guide may answer", row 2: "first two bytes or edition differ". 01, "The place": "Bytes 33 50 hex; edition
+-- 1 at 2".
+abbrev pub placeMarkGood : Bytes → Bool
+placeMarkGood p = eqb (byte p 0) 0x33 && (eqb (byte p 1) 0x50 && eqb (numberAt p 2) 1)
+
+-- Not 01, "Numbers the guide may answer", row 3: "in a place L over 1,024, phase over 2, or bytes 10 and 11 not zero"
+abbrev pub placeCountsGood : Bytes → Bool
+placeCountsGood p = leb (numberAt p 4) 1024 && (leb (numberAt p 8) 2 && eqb (numberAt p 10) 0)
+
+-- Not 01, "Numbers the guide may answer", row 4: "an offset or the total length is not the required one". 01, "The place": "plan
+-- offset 44 at 6", "Exactly 44 + L bytes."
+abbrev pub placeOffsetsGood : Bytes → Bool
+placeOffsetsGood p = eqb (numberAt p 6) 44 && eqb (length p) (44 + numberAt p 4)
+
+-- Not 01, "Numbers the guide may answer", row 9: "a set has a bit at or above the number of atoms". 01, "The place": "beliefs
+-- at 12; goals at 28"
+abbrev pub placeSetsGood : ℕ → Bytes → Bool
+placeSetsGood atoms p = setGood atoms (part p 12 16) && setGood atoms (part p 28 16)
+
 -- 01, "Numbers the guide may answer": "then a place with 1, 2, 3, 4, 8, 9". 01, "The place": "it is judged against the card it
 -- is given with".
 unfoldable pub placeTable : Layout → List (Row Bytes)
 placeTable l =
     -- 01, "Numbers the guide may answer", row 1: "place under 44"
-    (Refusal.Short given-when (λ p. ltb (length p) 44))
-    -- 01, "Numbers the guide may answer", row 2: "first two bytes or edition differ". 01, "The place": "Bytes 33 50 hex;
-    -- edition 1 at 2".
-    ∷ (Refusal.Mark given-when (λ p. not (eqb (byte p 0) 0x33 && (eqb (byte p 1) 0x50 && eqb (number p 2) 1))))
+    (Refusal.Short given-when placeShort)
+    -- 01, "Numbers the guide may answer", row 2: "first two bytes or edition differ"
+    ∷ (Refusal.Mark given-when (λ p. not (placeMarkGood p)))
     -- 01, "Numbers the guide may answer", row 3: "in a place L over 1,024, phase over 2, or bytes 10 and 11 not zero"
-    ∷ (Refusal.Count given-when (λ p. not (leb (number p 4) 1024 && (leb (number p 8) 2 && eqb (number p 10) 0))))
-    -- 01, "Numbers the guide may answer", row 4: "an offset or the total length is not the required one". 01, "The place":
-    -- "plan offset 44 at 6", "Exactly 44 + L bytes."
-    ∷ (Refusal.Offsets given-when (λ p. not (eqb (number p 6) 44 && eqb (length p) (44 + number p 4))))
+    ∷ (Refusal.Count given-when (λ p. not (placeCountsGood p)))
+    -- 01, "Numbers the guide may answer", row 4: "an offset or the total length is not the required one"
+    ∷ (Refusal.Offsets given-when (λ p. not (placeOffsetsGood p)))
     -- 01, "Numbers the guide may answer", row 8: "a … plan byte is not below the number of actions"
     ∷ (Refusal.ActionByte given-when (λ p. not (actionsGood (l .actions) (drop 44 p))))
     -- 01, "Numbers the guide may answer", row 9: "a set has a bit at or above the number of atoms"
-    ∷ (Refusal.Atom given-when (λ p. not (setGood (l .atoms) (part p 12 16) && setGood (l .atoms) (part p 28 16))))
+    ∷ (Refusal.Atom given-when (λ p. not (placeSetsGood (l .atoms) p)))
     ∷ []
 
 -- 01, "Numbers the guide may answer": "the card first with 1 to 9, then a place with 1, 2, 3, 4, 8, 9"

@@ -7,7 +7,7 @@ use Prim.Native.Nat.{ℕ, _≤_}
 use lib.ListN.{length}
 use Rattle.paper.specs.Theorems.{AreBytes}
 use Rattle.house.specs.Order.{State}
-use Rattle.house.specs.Theorems.{Numbered, Demand3}
+use Rattle.house.specs.Theorems.{Numbered, GradeLaws}
 use Rattle.meaning.specs.declared.Refusal.{Refusal}
 use Rattle.meaning.specs.declared.Answer.the-variants.{Done, Refused}
 use Rattle.meaning.specs.declared.Layout.{Layout}
@@ -85,7 +85,7 @@ pub record CardLaws (b : Bytes) : Type 0 where
   -- 00, the machine: "256 action specifications, 256 rules for choosing a plan": no two of its choices have one code.
   pub numbered : Numbered (agent b)
   -- 00, demand 3: "A card is graded bounded exactly if …", and what holds "Under such a card".
-  pub demand3 : Demand3 (weight b) (agent b) (initialPlan b)
+  pub graded : GradeLaws (weight b) (agent b) (initialPlan b)
 
 -- 00, demand 2: "On an accepted card and configuration": one that passes row 13 is known by its state, and a state that fits by
 -- its configuration.

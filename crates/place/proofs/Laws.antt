@@ -14,7 +14,7 @@ use Rattle.meaning.specs.declared.Layout.{Layout}
 use Rattle.meaning.specs.declared.Configuration.{Configuration}
 use Rattle.meaning.specs.declared.Answer.{Answer}
 use Rattle.meaning.specs.declared.Answer.the-variants.{Done, Refused}
-use Rattle.meaning.specs.Card.{Bytes, number, layout}
+use Rattle.meaning.specs.Card.{Bytes, numberAt, layout}
 use Rattle.meaning.specs.Place.{placeHeader, place, placed}
 use Rattle.meaning.specs.Configurations.{stateOf, configurationOf, empty}
 use Rattle.meaning.specs.Refusals.{firstGiven, placeTable, andThen, cardAnswer, placeAnswer, configurationTable, configurationGood, configurationAnswer}
@@ -38,9 +38,9 @@ sized l p e0 =
     let (h2, e2) = passes _ _ p e1 in
     let (h3, e3) = passes _ _ p e2 in
     let (h4, e4) = passes _ _ p e3 in
-    let (n, r) = both (leb (number p 4) 1024) _ (not-false _ h3) in
-    let (f, z) = both (leb (number p 8) 2) _ r in
-    let (o, t) = both (eqb (number p 6) 44) _ (not-false _ h4) in
+    let (n, r) = both (leb (numberAt p 4) 1024) _ (not-false _ h3) in
+    let (f, z) = both (leb (numberAt p 8) 2) _ r in
+    let (o, t) = both (eqb (numberAt p 6) 44) _ (not-false _ h4) in
     record { fits = leb-true _ _ n; phase = leb-true _ _ f; ends = eqb-true _ _ t }
 
 -- what the two rows of a save leave

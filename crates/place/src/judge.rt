@@ -5,9 +5,9 @@ ghost use mathlib.Core.Bool.{_&&_};
 ghost use Prim.Native.Nat.{_+_, _≤_};
 ghost use lib.ListN.{length, drop};
 ghost use Rattle.meaning.specs.Card.{part};
-ghost use Rattle.meaning.specs.Refusals.{actionsGood, setGood, firstGiven, placeTable};
+ghost use Rattle.meaning.specs.Refusals.{actionsGood, setGood, placeMarkGood, placeCountsGood, placeOffsetsGood, placeSetsGood, firstGiven, placeTable};
 ghost use Rattle.sets.specs.Sets.{below};
-ghost use Rattle.place.specs.PlaceRows.{rowsFrom, markGood, countsGood, offsetsGood};
+ghost use Rattle.card.specs.Stair.{rowsFrom};
 use card::check::row;
 use card::contents::actions_good;
 use card::readers::number_at;
@@ -27,7 +27,7 @@ fn set_good(p: &[u8], at: usize, atoms: usize, known: [u8; 16]) -> bool
 // Row 9: "a set has a bit at or above the number of atoms". The beliefs stand at 12, the goals at 28.
 fn sets_good(p: &[u8], atoms: usize) -> bool
     requires { ⌜ (44 ≤ length (now p)) × (atoms ≤ 128) ⌝ }
-    ensures { λ r. ⌜ r ≡ (setGood atoms (part (now (p .entry)) 12 16) && setGood atoms (part (now (p .entry)) 28 16)) ⌝ }
+    ensures { λ r. ⌜ r ≡ placeSetsGood atoms (now (p .entry)) ⌝ }
 {
     let known = sets::below_number(atoms);
     let beliefs = set_good(p, 12, atoms, known);
@@ -38,7 +38,7 @@ fn sets_good(p: &[u8], atoms: usize) -> bool
 // Row 9, the last.
 fn from_sets(l: Layout, p: &[u8]) -> Answer
     requires { ⌜ (44 ≤ length (now p)) × (l .atoms ≤ 128) ⌝ }
-    ensures { λ r. ⌜ r ≡ rowsFrom 5 l (now (p .entry)) ⌝ }
+    ensures { λ r. ⌜ r ≡ rowsFrom 5 (placeTable l) (now (p .entry)) ⌝ }
 {
     row(sets_good(p, l.atoms), Refusal::Atom)
 }
@@ -54,7 +54,7 @@ fn plan_good(p: &[u8], actions: usize) -> bool
 // Row 8, then 9.
 fn from_plan(l: Layout, p: &[u8]) -> Answer
     requires { ⌜ (44 ≤ length (now p)) × (l .atoms ≤ 128) ⌝ }
-    ensures { λ r. ⌜ r ≡ rowsFrom 4 l (now (p .entry)) ⌝ }
+    ensures { λ r. ⌜ r ≡ rowsFrom 4 (placeTable l) (now (p .entry)) ⌝ }
 {
     let a = row(plan_good(p, l.actions), Refusal::ActionByte);
     let Answer::Done = a else {
@@ -66,7 +66,7 @@ fn from_plan(l: Layout, p: &[u8]) -> Answer
 // Row 4: "an offset or the total length is not the required one". "plan offset 44 at 6 … Exactly 44 + L bytes."
 fn offsets_good(p: &[u8]) -> bool
     requires { ⌜ 44 ≤ length (now p) ⌝ }
-    ensures { λ r. ⌜ r ≡ offsetsGood (now (p .entry)) ⌝ }
+    ensures { λ r. ⌜ r ≡ placeOffsetsGood (now (p .entry)) ⌝ }
 {
     let n = number_at(p, 4);
     let offset = number_at(p, 6);
@@ -76,7 +76,7 @@ fn offsets_good(p: &[u8]) -> bool
 // Row 4, then 8 and 9.
 fn from_offsets(l: Layout, p: &[u8]) -> Answer
     requires { ⌜ (44 ≤ length (now p)) × (l .atoms ≤ 128) ⌝ }
-    ensures { λ r. ⌜ r ≡ rowsFrom 3 l (now (p .entry)) ⌝ }
+    ensures { λ r. ⌜ r ≡ rowsFrom 3 (placeTable l) (now (p .entry)) ⌝ }
 {
     let a = row(offsets_good(p), Refusal::Offsets);
     let Answer::Done = a else {
@@ -88,7 +88,7 @@ fn from_offsets(l: Layout, p: &[u8]) -> Answer
 // Row 3: "in a place L over 1,024, phase over 2, or bytes 10 and 11 not zero".
 fn counts_good(p: &[u8]) -> bool
     requires { ⌜ 44 ≤ length (now p) ⌝ }
-    ensures { λ r. ⌜ r ≡ countsGood (now (p .entry)) ⌝ }
+    ensures { λ r. ⌜ r ≡ placeCountsGood (now (p .entry)) ⌝ }
 {
     let n = number_at(p, 4);
     let phase = number_at(p, 8);
@@ -99,7 +99,7 @@ fn counts_good(p: &[u8]) -> bool
 // Row 3, then 4, 8 and 9.
 fn from_counts(l: Layout, p: &[u8]) -> Answer
     requires { ⌜ (44 ≤ length (now p)) × (l .atoms ≤ 128) ⌝ }
-    ensures { λ r. ⌜ r ≡ rowsFrom 2 l (now (p .entry)) ⌝ }
+    ensures { λ r. ⌜ r ≡ rowsFrom 2 (placeTable l) (now (p .entry)) ⌝ }
 {
     let a = row(counts_good(p), Refusal::Count);
     let Answer::Done = a else {
@@ -111,7 +111,7 @@ fn from_counts(l: Layout, p: &[u8]) -> Answer
 // Row 2: "first two bytes or edition differ". "Bytes 33 50 hex; edition 1 at 2".
 fn mark_good(p: &[u8]) -> bool
     requires { ⌜ 44 ≤ length (now p) ⌝ }
-    ensures { λ r. ⌜ r ≡ markGood (now (p .entry)) ⌝ }
+    ensures { λ r. ⌜ r ≡ placeMarkGood (now (p .entry)) ⌝ }
 {
     let edition = number_at(p, 2);
     (p[0] == 0x33) & ((p[1] == 0x50) & (edition == 1))
@@ -120,7 +120,7 @@ fn mark_good(p: &[u8]) -> bool
 // Row 2, then 3, 4, 8 and 9.
 fn from_mark(l: Layout, p: &[u8]) -> Answer
     requires { ⌜ (44 ≤ length (now p)) × (l .atoms ≤ 128) ⌝ }
-    ensures { λ r. ⌜ r ≡ rowsFrom 1 l (now (p .entry)) ⌝ }
+    ensures { λ r. ⌜ r ≡ rowsFrom 1 (placeTable l) (now (p .entry)) ⌝ }
 {
     let a = row(mark_good(p), Refusal::Mark);
     let Answer::Done = a else {

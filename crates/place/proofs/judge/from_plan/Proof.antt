@@ -1,5 +1,5 @@
 use Rattle.meaning.specs.Refusals.{placeTable}
-use Rattle.place.specs.PlaceRows.{rowsFrom}
+use Rattle.card.specs.Stair.{rowsFrom}
 use Rattle.card.proofs.Stair.{stops, goes-on}
 use mathlib.Core.Bool.{not}
 use mathlib.Core.Path.{_≡_, refl, sym, ap, _∙_}

@@ -1,7 +1,7 @@
 use borrow.Author.Tests.{leb-true}
 use lib.Dec.{leb}
 use Rattle.meaning.specs.Refusals.{placeTable}
-use Rattle.place.specs.PlaceRows.{rowsFrom}
+use Rattle.card.specs.Stair.{rowsFrom}
 use Rattle.card.proofs.Stair.{stops, goes-on, ltb-not, row-done}
 use mathlib.Core.Path.{_≡_, refl, sym, ap, _∙_}
 use mathlib.Core.List.{List, [], _∷_, _++_, append-nil, append-assoc}

@@ -1,6 +1,6 @@
 use Rattle.meaning.specs.Configurations.{padded, configurationOf}
 use Rattle.meaning.specs.Place.{placed}
-use Rattle.meaning.specs.Card.{byte, number, part}
+use Rattle.meaning.specs.Card.{byte, numberAt, part}
 use lib.Seq.{take-all}
 use lib.ListN.{length-drop}
 use mathlib.Core.Path.{_≡_, refl, sym, ap, _∙_}
@@ -49,7 +49,7 @@ returns c =
     let t = s .ends in
     let l : length (drop 44 b) ≡ n .result = length-drop 44 b ∙ omega (arith, n .ensures .0) in
     let π : part b 44 (n .result) ≡ drop 44 b = take-all (n .result) (drop 44 b) (omega arith) in
-    let k : byte b 8 ≡ number b 8 = omega arith in
+    let k : byte b 8 ≡ numberAt b 8 = omega arith in
     let m = s .fits in
     (λ i. record { beliefs = c .before .before .before .before .set-at .ensures i; goals = c .before .before .before .set-at2 .ensures i; plan = (c .before .fill .ensures ∙ ap padded π) i; length = sym l i; phase = k i }, omega (arith, n .ensures .0))
 
