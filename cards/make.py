@@ -1,8 +1,9 @@
 #!/usr/bin/env python3
-"""Makes the card files of this folder from their sources.
+"""Makes card files from their sources.
 
-    python3 cards/make.py            writes NAME.card for each NAME.txt
-    python3 cards/make.py --check    writes nothing; fails if a card is not what its source gives
+    python3 cards/make.py FILE.txt   writes FILE.card beside it; several files may be named
+    python3 cards/make.py            writes the card of every source of this folder
+    python3 cards/make.py --check    writes nothing; fails if a card is not what its source gives (of this folder, or as named)
 
 A source says one thing a line, in document 01's words; README.md beside this file lists the lines. The script lays out document
 01's "card, edition 1" and judges nothing: what a byte can hold is written, and whether the card is good is for the guide to say.
@@ -234,14 +235,22 @@ def nodes(source):
     return found
 
 
+def entries(source, keyword, form, usage):
+    """The entries of a sort: each line, whose number is its own, with what its form finds in it."""
+    for n, line in enumerate(source.of(keyword)):
+        own_number(line, n)
+        match = re.fullmatch(form, line.rest)
+        if not match:
+            raise line.wrong(usage)
+        yield line, match
+
+
 def specifications(source):
     """ "Specification, 36 bytes: action, node, 0, 0, Add, Del." """
     found = b""
-    for n, line in enumerate(source.of("specification")):
-        own_number(line, n)
-        match = re.fullmatch(r"(\S+) if ([^ ,]+)(?:, Add ([^,]+))?(?:, Del ([^,]+))?", line.rest)
-        if not match:
-            raise line.wrong("a specification is 'ACTION if NODE, Add ATOMS, Del ATOMS', without Add or Del where there are none")
+    form = r"(\S+) if ([^ ,]+)(?:, Add ([^,]+))?(?:, Del ([^,]+))?"
+    usage = "a specification is 'ACTION if NODE, Add ATOMS, Del ATOMS', without Add or Del where there are none"
+    for line, match in entries(source, "specification", form, usage):
         action = look_up(line, source.actions, "action", match[1])
         node = look_up(line, source.nodes, "node", match[2])
         found += bytes((action, node, 0, 0))
@@ -252,11 +261,8 @@ def specifications(source):
 def selections(source):
     """ "Selection rule, 8 bytes: belief node, goal node, start, length, zero number." """
     found = b""
-    for n, line in enumerate(source.of("selection")):
-        own_number(line, n)
-        match = re.fullmatch(r"([^ ,]+), ([^ ,]+), plan ([^,]+)", line.rest)
-        if not match:
-            raise line.wrong("a selection is 'NODE, NODE, plan ACTIONS': the belief condition, the goal condition, the plan")
+    usage = "a selection is 'NODE, NODE, plan ACTIONS': the belief condition, the goal condition, the plan"
+    for line, match in entries(source, "selection", r"([^ ,]+), ([^ ,]+), plan ([^,]+)", usage):
         both = [look_up(line, source.nodes, "node", word) for word in match.groups()[:2]]
         found += bytes(both) + plan_of(line, source, match[3]) + bytes(2)
     return found
@@ -265,11 +271,8 @@ def selections(source):
 def revisions(source):
     """ "Revision rule, 12 bytes: node, 0, head start, head length, body start, body length, zero number." """
     found = b""
-    for n, line in enumerate(source.of("revision")):
-        own_number(line, n)
-        match = re.fullmatch(r"([^,]+), ([^ ,]+), becomes ([^,]+)", line.rest)
-        if not match:
-            raise line.wrong("a revision is 'ACTIONS, NODE, becomes ACTIONS': the head, the condition, the body (or 'empty')")
+    usage = "a revision is 'ACTIONS, NODE, becomes ACTIONS': the head, the condition, the body (or 'empty')"
+    for line, match in entries(source, "revision", r"([^,]+), ([^ ,]+), becomes ([^,]+)", usage):
         node = look_up(line, source.nodes, "node", match[2])
         head, body = plan_of(line, source, match[1]), plan_of(line, source, match[3])
         found += bytes((node, 0)) + head + body + bytes(2)
@@ -330,50 +333,65 @@ def card_of(source):
     return overridden(source, bytearray(header + weighed + b"".join(held for held, _ in sections)))
 
 
-# ---- the two commands
+# ---- the commands
 
 
-def checked(name, card):
-    """What is wrong with a card file, or nothing."""
-    path = os.path.join(FOLDER, name + ".card")
+def card_path(source):
+    """The card of a source stands beside it."""
+    return source[: -len(".txt")] + ".card"
+
+
+def checked(source, card):
+    """What is wrong with the card file of a source, or nothing."""
+    path = card_path(source)
     if not os.path.exists(path):
-        return "%s.card is missing" % name
+        return "%s is missing" % os.path.basename(path)
     with open(path, "rb") as file:
         held = file.read()
-    return None if held == card else "%s.card is not what %s.txt gives" % (name, name)
+    return None if held == card else "%s is not what %s gives" % (os.path.basename(path), os.path.basename(source))
 
 
-def written(name, card):
-    """Writes a card file."""
-    with open(os.path.join(FOLDER, name + ".card"), "wb") as file:
+def written(source, card):
+    """Writes the card file of a source."""
+    path = card_path(source)
+    with open(path, "wb") as file:
         file.write(card)
-    print("%s.card, %d bytes" % (name, len(card)))
+    print("%s, %d bytes" % (os.path.relpath(path), len(card)))
 
 
-def names_of(ending):
-    """The names of the files of this folder with an ending."""
-    return sorted(os.path.basename(path)[: -len(ending)] for path in glob.glob(os.path.join(FOLDER, "*" + ending)))
+def fault_of(source, act):
+    """Makes the card of a source and does with it what is asked; what is wrong, or nothing."""
+    try:
+        return act(source, card_of(read_source(source)))
+    except Wrong as wrong:
+        return str(wrong)
+    except struct.error:
+        return "%s: a count, a start or an offset is over %d" % (os.path.basename(source), MOST_NUMBER)
+    except OSError as error:
+        return "%s: %s" % (error.filename, error.strerror)
+
+
+def of_folder(ending):
+    """The files of this folder with an ending."""
+    return sorted(glob.glob(os.path.join(FOLDER, "*" + ending)))
 
 
 def main(words):
-    """Writes or checks every card; what is wrong goes to standard error, and the exit status is then 1."""
-    if words not in ([], ["--check"]):
-        print("usage: make.py [--check]", file=sys.stderr)
+    """Writes or checks the cards; what is wrong goes to standard error, and the exit status is then 1."""
+    check = words[:1] == ["--check"]
+    files = words[1:] if check else words
+    if not all(file.endswith(".txt") for file in files):
+        print("usage: make.py [--check] [FILE.txt ...]", file=sys.stderr)
         return 2
-    sources = names_of(".txt")
-    faults = ["%s.card has no source" % name for name in names_of(".card") if name not in sources]
-    for name in sources:
-        try:
-            card = card_of(read_source(os.path.join(FOLDER, name + ".txt")))
-            faults.append(checked(name, card) if words else written(name, card))
-        except Wrong as wrong:
-            faults.append(str(wrong))
-        except struct.error:
-            faults.append("%s.txt: a count, a start or an offset is over %d" % (name, MOST_NUMBER))
+    sources = files or of_folder(".txt")
+    faults = [fault_of(source, checked if check else written) for source in sources]
+    if not files:
+        made = {card_path(source) for source in sources}
+        faults += ["%s has no source" % os.path.basename(card) for card in of_folder(".card") if card not in made]
     faults = [fault for fault in faults if fault]
     for fault in faults:
         print("make.py: %s" % fault, file=sys.stderr)
-    if words and not faults:
+    if check and not faults:
         print("%d cards are what their sources give" % len(sources))
     return 1 if faults else 0
 

@@ -1,6 +1,8 @@
 #!/usr/bin/env python3
 """Tests of make.py: bytes against document 01, and what is said of a wrong line. The last line is 'N passed, M failed'."""
 
+import contextlib
+import io
 import os
 import sys
 import tempfile
@@ -92,8 +94,25 @@ def made(text):
             return str(wrong)
 
 
+def commands():
+    """What make.py does with a file that it is given, each with whether it holds."""
+    with tempfile.TemporaryDirectory() as folder:
+        source, card = os.path.join(folder, "own.txt"), os.path.join(folder, "own.card")
+        with open(source, "w", encoding="utf-8") as file:
+            file.write(BASE)
+        with contextlib.redirect_stdout(io.StringIO()), contextlib.redirect_stderr(io.StringIO()) as said:
+            yield "no card to check", make.main(["--check", source]) == 1 and "own.card is missing" in said.getvalue()
+            yield "a card of one's own", make.main([source]) == 0 and os.path.getsize(card) == len(made(BASE))
+            yield "a card to check", make.main(["--check", source]) == 0
+            os.truncate(card, 9)
+            yield "another card to check", make.main(["--check", source]) == 1 and "not what own.txt gives" in said.getvalue()
+            yield "no such source", make.main([os.path.join(folder, "other.txt")]) == 1 and "No such file" in said.getvalue()
+            yield "no source", make.main([card]) == 2 and "usage" in said.getvalue()
+
+
 def tests():
     """Each test with whether it holds."""
+    yield from commands()
     with open(os.path.join(make.FOLDER, "stripe.txt"), encoding="utf-8") as file:
         stripe = made(file.read())
     yield "the stripe card", stripe == STRIPE and len(stripe) == 255

@@ -20,7 +20,8 @@ if [ "${1:-}" = --engine ]; then
 fi
 
 archive=$root/target/staticlib/libboard.a
-command -v rt >/dev/null || die "the command rt of the Rattle kit is missing"
+# shellcheck source=tests/kit.sh
+. "$root/tests/kit.sh"
 [ -d "$root/crates/board" ] || die "crates/board is missing"
 if [ ! -f "$archive" ] || [ -n "$(find "$root/crates" -type f -newer "$archive" | head -n 1)" ]; then
     mkdir -p "$root/target/c"

@@ -11,10 +11,8 @@ set -eu
 die() { printf 'build_c.sh: %s\n' "$*" >&2; exit 2; }
 
 [ $# -ge 2 ] || die "usage: build_c.sh PROGRAM FILE..."
-command -v rt >/dev/null || die "the command rt of the Rattle kit is missing"
-kit=$(cd "$(dirname "$(rt doc)")/.." && pwd)
-lib=$kit/toolchain/lib
-own=$kit/on/$(uname -m)/toolchain/bin
+# shellcheck source=tests/kit.sh
+. "$(dirname "$0")/kit.sh"
 [ -x "$own/clang" ] || die "the kit has no clang for $(uname -m)"
 [ -x "$own/ld.lld" ] || die "the kit has no ld.lld for $(uname -m)"
 

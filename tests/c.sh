@@ -26,12 +26,12 @@ while [ $# -gt 0 ]; do
     shift
 done
 
-command -v rt >/dev/null || die "the command rt of the Rattle kit is missing"
 command -v python3 >/dev/null || die "python3 is missing"
 root=$(cd "$(dirname "$0")/.." && pwd)
 tests=$root/tests
 work=$root/target/c
-clang=$(cd "$(dirname "$(rt doc)")/.." && pwd)/on/$(uname -m)/toolchain/bin/clang
+# shellcheck source=tests/kit.sh
+. "$tests/kit.sh"
 archive=$("$tests/archive.sh" $engine)
 mkdir -p "$work"
 passed=0
@@ -51,7 +51,7 @@ expect() { # WHAT COMMAND...
 
 # The header by itself.
 header() { # LANGUAGE EDITION
-    printf '#include "rigtemple.h"\n' | "$clang" -x "$1" "-std=$2" -pedantic -Wall -Wextra -Werror \
+    printf '#include "rigtemple.h"\n' | "$own/clang" -x "$1" "-std=$2" -pedantic -Wall -Wextra -Werror \
         --target=x86_64-unknown-linux-gnu -nostdinc -fsyntax-only -I "$root/include" \
         -include "$tests/libc.h" -
 }

@@ -3,15 +3,10 @@
 ghost use Prim.Native.Nat.{_≤_};
 use answers::refusal_number;
 use card::readers::number_at;
+use house::Ending;
 use house::Verdict;
 use meaning::Answer;
 use meaning::Configuration;
-
-// The guide's move as a code, or none.
-enum Picked {
-    Code(u16),
-    Nothing,
-}
 
 // A word, and the end of the line.
 fn end(word: &[u8]) {
@@ -36,8 +31,13 @@ fn first_line(bytes: usize, verdict: Verdict) {
 }
 
 // "Last: ending (rest, spent, full), count."
-fn last_line(ending: &[u8], count: u16) {
-    io::write_all(1, ending);
+fn last_line(ending: Ending, count: u16) {
+    match ending {
+        Ending::Rest => io::write_all(1, b"rest"),
+        Ending::Spent => io::write_all(1, b"spent"),
+        Ending::Full => io::write_all(1, b"full"),
+    }
+    ;
     also(count as u64);
     end(b"");
 }
@@ -58,86 +58,71 @@ fn plan_weight(card: &[u8], plan: &[u8; 1024], n: usize) -> u64 {
     let mut total: u64 = 0;
     let mut i: usize = 0;
     while i < 1024 {
-        if i < n {
-            total += weight(card, plan[i]);
+        if n <= i {
+            return total;
         }
+        total += weight(card, plan[i]);
         i += 1;
     }
     total
 }
 
+// "In the first kind with an enabled transition, the lowest number is taken": of a kind that was taken, the number. Every list has
+// room for 768 codes.
+fn lowest(card: &[u8], c: Configuration, kind: u16) -> u16 {
+    let mut codes = [0u16; 768];
+    let listed = guide::list(card, c, &mut codes);
+    let n = listed.count as usize;
+    let mut i: usize = 0;
+    while i < 768 {
+        if n <= i {
+            return 0;
+        }
+        let code = codes[i];
+        if code / 256 == kind {
+            return code % 256;
+        }
+        i += 1;
+    }
+    0
+}
+
 // "Step lines: count, kind, number, plan length after, plan weight after."
-fn step_line(card: &[u8], c: Configuration, count: u16, code: u16) {
-    let length = c.length as u64;
+fn step_line(count: u16, kind: u16, number: u16, length: u16, weight: u64) {
     io::print_decimal(1, count as u64);
-    match code / 256 {
+    match kind {
         0 => io::write_all(1, b" select"),
         1 => io::write_all(1, b" act"),
         _ => io::write_all(1, b" revise"),
     }
     ;
-    also((code % 256) as u64);
-    also(length);
-    also(plan_weight(card, &c.plan, c.length as usize));
+    also(number as u64);
+    also(length as u64);
+    also(weight);
     end(b"");
 }
 
-// The lowest choice of a kind among n codes.
-fn lowest(codes: &[u16; 768], n: usize, kind: u16) -> Picked {
-    let mut i: usize = 0;
-    while i < 768 {
-        if n <= i {
-            return Picked::Nothing;
-        }
-        let code = codes[i];
-        if code / 256 == kind {
-            return Picked::Code(code);
-        }
-        i += 1;
-    }
-    Picked::Nothing
-}
-
-// "From phase p the kinds p, p+1, p+2 (modulo 3) are tried in turn. In the first kind with an enabled transition, the lowest
-// number is taken."
-fn pick(card: &[u8], c: Configuration) -> Picked {
-    let phase = (c.phase % 3) as u16;
-    let mut codes = [0u16; 768];
-    let listed = guide::list(card, c, &mut codes);
-    let n = listed.count as usize;
-    let first = lowest(&codes, n, phase);
-    let Picked::Nothing = first else {
-        return first;
-    };
-    let second = lowest(&codes, n, (phase + 1) % 3);
-    let Picked::Nothing = second else {
-        return second;
-    };
-    lowest(&codes, n, (phase + 2) % 3)
-}
-
-// The run, a line a step: "The budget is looked at first."
+// The run with budget 1,000, a transition at a time, each the guide's own, and a line for it. Its kind is in the phase: "After any
+// transition, the guide's or a chosen one, the phase is the kind taken plus 1, modulo 3."
 fn steps(card: &[u8], start: Configuration) {
     let mut c = start;
     let mut count: u16 = 0;
     while count < 1000 {
-        let picked = pick(card, c);
-        let Picked::Code(code) = picked else {
-            last_line(b"rest", count);
+        let ran = guide::run(card, c, 1);
+        let ending = ran.ending;
+        let Ending::Spent = ending else {
+            last_line(ending, count);
             return;
         };
-        let taken = guide::take(card, c, code);
-        let answer = taken.answer;
-        let Answer::Done = answer else {
-            last_line(b"full", count);
-            return;
-        };
-        let next = taken.configuration;
-        c = next;
+        let after = ran.configuration;
+        let kind = ((after.phase % 3 + 2) % 3) as u16;
+        let number = lowest(card, c, kind);
+        let weight = plan_weight(card, &after.plan, after.length as usize);
         count += 1;
-        step_line(card, next, count, code);
+        step_line(count, kind, number, after.length, weight);
+        c = after;
     }
-    last_line(b"spent", count);
+    last_line(Ending::Spent, count);
 }
 
 // A card's lines: "A refused card prints only "refused" and its number."

@@ -9,46 +9,59 @@ use Rattle.rigtemple.proofs.lowest.Statement.{statement}
 use Rattle.rigtemple.proofs.lowest.Tie as tie
 use Rattle.rigtemple.proofs.lowest.Reads as reads
 use Rattle.rigtemple.proofs.lowest.Lts as lts
+use Rattle.guide.proofs.list.Reads as list-reads
 
 abbrev Inv-loop : tie.InvT-loop
-Inv-loop codes n kind i₀ i = i ≤ 768
+Inv-loop card kind codes n i₀ i = i ≤ 768
 
 abbrev μ-loop : tie.MeasureT-loop
-μ-loop codes n kind i₀ i = 768 - i
+μ-loop card kind codes n i₀ i = 768 - i
 
--- src/main.rt:108:5
+-- src/main.rt:74:39
+slice-aggregate-list : tie.Need-slice-aggregate-list Inv-loop μ-loop
+slice-aggregate-list c = search needs
+
+-- src/main.rt:74:9
+list-requires : tie.Need-list-requires Inv-loop μ-loop
+list-requires c κs = search needs
+
+-- src/main.rt:75:13
+cast-n : tie.Need-cast-n Inv-loop μ-loop
+cast-n c = search needs
+
+-- src/main.rt:77:5
 loop-holds : tie.Need-loop-holds Inv-loop μ-loop
 loop-holds c = search needs
 
--- src/main.rt:110:13
+-- src/main.rt:79:13
 returns : tie.Need-returns Inv-loop μ-loop
 returns c = search needs
 
--- src/main.rt:112:20
+-- src/main.rt:81:20
 mul-code : tie.Need-mul-code Inv-loop μ-loop
 mul-code c = search needs
 
--- src/main.rt:112:20
-element-copy-out-code : tie.Need-element-copy-out-code Inv-loop μ-loop
-element-copy-out-code c = search needs
+-- src/main.rt:81:20
+array-read-code : tie.Need-array-read-code Inv-loop μ-loop
+array-read-code c = search needs
 
--- src/main.rt:114:13
+-- src/main.rt:83:13
 returns-2 : tie.Need-returns-2 Inv-loop μ-loop
 returns-2 c = search needs
 
--- src/main.rt:116:9
+-- src/main.rt:85:9
 add-i : tie.Need-add-i Inv-loop μ-loop
 add-i c = search needs
 
--- src/main.rt:108:5
+-- src/main.rt:77:5
 loop-less : tie.Need-loop-less Inv-loop μ-loop
 loop-less c = search needs
 
--- src/main.rt:108:5
+-- src/main.rt:77:5
 loop-again : tie.Need-loop-again Inv-loop μ-loop
 loop-again c = search needs
 
--- src/main.rt:106:1
+-- src/main.rt:72:1
 returns-3 : tie.Need-returns-3 Inv-loop μ-loop
 returns-3 c = search needs
 
@@ -58,10 +71,13 @@ lowest-spec =
     (tie.spec
     Inv-loop
     μ-loop
+    slice-aggregate-list
+    list-requires
+    cast-n
     loop-holds
     returns
     mul-code
-    element-copy-out-code
+    array-read-code
     returns-2
     add-i
     loop-less

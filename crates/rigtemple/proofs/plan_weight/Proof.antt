@@ -1,4 +1,3 @@
-use mathlib.Core.Logic.{⊎-elim}
 use mathlib.Core.Path.{_≡_, refl, sym, ap, _∙_}
 use mathlib.Core.List.{List, [], _∷_, _++_, append-nil, append-assoc}
 use Prim.Native.Nat.{ℕ, suc, _+_, _-_, _*_, _≤_, _<_}
@@ -18,42 +17,41 @@ Inv-loop card plan n total₀ i₀ total i = (i ≤ 1024) × (total ≤ 65535 * 
 abbrev μ-loop : tie.MeasureT-loop
 μ-loop card plan n total₀ i₀ total i = 1024 - i
 
--- src/main.rt:79:5
+-- src/main.rt:60:5
 loop-holds : tie.Need-loop-holds Inv-loop μ-loop
 loop-holds c = search needs
 
--- src/main.rt:81:35
+-- src/main.rt:62:13
+returns : tie.Need-returns Inv-loop μ-loop
+returns c = search needs
+
+-- src/main.rt:64:31
 element-copy-out-weight : tie.Need-element-copy-out-weight Inv-loop μ-loop
 element-copy-out-weight c = search needs
 
--- src/main.rt:81:22
+-- src/main.rt:64:18
 weight-requires : tie.Need-weight-requires Inv-loop μ-loop
 weight-requires c κs = search needs
 
--- src/main.rt:81:13
+-- src/main.rt:64:9
 add-total : tie.Need-add-total Inv-loop μ-loop
 add-total c = search needs
 
--- src/main.rt:83:9
+-- src/main.rt:65:9
 add-i : tie.Need-add-i Inv-loop μ-loop
 add-i c = search needs
 
--- src/main.rt:79:5
+-- src/main.rt:60:5
 loop-less : tie.Need-loop-less Inv-loop μ-loop
 loop-less c = search needs
 
--- src/main.rt:79:5
+-- src/main.rt:60:5
 loop-again : tie.Need-loop-again Inv-loop μ-loop
-loop-again c =
-    let l = c .before .before .loop in
-    ⊎-elim
-    (λ w. let e = w .1 in (omega arith, omega arith))
-    (λ w. let e = w .1 in (omega arith, omega arith))
-    (c .if1 .came)
+loop-again c = search needs
 
--- src/main.rt:76:1
-returns : tie.Need-returns Inv-loop μ-loop
-returns c = search needs
+-- src/main.rt:57:1
+returns-2 : tie.Need-returns-2 Inv-loop μ-loop
+returns-2 c = search needs
 
 pub plan-weight-spec : {M : Type 1} → statement M
 plan-weight-spec =
@@ -62,10 +60,11 @@ plan-weight-spec =
     Inv-loop
     μ-loop
     loop-holds
+    returns
     element-copy-out-weight
     weight-requires
     add-total
     add-i
     loop-less
     loop-again
-    returns)
+    returns-2)

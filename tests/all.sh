@@ -1,0 +1,60 @@
+#!/usr/bin/env bash
+# Runs every test that stands outside the gate, a line for each with what it counts and its seconds; the last line is
+# 'N passed, M failed'. A test that fails is told with its last lines.
+#
+#   tests/all.sh [--seed N] [--cases N]
+#
+# --seed chooses the fresh cases (1), --cases how many go through the drill (20,000). Programs and library are proved and linked
+# first where they are missing or old. tests/definitions.py, tests/compare.py and tests/c.sh take larger numbers by themselves.
+set -eu
+
+die() { printf 'all.sh: %s\n' "$*" >&2; exit 2; }
+
+seed=1
+cases=20000
+while [ $# -gt 0 ]; do
+    case $1 in
+    --seed) seed=${2:?--seed takes a number}; shift ;;
+    --cases) cases=${2:?--cases takes a number}; shift ;;
+    *) die "usage: all.sh [--seed N] [--cases N]" ;;
+    esac
+    shift
+done
+cd "$(dirname "$0")/.."
+# shellcheck source=tests/kit.sh
+. tests/kit.sh
+command -v python3 >/dev/null || die "python3 is missing"
+room=$(mktemp -d)
+trap 'rm -rf "$room"' EXIT
+passed=0
+failed=0
+
+# Runs one test: what it counts is in its last line, 'N passed, M failed'; one that counts nothing passes or fails as a whole.
+try() { # COMMAND...
+    began=$SECONDS
+    ended=0
+    "$@" >"$room/said" 2>&1 </dev/null || ended=$?
+    counted=$(tail -n 1 "$room/said" | sed -n 's/^\([0-9]*\) passed, \([0-9]*\) failed$/\1 \2/p')
+    [ -n "$counted" ] || if [ "$ended" -eq 0 ]; then counted='1 0'; else counted='0 1'; fi
+    [ "$ended" -eq 0 ] || [ "${counted#* }" -gt 0 ] || counted="${counted% *} 1"
+    passed=$((passed + ${counted% *}))
+    failed=$((failed + ${counted#* }))
+    printf '%-58s %7d passed, %d failed, %4d s\n' "$*" "${counted% *}" "${counted#* }" $((SECONDS - began))
+    [ "$ended" -eq 0 ] || tail -n 20 "$room/said" | sed 's/^/    /'
+}
+
+documents=../shared/documents
+try python3 tests/tidy.py
+if [ -d "$documents" ]; then try python3 tests/promises.py --documents "$documents"; else try python3 tests/promises.py; fi
+try python3 cards/test_make.py
+try python3 cards/make.py --check
+try python3 -B oracle/test_oracle.py
+try python3 -B oracle/stored.py --check
+try tests/script.sh
+try tests/c.sh --seed "$seed"
+try tests/c.sh --seed "$seed" --engine
+try tests/room.sh
+try python3 tests/definitions.py --seed "$seed" --cards 100
+try python3 tests/compare.py --seed "$seed" --cases "$cases"
+printf '%d passed, %d failed\n' "$passed" "$failed"
+[ "$failed" -eq 0 ]
