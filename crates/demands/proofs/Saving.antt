@@ -27,7 +27,8 @@ use Rattle.demands.specs.Contracts.{Shaped, Restores}
 use Rattle.demands.specs.Demands.{OnAccepted}
 use Rattle.demands.proofs.Choosing.{card-accepted}
 use Rattle.demands.proofs.Ordering.{passed-good, plan-fits}
-use Rattle.demands.proofs.Ways.{Writing, refused, no-room, done, restores-good}
+use Rattle.meaning.proofs.Calls.{restores-good}
+use Rattle.demands.proofs.Ways.{Writing, refused, no-room, done}
 
 -- ---- a table whose rows are passed
 

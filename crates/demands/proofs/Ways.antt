@@ -26,9 +26,9 @@ use Rattle.meaning.specs.Card.{Bytes, layout, weight, agent, initialPlan, start
 use Rattle.meaning.specs.Configurations.{stateOf, configurationOf, empty}
 use Rattle.meaning.specs.Place.{place, placed}
 use Rattle.meaning.specs.Refusals.{cardAnswer, placeAnswer, configurationAnswer}
-use Rattle.meaning.specs.Calls.{reply, graded, written, over, leadsTo, ran, saves, saveLeaves, restores}
+use Rattle.meaning.specs.Calls.{reply, graded, written, over, writes, leaves, lists, listLeaves, leadsTo, ran, saves, saveLeaves}
 use Rattle.meaning.proofs.Calls.{checks-good, checks-refused, loads-good, loads-refused, grades-good, grades-refused}
-use Rattle.meaning.proofs.Calls.{lists-refused, lists-room, lists-no-room, takes-refused, takes-nothing, takes-full, takes-move, runs-refused, runs-good}
+use Rattle.meaning.proofs.Calls.{writes-refused, writes-room, writes-no-room, takes-refused, takes-nothing, takes-full, takes-move, runs-refused, runs-good, restores-good, restores-refused}
 use Rattle.demands.specs.Contracts.{Checks, Loads, Grades, Lists, Takes, Runs, Saves, Restores}
 
 -- ---- check, load, grade, restore
@@ -56,14 +56,6 @@ loading b r e = go (cardAnswer b) refl
     go Done h = rw (e ∙ loads-good b h) (done h)
     go (Refused q) h = rw (e ∙ loads-refused b q h) (refused h)
 
-pub restores-good : (b p : Bytes) → placeAnswer b p ≡ Done → restores b p ≡ reply Done (configurationOf (placed p))
-unfolding restores
-restores-good b p e = rw (e, restores)
-
-pub restores-refused : (b p : Bytes) (q : Refusal) → placeAnswer b p ≡ Refused q → restores b p ≡ reply (Refused q) empty
-unfolding restores
-restores-refused b p q e = rw (e, restores)
-
 pub restoring : (b p : Bytes) (r : Reply) → Restores b p r → Replying (placeAnswer b p) (placed p) r
 restoring b p r e = go (placeAnswer b p) refl
   where
@@ -89,46 +81,24 @@ pub data Writing (b : Bytes) (c : Configuration) (xs out : List ℕ) : Written �
   no-room : configurationAnswer b c ≡ Done → length out < length xs → Writing b c xs out (written (Refused Refusal.NoRoom) 0 c) out
   done : configurationAnswer b c ≡ Done → length xs ≤ length out → Writing b c xs out (written Done (length xs) c) (over xs out)
 
-pub listing : (b : Bytes) (c : Configuration) (out left : List ℕ) (r : Written) → Lists b c out r left → Writing b c (enabledCodes (agent b) (stateOf c .mental)) out r left
-listing b c out left r (e, f) = go (configurationAnswer b c) refl
+writing : (b : Bytes) (c : Configuration) (xs out left : List ℕ) (r : Written) → r ≡ writes b c xs out → left ≡ leaves b c xs out → Writing b c xs out r left
+writing b c xs out left r e f = go (configurationAnswer b c) refl
   where
-    xs : List ℕ
-    xs = enabledCodes (agent b) (stateOf c .mental)
-
     room : (t : Bool) → leb (length xs) (length out) ≡ t → configurationAnswer b c ≡ Done → Writing b c xs out r left
-    room true h k = let (p, q) = lists-room b c k out h in rw (e ∙ p, f ∙ q) (done k (leb-true _ _ h))
-    room false h k = let (p, q) = lists-no-room b c k out h in rw (e ∙ p, f ∙ q) (no-room k (leb-false _ _ h))
+    room true h k = let (p, q) = writes-room b c xs out k h in rw (e ∙ p, f ∙ q) (done k (leb-true _ _ h))
+    room false h k = let (p, q) = writes-no-room b c xs out k h in rw (e ∙ p, f ∙ q) (no-room k (leb-false _ _ h))
 
     go : (a : Answer) → configurationAnswer b c ≡ a → Writing b c xs out r left
     go Done h = room (leb (length xs) (length out)) refl h
-    go (Refused z) h = let (p, q) = lists-refused b c out z h in rw (e ∙ p, f ∙ q) (refused h)
+    go (Refused z) h = let (p, q) = writes-refused b c xs out z h in rw (e ∙ p, f ∙ q) (refused h)
 
-module _ (b : Bytes) (c : Configuration) (out : Bytes) where
-  pub saves-refused : (q : Refusal) → configurationAnswer b c ≡ Refused q → (saves b c out ≡ written (Refused q) 0 c) × (saveLeaves b c out ≡ out)
-  unfolding saves saveLeaves
-  saves-refused q e = (rw (e, saves), rw (e, saveLeaves))
-
-  module _ (good : configurationAnswer b c ≡ Done) where
-    pub saves-room : leb (length (place (stateOf c))) (length out) ≡ true
-        → (saves b c out ≡ written Done (length (place (stateOf c))) c) × (saveLeaves b c out ≡ over (place (stateOf c)) out)
-    unfolding saves saveLeaves
-    saves-room e = (rw (good, saves, e), rw (good, saveLeaves, e))
-
-    pub saves-no-room : leb (length (place (stateOf c))) (length out) ≡ false
-        → (saves b c out ≡ written (Refused Refusal.NoRoom) 0 c) × (saveLeaves b c out ≡ out)
-    unfolding saves saveLeaves
-    saves-no-room e = (rw (good, saves, e), rw (good, saveLeaves, e))
+pub listing : (b : Bytes) (c : Configuration) (out left : List ℕ) (r : Written) → Lists b c out r left → Writing b c (enabledCodes (agent b) (stateOf c .mental)) out r left
+unfolding lists listLeaves
+listing b c out left r (e, f) = writing b c (enabledCodes (agent b) (stateOf c .mental)) out left r e f
 
 pub saving : (b : Bytes) (c : Configuration) (out left : Bytes) (r : Written) → Saves b c out r left → Writing b c (place (stateOf c)) out r left
-saving b c out left r (e, f) = go (configurationAnswer b c) refl
-  where
-    room : (t : Bool) → leb (length (place (stateOf c))) (length out) ≡ t → configurationAnswer b c ≡ Done → Writing b c (place (stateOf c)) out r left
-    room true h k = let (p, q) = saves-room b c out k h in rw (e ∙ p, f ∙ q) (done k (leb-true _ _ h))
-    room false h k = let (p, q) = saves-no-room b c out k h in rw (e ∙ p, f ∙ q) (no-room k (leb-false _ _ h))
-
-    go : (a : Answer) → configurationAnswer b c ≡ a → Writing b c (place (stateOf c)) out r left
-    go Done h = room (leb (length (place (stateOf c))) (length out)) refl h
-    go (Refused z) h = let (p, q) = saves-refused b c out z h in rw (e ∙ p, f ∙ q) (refused h)
+unfolding saves saveLeaves
+saving b c out left r (e, f) = writing b c (place (stateOf c)) out left r e f
 
 -- ---- take
 

@@ -20,8 +20,9 @@ use Rattle.house.specs.Order.{State, enabledCodes}
 use Rattle.house.specs.Run.{fits, run}
 use Rattle.meaning.specs.declared.Configuration.{Configuration}
 use Rattle.meaning.specs.Configurations.{stateOf, configurationOf, empty}
-use Rattle.meaning.specs.Refusals.{cardAnswer, _given-when_, andThen, firstGiven, configurationGood, configurationTable, configurationAnswer}
-use Rattle.meaning.specs.Calls.{checks, reply, loads, graded, grades, written, over, lists, listLeaves, leadsTo, takes, ran, runs}
+use Rattle.meaning.specs.Refusals.{cardAnswer, placeAnswer, _given-when_, andThen, firstGiven, configurationGood, configurationTable, configurationAnswer}
+use Rattle.meaning.specs.Place.{place, placed}
+use Rattle.meaning.specs.Calls.{checks, reply, loads, graded, grades, written, over, roomFor, writeAnswer, writes, leaves, lists, listLeaves, leadsTo, takes, ran, runs, saves, saveLeaves, restores}
 use Rattle.meaning.proofs.Tables.{given, not-given}
 
 module _ (b : Bytes) where
@@ -87,10 +88,6 @@ module _ (b : Bytes) (c : Configuration) where
   unfolding runs
   runs-refused budget r e = rw (e, runs)
 
-  pub lists-refused : (out : List ℕ) (r : Refusal) → configurationAnswer b c ≡ Refused r → (lists b c out ≡ written (Refused r) 0 c) × (listLeaves b c out ≡ out)
-  unfolding lists listLeaves
-  lists-refused out r e = (rw (e, lists), rw (e, listLeaves))
-
 module _ (b : Bytes) (c : Configuration) (good : configurationAnswer b c ≡ Done) where
   pub takes-nothing : (code : ℕ) → leadsTo (agent b) (stateOf c) code ≡ none → takes b c code ≡ reply (Refused Refusal.NotEnabled) c
   unfolding takes
@@ -108,13 +105,45 @@ module _ (b : Bytes) (c : Configuration) (good : configurationAnswer b c ≡ Don
   unfolding runs
   runs-good budget = rw (good, runs)
 
-  module _ (out : List ℕ) where
-    pub lists-room : leb (length (enabledCodes (agent b) (stateOf c .mental))) (length out) ≡ true
-        → (lists b c out ≡ written Done (length (enabledCodes (agent b) (stateOf c .mental))) c) × (listLeaves b c out ≡ over (enabledCodes (agent b) (stateOf c .mental)) out)
-    unfolding lists listLeaves
-    lists-room e = (rw (good, lists, e), rw (good, listLeaves, e))
+-- ---- list and save: xs is to be written to out
 
-    pub lists-no-room : leb (length (enabledCodes (agent b) (stateOf c .mental))) (length out) ≡ false
-        → (lists b c out ≡ written (Refused Refusal.NoRoom) 0 c) × (listLeaves b c out ≡ out)
-    unfolding lists listLeaves
-    lists-no-room e = (rw (good, lists, e), rw (good, listLeaves, e))
+module _ (b : Bytes) (c : Configuration) (xs out : List ℕ) where
+  pub written-done : writeAnswer b c xs out ≡ Done → (writes b c xs out ≡ written Done (length xs) c) × (leaves b c xs out ≡ over xs out)
+  unfolding writes leaves
+  written-done e = (rw (e, writes), rw (e, leaves))
+
+  pub written-refused : (r : Refusal) → writeAnswer b c xs out ≡ Refused r → (writes b c xs out ≡ written (Refused r) 0 c) × (leaves b c xs out ≡ out)
+  unfolding writes leaves
+  written-refused r e = (rw (e, writes), rw (e, leaves))
+
+  pub writes-refused : (r : Refusal) → configurationAnswer b c ≡ Refused r → (writes b c xs out ≡ written (Refused r) 0 c) × (leaves b c xs out ≡ out)
+  writes-refused r e = written-refused r (rw (e, writeAnswer))
+
+  module _ (good : configurationAnswer b c ≡ Done) where
+    pub writes-room : leb (length xs) (length out) ≡ true → (writes b c xs out ≡ written Done (length xs) c) × (leaves b c xs out ≡ over xs out)
+    writes-room e = written-done (rw (good, writeAnswer) (rw (e, roomFor)))
+
+    pub writes-no-room : leb (length xs) (length out) ≡ false → (writes b c xs out ≡ written (Refused Refusal.NoRoom) 0 c) × (leaves b c xs out ≡ out)
+    writes-no-room e = written-refused Refusal.NoRoom (rw (good, writeAnswer) (rw (e, roomFor)))
+
+module _ (b : Bytes) (c : Configuration) (out : List ℕ) where
+  abbrev codes : List ℕ
+  codes = enabledCodes (agent b) (stateOf c .mental)
+
+  pub lists-refused : (r : Refusal) → configurationAnswer b c ≡ Refused r → (lists b c out ≡ written (Refused r) 0 c) × (listLeaves b c out ≡ out)
+  unfolding lists listLeaves
+  lists-refused r e = writes-refused b c codes out r e
+
+  pub saves-refused : (r : Refusal) → configurationAnswer b c ≡ Refused r → (saves b c out ≡ written (Refused r) 0 c) × (saveLeaves b c out ≡ out)
+  unfolding saves saveLeaves
+  saves-refused r e = writes-refused b c (place (stateOf c)) out r e
+
+-- ---- restore
+
+pub restores-good : (b p : Bytes) → placeAnswer b p ≡ Done → restores b p ≡ reply Done (configurationOf (placed p))
+unfolding restores
+restores-good b p e = rw (e, restores)
+
+pub restores-refused : (b p : Bytes) (q : Refusal) → placeAnswer b p ≡ Refused q → restores b p ≡ reply (Refused q) empty
+unfolding restores
+restores-refused b p q e = rw (e, restores)

@@ -63,10 +63,10 @@ grades b = elim (cardAnswer b) [
   | Refused r ↦ graded (Refused r) (Verdict.Open Offender.InitialPlan)
 ]
 
--- ---- list: the answer, and the lent list afterwards
+-- ---- list and save: the answer, and the lent buffer afterwards
 
 -- What list and save answer, with the configuration as it came in (docs/DECISIONS.md, "What list and save hand back"). Serves
--- lists and saves.
+-- writes.
 abbrev pub written : Answer → ℕ → Configuration → Written
 written a n c = record { answer = a; count = n; configuration = c }
 
@@ -76,33 +76,34 @@ abbrev pub roomFor : List ℕ → List ℕ → Answer
 roomFor xs out = elim (leb (length xs) (length out)) [ true ↦ Done | false ↦ Refused Refusal.NoRoom ]
 
 -- A lent buffer with something written at its front: 01, "Numbers the guide may answer": "what lies after them stays". Serves
--- listLeaves and saveLeaves.
+-- leaves.
 abbrev pub over : List ℕ → List ℕ → List ℕ
 over xs out = xs ++ drop (length xs) out
 
--- 01, "Numbers the guide may answer": "They are tested in the table's order": rows 1 to 9, then 13, then 12. Serves lists and
--- listLeaves.
-abbrev pub listAnswer : Bytes → Configuration → List ℕ → Answer
-listAnswer b c out = elim (configurationAnswer b c) [
-  | Done ↦ roomFor (enabledCodes (agent b) (stateOf c .mental)) out
-  | Refused r ↦ Refused r
-]
+-- 01, "Numbers the guide may answer": "They are tested in the table's order": rows 1 to 9, then 13, then 12. xs is to be written
+-- to out. Serves writes and leaves.
+abbrev pub writeAnswer : Bytes → Configuration → List ℕ → List ℕ → Answer
+writeAnswer b c xs out = elim (configurationAnswer b c) [ Done ↦ roomFor xs out | Refused r ↦ Refused r ]
 
--- 01, "Numbers the guide may answer": "The list of enabled choices …; the answer tells how many". "Any count in a refusal is
--- 0."
+-- 01, "Numbers the guide may answer": "the answer tells how many". "Any count in a refusal is 0." Serves lists and saves.
+unfoldable pub writes : Bytes → Configuration → List ℕ → List ℕ → Written
+writes b c xs out = elim (writeAnswer b c xs out) [ Done ↦ written Done (length xs) c | Refused r ↦ written (Refused r) 0 c ]
+
+-- 01, "Numbers the guide may answer": "what lies after them stays". "No lent buffer is written" by a refusal. Serves listLeaves
+-- and saveLeaves.
+unfoldable pub leaves : Bytes → Configuration → List ℕ → List ℕ → List ℕ
+leaves b c xs out = elim (writeAnswer b c xs out) [ Done ↦ over xs out | Refused r ↦ out ]
+
+-- ---- list
+
+-- 01, "Numbers the guide may answer": "The list of enabled choices …; the answer tells how many".
 unfoldable pub lists : Bytes → Configuration → List ℕ → Written
-lists b c out = elim (listAnswer b c out) [
-  | Done ↦ written Done (length (enabledCodes (agent b) (stateOf c .mental))) c
-  | Refused r ↦ written (Refused r) 0 c
-]
+lists b c out = writes b c (enabledCodes (agent b) (stateOf c .mental)) out
 
 -- 01, "Numbers the guide may answer": "The list of enabled choices goes …, rising, each once, into the lent list; …, and what
--- lies after them stays." "No lent buffer is written" by a refusal.
+-- lies after them stays."
 unfoldable pub listLeaves : Bytes → Configuration → List ℕ → List ℕ
-listLeaves b c out = elim (listAnswer b c out) [
-  | Done ↦ over (enabledCodes (agent b) (stateOf c .mental)) out
-  | Refused r ↦ out
-]
+listLeaves b c out = leaves b c (enabledCodes (agent b) (stateOf c .mental)) out
 
 -- ---- take
 
@@ -153,24 +154,15 @@ runs b c budget = elim (configurationAnswer b c) [
   | Refused r ↦ record { answer = Refused r; count = 0; ending = Ending.Spent; configuration = c }
 ]
 
--- ---- save: the answer, and the lent buffer afterwards
+-- ---- save
 
--- 01, "Numbers the guide may answer": "They are tested in the table's order": rows 1 to 9, then 13, then 12. Serves saves and
--- saveLeaves.
-abbrev pub saveAnswer : Bytes → Configuration → Bytes → Answer
-saveAnswer b c out = elim (configurationAnswer b c) [ Done ↦ roomFor (place (stateOf c)) out | Refused r ↦ Refused r ]
-
--- 01, "What the guide does": "save a place": how many bytes were written. 01, "Numbers the guide may answer": "Any count in a
--- refusal is 0."
+-- 01, "What the guide does": "save a place": how many bytes were written.
 unfoldable pub saves : Bytes → Configuration → Bytes → Written
-saves b c out = elim (saveAnswer b c out) [
-  | Done ↦ written Done (length (place (stateOf c))) c
-  | Refused r ↦ written (Refused r) 0 c
-]
+saves b c out = writes b c (place (stateOf c)) out
 
--- 01, "Numbers the guide may answer": "Saving writes 44 + L bytes and no others." "No lent buffer is written" by a refusal.
+-- 01, "Numbers the guide may answer": "Saving writes 44 + L bytes and no others."
 unfoldable pub saveLeaves : Bytes → Configuration → Bytes → Bytes
-saveLeaves b c out = elim (saveAnswer b c out) [ Done ↦ over (place (stateOf c)) out | Refused r ↦ out ]
+saveLeaves b c out = leaves b c (place (stateOf c)) out
 
 -- ---- restore
 

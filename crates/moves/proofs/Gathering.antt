@@ -23,7 +23,7 @@ use Rattle.meaning.specs.Card.{Bytes, layout, agent, agentFor}
 use Rattle.meaning.specs.Configurations.{stateOf}
 use Rattle.meaning.specs.Refusals.{configurationAnswer}
 use Rattle.meaning.specs.Calls.{written, lists, listLeaves}
-use Rattle.meaning.proofs.Calls.{lists-room, lists-no-room}
+use Rattle.meaning.proofs.Calls.{writes-room, writes-no-room}
 use Rattle.moves.specs.declared.mind.Mind.{Mind}
 use Rattle.moves.specs.Minds.{mentalOf, mindIn}
 use Rattle.moves.specs.Listed.{listed}
@@ -164,15 +164,17 @@ module _ (b : Bytes) (c : Configuration) (good : configurationAnswer b c ≡ Don
   how-many = sym (length-take-le n codes (omega arith)) ∙ ap length x
 
   pub list-yes : n ≤ length out → (out′ : List ℕ) → out′ ≡ take n codes ++ drop n out → (written Done n c ≡ lists b c out) × (out′ ≡ listLeaves b c out)
+  unfolding lists listLeaves
   list-yes h out′ q =
       let m = how-many in
-      let r = lists-room b c good out (le-leb (length (enabledCodes (agent b) (stateOf c .mental))) (length out) (omega arith)) in (
+      let r = writes-room b c (enabledCodes (agent b) (stateOf c .mental)) out good (le-leb (length (enabledCodes (agent b) (stateOf c .mental))) (length out) (omega arith)) in (
         ap (λ (k : ℕ). written Done k c) m ∙ sym (r .0),
         q ∙ ap (λ (p : List ℕ). p ++ drop n out) x ∙ ap (λ (k : ℕ). enabledCodes (agent b) (stateOf c .mental) ++ drop k out) m ∙ sym (r .1),
       )
 
   pub list-not : length out < n → (written (Refused Refusal.NoRoom) 0 c ≡ lists b c out) × (out ≡ listLeaves b c out)
+  unfolding lists listLeaves
   list-not h =
       let m = how-many in
-      let r = lists-no-room b c good out (lt-leb (length (enabledCodes (agent b) (stateOf c .mental))) (length out) (omega arith)) in
+      let r = writes-no-room b c (enabledCodes (agent b) (stateOf c .mental)) out good (lt-leb (length (enabledCodes (agent b) (stateOf c .mental))) (length out) (omega arith)) in
       (sym (r .0), sym (r .1))

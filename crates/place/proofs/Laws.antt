@@ -18,10 +18,11 @@ use Rattle.meaning.specs.Card.{Bytes, numberAt, layout}
 use Rattle.meaning.specs.Place.{placeHeader, place, placed}
 use Rattle.meaning.specs.Configurations.{stateOf, configurationOf, empty}
 use Rattle.meaning.specs.Refusals.{firstGiven, placeTable, andThen, cardAnswer, placeAnswer, configurationTable, configurationGood, configurationAnswer}
-use Rattle.meaning.specs.Calls.{reply, restores, written, over, roomFor, saveAnswer, saves, saveLeaves}
+use Rattle.meaning.specs.Calls.{reply, restores, written, over, roomFor, writeAnswer, saves, saveLeaves}
 use Rattle.meaning.proofs.Tables.{passes, and-then-done, done≢refused}
 use Rattle.meaning.proofs.Configurations.{Good, good}
-use Rattle.demands.proofs.Ways as Ways
+use Rattle.meaning.proofs.Calls as Calls
+use Rattle.meaning.proofs.Calls.{written-done, written-refused}
 use Rattle.card.specs.Stair.{rowAnswer}
 use Rattle.card.proofs.Stair.{row-done, last-row, no-row}
 use Rattle.card.proofs.GoodCard.{good-card}
@@ -58,10 +59,10 @@ module _ (b : Bytes) (l : Layout) (ok : cardAnswer b ≡ Done) (q : l ≡ layout
   place-judged p = ap (λ a. andThen a (firstGiven (placeTable (layout b)) p)) ok ∙ ap (λ (x : Layout). firstGiven (placeTable x) p) (sym q)
 
   pub restores-good : (p : Bytes) → firstGiven (placeTable l) p ≡ Done → restores b p ≡ reply Done (configurationOf (placed p))
-  restores-good p e = Ways.restores-good b p (place-judged p ∙ e)
+  restores-good p e = Calls.restores-good b p (place-judged p ∙ e)
 
   pub restores-refused : (p : Bytes) (r : Refusal) → firstGiven (placeTable l) p ≡ Refused r → restores b p ≡ reply (Refused r) empty
-  restores-refused p r e = Ways.restores-refused b p r (place-judged p ∙ e)
+  restores-refused p r e = Calls.restores-refused b p r (place-judged p ∙ e)
 
   -- ---- save
 
@@ -89,38 +90,28 @@ module _ (b : Bytes) (l : Layout) (ok : cardAnswer b ≡ Done) (q : l ≡ layout
         go true e = rw (e, roomFor)
         go false e = rw (e, roomFor)
 
-    save-judged : (out : Bytes) → saveAnswer b c out ≡ savedFrom l c (length out)
+    save-judged : (out : Bytes) → writeAnswer b c (place (stateOf c)) out ≡ savedFrom l c (length out)
     unfolding savedFrom
     save-judged out = go (configurationGood l c) refl
       where
-        go : (g : Bool) → configurationGood l c ≡ g → saveAnswer b c out ≡ savedFrom l c (length out)
-        go true e = rw (configuration-judged c, e, saveAnswer) (room-judged out (good l c e .fits))
-        go false e = rw (configuration-judged c, e, saveAnswer)
-
-    saves-good : (out : Bytes) → savedFrom l c (length out) ≡ Done → (saves b c out ≡ written Done (length (place (stateOf c))) c) × (saveLeaves b c out ≡ over (place (stateOf c)) out)
-    unfolding saves saveLeaves
-    saves-good out e =
-        let j : saveAnswer b c out ≡ Done = save-judged out ∙ e in
-        (rw (j, saves), rw (j, saveLeaves))
-
-    saves-refused : (out : Bytes) (r : Refusal) → savedFrom l c (length out) ≡ Refused r → (saves b c out ≡ written (Refused r) 0 c) × (saveLeaves b c out ≡ out)
-    unfolding saves saveLeaves
-    saves-refused out r e =
-        let j : saveAnswer b c out ≡ Refused r = save-judged out ∙ e in
-        (rw (j, saves), rw (j, saveLeaves))
+        go : (g : Bool) → configurationGood l c ≡ g → writeAnswer b c (place (stateOf c)) out ≡ savedFrom l c (length out)
+        go true e = rw (configuration-judged c, e, writeAnswer) (room-judged out (good l c e .fits))
+        go false e = rw (configuration-judged c, e, writeAnswer)
 
     -- with 44 + L in the place of the length of the place
     pub save-done : (out out′ : Bytes) → savedFrom l c (length out) ≡ Done → out′ ≡ place (stateOf c) ++ drop (44 + c .length) out
         → (written Done (44 + c .length) c ≡ saves b c out) × (out′ ≡ saveLeaves b c out)
+    unfolding saves saveLeaves
     save-done out out′ e w =
-        let (s, t) = saves-good out e in
+        let (s, t) = written-done b c (place (stateOf c)) out (save-judged out ∙ e) in
         let n : 44 + c .length ≡ length (place (stateOf c)) = sym (place-length (saved-good l c (length out) e .0 .fits)) in
         (ap (λ k. written Done k c) n ∙ sym s, w ∙ ap (λ k. place (stateOf c) ++ drop k out) n ∙ sym t)
 
     pub save-refused : (out : Bytes) (a : Answer) (r : Refusal) → a ≡ savedFrom l c (length out) → a ≡ Refused r
         → (written a 0 c ≡ saves b c out) × (out ≡ saveLeaves b c out)
+    unfolding saves saveLeaves
     save-refused out a r e h =
-        let (s, t) = saves-refused out r (sym e ∙ h) in
+        let (s, t) = written-refused b c (place (stateOf c)) out r (save-judged out ∙ sym e ∙ h) in
         (ap (λ x. written x 0 c) h ∙ sym s, sym t)
 
 -- of two answers in a row, the first where it is a refusal, and the second where the first is done

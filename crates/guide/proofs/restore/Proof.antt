@@ -1,5 +1,5 @@
 use Rattle.guide.proofs.Laws.{card-first-of-place}
-use Rattle.demands.proofs.Ways.{restores-refused}
+use Rattle.meaning.proofs.Calls.{restores-refused}
 use Rattle.meaning.proofs.Calls.{good-judged, refused-judged}
 use Rattle.card.specs.Stair.{answerOf}
 use Rattle.meaning.specs.Calls.{reply}

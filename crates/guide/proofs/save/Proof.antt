@@ -1,6 +1,6 @@
 use Rattle.meaning.proofs.Calls.{good-judged, refused-judged}
 use Rattle.guide.proofs.Laws.{card-first}
-use Rattle.demands.proofs.Ways.{saves-refused}
+use Rattle.meaning.proofs.Calls.{saves-refused}
 use Rattle.card.specs.Stair.{answerOf}
 use Rattle.meaning.specs.Calls.{written, saves, saveLeaves}
 use Rattle.moves.specs.declared.mind.Mind.{Mind}
