@@ -2,7 +2,7 @@
 use mathlib.Core.Path.{_≡_, refl, sym, subst}
 use mathlib.Core.Bool.{Bool, true, false}
 use mathlib.Core.List.{List, [], _∷_}
-use Prim.Native.Nat.{ℕ, zero, suc, _+_, _≤_, _<_}
+use Prim.Native.Nat.{ℕ, suc, _+_, _≤_, _<_}
 use native.Mathlib.Omega.{arith}
 use lib.ListN.{length}
 use Rattle.paper.specs.Language.{Plan, Agent}
@@ -14,7 +14,7 @@ use Rattle.meaning.specs.declared.Answer.the-variants.{Done, Refused}
 use Rattle.meaning.specs.declared.Graded.{Graded}
 use Rattle.meaning.specs.Card.{Bytes, layout, weight, agent, agentFor, agentOf, initialPlan}
 use Rattle.meaning.specs.Refusals.{cardAnswer}
-use Rattle.meaning.specs.Calls.{graded, grades}
+use Rattle.meaning.specs.Calls.{grades}
 use Rattle.meaning.proofs.Calls.{grades-good, grades-refused}
 use Rattle.meaning.proofs.Accepted.{length-entries}
 use Rattle.card.proofs.GoodCard.{good-card}

@@ -62,7 +62,7 @@ pub fn verdict_number(v: Verdict) -> u8
 }
 
 // The number of an offender's kind.
-pub fn offender_number(o: Offender) -> u8
+fn offender_number(o: Offender) -> u8
     ensures { λ n. ⌜ n ≡ offenderNumber o ⌝ }
 {
     match o {
@@ -83,7 +83,7 @@ pub fn verdict_offender(v: Verdict) -> u8
 }
 
 // The number of the rule that an offender is.
-pub fn offender_rule(o: Offender) -> u16
+fn offender_rule(o: Offender) -> u16
     requires { ⌜ offenderRule o < 65536 ⌝ }
     ensures { λ n. ⌜ n ≡ offenderRule o ⌝ }
 {

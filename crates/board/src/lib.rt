@@ -11,11 +11,11 @@ use answers::refusal_number;
 use answers::verdict_number;
 use answers::verdict_offender;
 use answers::verdict_rule;
+use card::check::answer_of;
 use card::check::check;
-use card::load::answer_of;
+use choices::mind::Mind;
 use house::Ending;
 use meaning::Checked;
-use moves::mind::Mind;
 use place::restore::empty_mind;
 
 // The mind of a configuration that is lent in its parts.

@@ -1,25 +1,23 @@
 -- An accepted card keeps its laws.
-use mathlib.Core.Path.{_≡_, refl, ap, _∙_, sym, subst}
-use mathlib.Core.Bool.{Bool, true, false, not, _&&_}
-use mathlib.Core.List.{List}
+use mathlib.Core.Path.{_≡_, refl, sym, subst}
+use mathlib.Core.Bool.{true}
 use Prim.Native.Nat.{ℕ, _+_, _≤_, _<_}
 use native.Mathlib.Omega.{arith}
 use borrow.Author.Tests.{leb-true, ltb-true, not-true}
-use lib.Dec.{leb, ltb, eqb}
+use lib.Dec.{ltb, eqb}
 use lib.ListN.{length, getD}
 use Rattle.paper.proofs.Relation.{both}
 use Rattle.meaning.specs.declared.Answer.the-variants.{Done}
 use Rattle.meaning.specs.declared.Span.{Span}
 use Rattle.meaning.specs.declared.Layout.{Layout}
-use Rattle.meaning.specs.Card.{Bytes, byte, numberAt, part, span, layout, entryAt, weightAt}
-use Rattle.meaning.specs.Refusals.{all, every, everyEntry, within, weightsGood, containing, conditionGood, spanGood, specificationGood, selectionGood, revisionGood, rulesGood, actionsGood, pool, cardAnswer}
-use Rattle.meaning.specs.Theorems.{Accepted}
+use Rattle.meaning.specs.Card.{Bytes, byte, span, layout, entryAt, weightAt}
+use Rattle.meaning.specs.Refusals.{everyEntry, within, weightsGood, containing, conditionGood, spanGood, specificationGood, selectionGood, revisionGood, rulesGood, actionsGood, pool, cardAnswer}
 use Rattle.meaning.proofs.Accepted.{accepted, within-low, within-high}
 use Rattle.meaning.proofs.Every.{every-at, all-at}
 use Rattle.meaning.proofs.Parts.{length-part, part-at}
-use Rattle.card.specs.Laid.{Laid}
+use Rattle.layout.specs.Laid.{Laid}
 use Rattle.card.specs.GoodCard.{GoodSpan, GoodCondition, GoodSpecification, GoodSelection, GoodRevision, GoodWeight, GoodCard}
-use Rattle.card.proofs.Laid.{laid}
+use Rattle.layout.proofs.Laid.{laid}
 
 module _ (l : Layout) (b : Bytes) where
   good-span : (least : ℕ) (s : Span) → spanGood l least s ≡ true → GoodSpan l least s

@@ -1,6 +1,6 @@
 -- Laws that the card's functions share.
 use mathlib.Core.Path.{_≡_, refl, sym, ap, _∙_}
-use mathlib.Core.Bool.{Bool, true, false, not, _&&_, _||_}
+use mathlib.Core.Bool.{Bool, true, false, _&&_, _||_, or-false}
 use mathlib.Core.List.{List, [], _∷_}
 use mathlib.Core.Logic.{_⊎_, inl, inr}
 use Prim.Native.Nat.{ℕ, zero, suc, _+_, _-_, _≤_, _<_, min}
@@ -8,28 +8,19 @@ use native.Mathlib.Decide.{decLe, decLt}
 use native.Mathlib.Omega.{arith}
 use borrow.Author.Tests.{lt-ltb, le-ltb, le-leb, lt-leb, ne-eqb}
 use lib.Dec.{eqb, leb, ltb}
-use lib.ListN.{length, getD, set, replicate, length-set, length-replicate}
+use lib.ListN.{length, getD, set, replicate, length-set, length-replicate, getD-replicate}
 use lib.Seq.{getD-set-other}
 use Rattle.sets.proofs.Loops.{below-turn}
 use Rattle.meaning.specs.declared.Layout.{Layout}
 use Rattle.meaning.specs.Card.{Bytes}
-use Rattle.meaning.specs.Refusals.{all, nodesGood, containsOf, containing, conditionGood}
+use Rattle.meaning.specs.Refusals.{all, nodesGood, containsOf, containing}
 use Rattle.meaning.proofs.Nodes.{node-rule, contains-children, contains-at}
-use Rattle.card.specs.Laid.{kindOf, aOf, bOf, Marks}
+use Rattle.layout.specs.Laid.{kindOf, aOf, bOf}
+use Rattle.card.specs.Marks.{Marks}
 
 -- one of two neighbours
 pub either-of : (m n : ℕ) → m ≤ n → n ≤ m + 1 → (n ≡ m) ⊎ (n ≡ m + 1)
 either-of m n h k = elim (decLe n m) [ yes e ↦ inl (omega arith) | no e ↦ inr (omega arith) ]
-
-pub replicate-at : {X : Type 0} (n i : ℕ) (x : X) → getD (replicate n x) i x ≡ x
-replicate-at zero i x = refl
-replicate-at (suc n) zero x = refl
-replicate-at (suc n) (suc i) x = replicate-at n i x
-
-pub replicate-in : {X : Type 0} (n i : ℕ) (x y : X) → i < n → getD (replicate n x) i y ≡ x
-replicate-in zero i x y h = absurd (omega arith)
-replicate-in (suc n) zero x y h = refl
-replicate-in (suc n) (suc i) x y h = replicate-in n i x y (omega arith)
 
 -- what is found at node i by the marks of the lower nodes
 pub contains-next : (l : Layout) (b : Bytes) → nodesGood l b ≡ true → (kind i : ℕ) → i < l .nodes .count → (marks : List Bool)
@@ -53,10 +44,6 @@ pub of-none : (π : List ℕ) → eqb (length π) 0 ≡ all (λ a. ltb a 0) π
 of-none [] = refl
 of-none (a ∷ π) = rw (le-ltb a 0 (omega arith)) (ne-eqb (suc (length π)) 0 (λ e. absurd (omega arith)))
 
-or-false : (a : Bool) → (a || false) ≡ a
-or-false true = refl
-or-false false = refl
-
 -- containsOf, asked of all kinds at once
 pub contains-flat : (kind k a b : ℕ) (f : ℕ → Bool)
     → (((eqb k 1 && eqb kind 1) || (eqb k 2 && eqb kind 2)) || ((leb 3 k && f a) || (leb 4 k && f b))) ≡ containsOf kind k a b f
@@ -76,7 +63,7 @@ MarkedTo kind l b marks i =
     × ((j : ℕ) → i ≤ j → j < 256 → getD marks j false ≡ true)
 
 pub marked-start : (kind : ℕ) (l : Layout) (b : Bytes) (marks : List Bool) → marks ≡ replicate 256 true → MarkedTo kind l b marks 0
-marked-start kind l b marks e = (ap length e ∙ length-replicate 256 true, λ j h. absurd (omega arith), λ j h k. ap (λ m. getD m j false) e ∙ replicate-in 256 j true false k)
+marked-start kind l b marks e = (ap length e ∙ length-replicate 256 true, λ j h. absurd (omega arith), λ j h k. ap (λ m. getD m j false) e ∙ getD-replicate 256 j true false k)
 
 pub marked-turn : (kind : ℕ) (l : Layout) (b : Bytes) → nodesGood l b ≡ true → (marks : List Bool) (i : ℕ) (mark : Bool) → i < l .nodes .count → i < 256
     → mark ≡ containsOf kind (kindOf l b i) (aOf l b i) (bOf l b i) (λ j. getD marks j false)

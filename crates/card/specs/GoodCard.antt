@@ -7,7 +7,7 @@ use Rattle.meaning.specs.declared.Span.{Span}
 use Rattle.meaning.specs.declared.Layout.{Layout}
 use Rattle.meaning.specs.Card.{Bytes, byte, span, entryAt, weightAt}
 use Rattle.meaning.specs.Refusals.{nodesGood, containing}
-use Rattle.card.specs.Laid.{Laid}
+use Rattle.layout.specs.Laid.{Laid}
 
 -- a plan within the pool, of at least so many and at most 1,024 actions
 pub record GoodSpan (l : Layout) (least : ℕ) (s : Span) : Type 0 where

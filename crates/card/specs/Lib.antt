@@ -1,4 +1,3 @@
-pub mod Laid
+pub mod Marks
 pub mod Stair
 pub mod GoodCard
-pub mod Summed

@@ -7,17 +7,17 @@ ghost use lib.ListN.{length};
 ghost use Rattle.meaning.specs.Card.{layout};
 ghost use Rattle.meaning.specs.Refusals.{cardMark, countsGood, nodesGood, cardTable, cardAnswer};
 ghost use Rattle.meaning.specs.Calls.{checks};
-ghost use Rattle.card.specs.Laid.{Narrow, NarrowSpan, Laid};
-ghost use Rattle.card.specs.Stair.{rowAnswer, rowsFrom};
+ghost use Rattle.layout.specs.Laid.{Narrow, NarrowSpan, Laid};
+ghost use Rattle.card.specs.Stair.{rowAnswer, rowsFrom, answerOf};
 use crate::contents::pool_good;
 use crate::contents::sets_good;
 use crate::contents::weights_good;
-use crate::header::counts_good;
-use crate::header::offsets_good;
-use crate::header::read_layout;
 use crate::nodes::nodes_good;
-use crate::readers::number_at;
 use crate::rules::rules_good;
+use layout::header::counts_good;
+use layout::header::offsets_good;
+use layout::header::read_layout;
+use layout::readers::number_at;
 use meaning::Answer;
 use meaning::Checked;
 use meaning::Layout;
@@ -136,7 +136,7 @@ fn from_mark(card: &[u8]) -> Answer
 }
 
 // The number that a card is answered with.
-pub fn judge(card: &[u8]) -> Answer
+pub fn judge_card(card: &[u8]) -> Answer
     ensures { λ r. ⌜ r ≡ cardAnswer (now (card .entry)) ⌝ }
 {
     let a = row(64 <= card.len(), Refusal::Short);
@@ -150,9 +150,19 @@ pub fn judge(card: &[u8]) -> Answer
 pub fn check(card: &[u8]) -> Checked
     ensures { λ r. ⌜ r ≡ checks (now (card .entry)) ⌝ }
 {
-    let a = judge(card);
+    let a = judge_card(card);
     let Answer::Refused(refusal) = a else {
         return Checked::Good(read_layout(card));
     };
     Checked::Refused(refusal)
+}
+
+// The answer of a checked card: done, or the refusal.
+pub fn answer_of(v: Checked) -> Answer
+    ensures { λ r. ⌜ r ≡ answerOf v ⌝ }
+{
+    match v {
+        Checked::Good(_) => Answer::Done,
+        Checked::Refused(refusal) => Answer::Refused(refusal),
+    }
 }

@@ -1,14 +1,14 @@
 // What the sections hold: rows 5, 8 and 9 of the refusal table.
 ghost use mathlib.Core.Path.{_≡_};
-ghost use mathlib.Core.Bool.{Bool, true, false};
-ghost use Prim.Native.Nat.{ℕ, _+_, _-_, _*_, _≤_, _<_, min};
+ghost use mathlib.Core.Bool.{true};
+ghost use Prim.Native.Nat.{_+_, _-_, _*_, _≤_, _<_, min};
 ghost use lib.ListN.{length};
 ghost use Rattle.meaning.specs.Card.{part};
 ghost use Rattle.meaning.specs.Refusals.{weightsGood, actionsGood, pool, setGood, setsGood};
-ghost use Rattle.card.specs.Laid.{Laid};
-use crate::header::in_range;
-use crate::readers::number_at;
-use crate::readers::set_at;
+ghost use Rattle.layout.specs.Laid.{Laid};
+use layout::header::in_range;
+use layout::readers::number_at;
+use layout::readers::set_at;
 use meaning::Layout;
 
 // Row 5: every weight is from 1 to 1,024.
@@ -65,14 +65,6 @@ pub fn pool_good(card: &[u8], l: Layout) -> bool
     actions_good(card, pool.offset, pool.count, l.actions)
 }
 
-// Whether a set has only atoms below a number.
-fn set_good(s: [u8; 16], atoms: usize) -> bool
-    requires { ⌜ atoms ≤ 128 ⌝ }
-    ensures { λ r. ⌜ r ≡ setGood atoms s ⌝ }
-{
-    sets::only(s, sets::below_number(atoms))
-}
-
 // The atoms of all the card's sets: the initial beliefs and goals, and each Add and Del.
 fn all_sets(card: &[u8], l: Layout) -> [u8; 16]
     requires { ⌜ Laid l (now card) ⌝ }
@@ -98,5 +90,5 @@ pub fn sets_good(card: &[u8], l: Layout) -> bool
     requires { ⌜ Laid l (now card) ⌝ }
     ensures { λ r. ⌜ r ≡ setsGood l (now (card .entry)) ⌝ }
 {
-    set_good(all_sets(card, l), l.atoms)
+    sets::known(all_sets(card, l), l.atoms)
 }

@@ -1,10 +1,11 @@
 // The nodes: row 6 of the refusal table, and which nodes contain an atom of a kind, each in one pass.
 ghost use mathlib.Core.Path.{_≡_};
-ghost use mathlib.Core.Bool.{Bool, true, false};
-ghost use Prim.Native.Nat.{ℕ, _+_, _≤_, _<_};
-ghost use lib.ListN.{length, getD, replicate};
+ghost use mathlib.Core.Bool.{true, false};
+ghost use Prim.Native.Nat.{_+_, _<_};
+ghost use lib.ListN.{getD, replicate};
 ghost use Rattle.meaning.specs.Refusals.{kindGood, nodesGood, containsOf};
-ghost use Rattle.card.specs.Laid.{Laid, Marks, kindOf, aOf, bOf};
+ghost use Rattle.layout.specs.Laid.{Laid, kindOf, aOf, bOf};
+ghost use Rattle.card.specs.Marks.{Marks};
 use meaning::Layout;
 
 // Whether node i, of a card with some atoms, keeps the rule of its kind.

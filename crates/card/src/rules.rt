@@ -1,18 +1,18 @@
 // Specifications, rules and the initial plan: row 7 of the refusal table.
 ghost use mathlib.Core.Path.{_≡_};
-ghost use mathlib.Core.Bool.{Bool, true, false, not, _&&_};
-ghost use Prim.Native.Nat.{ℕ, _+_, _*_, _≤_, _<_};
-ghost use lib.Dec.{leb, ltb};
+ghost use mathlib.Core.Bool.{true, false, not, _&&_};
+ghost use Prim.Native.Nat.{_+_, _*_, _≤_, _<_};
+ghost use lib.Dec.{leb};
 ghost use lib.ListN.{length, getD};
-ghost use Rattle.meaning.specs.Card.{byte};
 ghost use Rattle.meaning.specs.Refusals.{within, everyEntry, nodesGood, containing, specificationGood, selectionGood, revisionGood, rulesGood};
-ghost use Rattle.card.specs.Laid.{Laid, NarrowSpan, Marks};
-use crate::header::in_range;
-use crate::header::read_span;
+ghost use Rattle.layout.specs.Laid.{Laid, NarrowSpan};
+ghost use Rattle.card.specs.Marks.{Marks};
 use crate::nodes::all_marks;
 use crate::nodes::mark_nodes;
-use crate::readers::byte_below;
-use crate::readers::number_at;
+use layout::header::in_range;
+use layout::header::read_span;
+use layout::readers::byte_below;
+use layout::readers::number_at;
 use meaning::Layout;
 use meaning::Span;
 

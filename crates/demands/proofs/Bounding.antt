@@ -6,7 +6,6 @@ use Prim.Native.Nat.{ℕ, _+_, _≤_, _<_}
 use native.Mathlib.Omega.{arith}
 use lib.ListN.{length}
 use Rattle.house.specs.declared.Ending.{Ending}
-use Rattle.house.specs.declared.Offender.{Offender}
 use Rattle.house.specs.declared.Verdict.{Verdict}
 use Rattle.house.specs.Order.{State, after}
 use Rattle.house.specs.Run.{stay, _then_}

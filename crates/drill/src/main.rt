@@ -9,7 +9,7 @@ use answers::refusal_number;
 use answers::verdict_number;
 use answers::verdict_offender;
 use answers::verdict_rule;
-use card::readers::set_at;
+use layout::readers::set_at;
 use meaning::Answer;
 use meaning::Checked;
 use meaning::Configuration;

@@ -3,9 +3,11 @@
 ghost use mathlib.Core.Path.{_≡_};
 ghost use Prim.Native.Nat.{_≤_};
 ghost use Rattle.demands.specs.Contracts.{Checks, Loads, Grades, Lists, Takes, Runs, Saves, Restores};
-ghost use Rattle.moves.specs.Minds.{configurationIn};
-use card::load::answer_of;
-use card::load::empty_configuration;
+ghost use Rattle.choices.specs.Minds.{configurationIn};
+use card::check::answer_of;
+use card::configuration::empty_configuration;
+use choices::configuration::mind_of;
+use choices::mind::Mind;
 use house::Ending;
 use meaning::Checked;
 use meaning::Configuration;
@@ -13,8 +15,6 @@ use meaning::Graded;
 use meaning::Ran;
 use meaning::Reply;
 use meaning::Written;
-use moves::configuration::mind_of;
-use moves::mind::Mind;
 
 // Whether a card is accepted: its layout, or the first refusal of 1 to 9.
 pub fn check(card: &[u8]) -> Checked
@@ -34,7 +34,7 @@ pub fn load(card: &[u8]) -> Reply
 pub fn grade(card: &[u8]) -> Graded
     ensures { λ r. ⌜ Grades (now (card .entry)) r ⌝ }
 {
-    card::grade::grade(card)
+    verdict::grade::grade(card)
 }
 
 // All enabled choices, into a lent list.

@@ -1,13 +1,13 @@
 -- The list of enabled choices has exactly the codes of the choices that have a transition, rising, each once.
-use mathlib.Core.Path.{_≡_, refl, ap, _∙_, sym, subst}
+use mathlib.Core.Path.{_≡_, refl, ap, _∙_, sym}
 use mathlib.Core.Logic.{_⊎_, inl, inr, ⊎-elim}
 use mathlib.Core.Bool.{Bool, true, false}
 use mathlib.Core.List.{List, [], _∷_, _++_, map, append-nil, List·Memᴰ, List·Memᴰ·head, List·Memᴰ·tail, List·Memᴰ·not-nil, List·Memᴰ·cases-cons}
-use Prim.Native.Nat.{ℕ, zero, suc, _+_, _*_, _≤_, _<_}
+use Prim.Native.Nat.{ℕ, zero, suc, _+_, _≤_}
 use native.Mathlib.Omega.{arith}
 use lib.ListN.{length}
 use Rattle.paper.specs.Language.{Agent, Config}
-use Rattle.paper.specs.Transitions.{Choice, select, act, revise, Step}
+use Rattle.paper.specs.Transitions.{Choice, select, act, revise}
 use Rattle.paper.specs.Next.{enabled}
 use Rattle.paper.proofs.Relation.{enabled-exactly}
 use Rattle.house.specs.Order.{kind, number, code, numbers, ofKind, inTurn, keep, enabledCodes}

@@ -1,19 +1,19 @@
 -- A run is the definition's own chain, its count the chain's length, and it ends for the reason that it gives.
-use mathlib.Core.Path.{_≡_, refl, ap, _∙_, sym}
+use mathlib.Core.Path.{_≡_, refl, ap}
 use mathlib.Core.Logic.{_↔_}
 use mathlib.Core.Bool.{Bool, true, false}
-use mathlib.Core.List.{List, [], _∷_, _++_}
+use mathlib.Core.List.{List, [], _∷_}
 use mathlib.Core.Option.{Option, none, some}
-use Prim.Native.Nat.{ℕ, zero, suc, _≤_, _<_}
+use Prim.Native.Nat.{ℕ, zero, suc, _<_}
 use native.Mathlib.Omega.{arith}
 use lib.ListN.{length}
 use borrow.Author.Tests.{leb-true, leb-false}
-use Rattle.paper.specs.Language.{Agent, Config}
-use Rattle.paper.specs.Transitions.{Choice, Step}
+use Rattle.paper.specs.Language.{Agent}
+use Rattle.paper.specs.Transitions.{Choice}
 use Rattle.house.specs.declared.Ending.{Ending}
 use Rattle.house.specs.Order.{State, Move, guide}
 use Rattle.house.specs.Run.{Chain, stay, _then_, fits, Outcome, ended, oneMore, run}
-use Rattle.house.specs.Theorems.{AtRest, Guided, ends, goes, Because, spent, rest, full, Traced, RunLaw}
+use Rattle.house.specs.Theorems.{AtRest, Guided, ends, goes, Because, spent, rest, full, RunLaw}
 use Rattle.house.proofs.Order.{guide-takes, rests}
 
 -- ---- a run's three ways to go on, as equations

@@ -1,25 +1,23 @@
 -- A card is graded bounded exactly if it is, and demand 3 holds under such a card.
-use mathlib.Core.Path.{_≡_, refl, ap, _∙_, sym, subst}
-use mathlib.Core.Logic.{_↔_}
+use mathlib.Core.Path.{_≡_, refl, sym, subst}
 use mathlib.Core.Bool.{Bool, true, false}
 use mathlib.Core.List.{List, [], _∷_, _++_}
 use mathlib.Core.Option.{some}
 use Prim.Native.Nat.{ℕ, zero, suc, _+_, _*_, _≤_, _<_}
 use native.Mathlib.Nat.{add-zero, zero-add, not-suc-le-zero, le-of-suc-le-suc}
 use native.Mathlib.Omega.{arith}
-use lib.Dec.{leb, ltb}
-use lib.ListN.{length, getElem?}
-use borrow.Author.Tests.{ltb-true, ltb-false, leb-true, leb-false, lt-ltb, le-leb}
+use lib.ListN.{length}
+use borrow.Author.Tests.{ltb-true, ltb-false, leb-true, leb-false}
 use Rattle.paper.specs.Language.{Plan, Selection, Revision, Agent, Config}
 use Rattle.paper.specs.Transitions.{Choice, Entry, Step, execute, apply-PS, apply-PR}
 use Rattle.paper.proofs.Relation.{none≢some, some-inj}
 use Rattle.house.specs.declared.Ending.{Ending}
 use Rattle.house.specs.declared.Offender.{Offender}
 use Rattle.house.specs.declared.Verdict.{Verdict}
-use Rattle.house.specs.Order.{State, Move, guide}
+use Rattle.house.specs.Order.{State}
 use Rattle.house.specs.Run.{Chain, stay, _then_, run}
 use Rattle.house.specs.Weight.{weigh, Bounded, firstOffender, light, lowers, verdict, isSelection, selections}
-use Rattle.house.specs.Theorems.{Because, spent, rest, full, Offends, initial-plan, selection, revision, GradeLaws, BoundedLaw}
+use Rattle.house.specs.Theorems.{Because, spent, rest, full, Offends, initial-plan, selection, revision, BoundedLaw}
 use Rattle.house.proofs.Order.{guide-takes}
 use Rattle.house.proofs.Run.{run-law}
 

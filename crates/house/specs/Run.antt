@@ -1,14 +1,14 @@
 -- A run with a budget, and the definition's own chain (01, "A configuration and its transitions").
 use mathlib.Core.Bool.{Bool, true, false}
 use mathlib.Core.List.{List, [], _∷_}
-use mathlib.Core.Option.{Option, none, some}
+use mathlib.Core.Option.{none, some}
 use Prim.Native.Nat.{ℕ, zero, suc}
 use lib.Dec.{leb}
 use lib.ListN.{length}
 use Rattle.paper.specs.Language.{Agent, Config}
 use Rattle.paper.specs.Transitions.{Choice, Step}
 use Rattle.house.specs.declared.Ending.{Ending}
-use Rattle.house.specs.Order.{State, Move, guide}
+use Rattle.house.specs.Order.{State, guide}
 
 infixr 30 _then_
 -- 01, "A configuration and its transitions": "The count is the number of steps in the definition's own chain from the first

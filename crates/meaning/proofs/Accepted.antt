@@ -1,8 +1,8 @@
 -- What an accepted card has passed, and what follows for its agent.
-use mathlib.Core.Path.{_≡_, refl, ap, _∙_, sym}
-use mathlib.Core.Bool.{Bool, true, false, not, _&&_}
+use mathlib.Core.Path.{_≡_}
+use mathlib.Core.Bool.{true}
 use mathlib.Core.List.{List, [], _∷_, map}
-use Prim.Native.Nat.{ℕ, zero, suc, _+_, _≤_, _<_}
+use Prim.Native.Nat.{ℕ, zero, suc, _≤_}
 use native.Mathlib.Omega.{arith}
 use lib.Dec.{leb}
 use lib.ListN.{length, getD}
@@ -12,7 +12,7 @@ use Rattle.house.specs.Order.{numbers}
 use Rattle.house.specs.Theorems.{Numbered}
 use Rattle.house.proofs.Numbers.{length-made}
 use Rattle.house.proofs.Weight.{bounded-law}
-use Rattle.meaning.specs.declared.Answer.the-variants.{Done, Refused}
+use Rattle.meaning.specs.declared.Answer.the-variants.{Done}
 use Rattle.meaning.specs.declared.Section.{Section}
 use Rattle.meaning.specs.declared.Layout.{Layout}
 use Rattle.meaning.specs.Card.{Bytes, layout, entryAt, entries, weightAt, weights, weight, agentOf, agentFor, agent, initialPlan}

@@ -1,12 +1,11 @@
 -- A configuration and its state stand for each other.
 use mathlib.Core.Path.{_≡_, refl, ap, ap₂, _∙_, sym}
-use mathlib.Core.Bool.{Bool, true, _&&_}
+use mathlib.Core.Bool.{true}
 use mathlib.Core.List.{List, [], _∷_, _++_}
-use Prim.Native.Nat.{ℕ, zero, suc, _+_, _-_, _≤_}
-use native.Mathlib.Nat.{le-of-suc-le-suc, not-suc-le-zero}
+use Prim.Native.Nat.{ℕ, _+_, _-_, _≤_}
 use native.Mathlib.Omega.{arith}
 use lib.Dec.{leb, eqb}
-use lib.ListN.{length, take, drop, replicate, length-take, length-drop, take-append-drop}
+use lib.ListN.{length, take, drop, replicate, length-drop, take-append-drop}
 use lib.Seq.{take-append-seam, length-take-le}
 use borrow.Author.Tests.{leb-true, eqb-true}
 use Rattle.paper.specs.Language.{⟨_/_/_⟩}
@@ -14,7 +13,6 @@ use Rattle.paper.proofs.Relation.{both}
 use Rattle.house.specs.Order.{State}
 use Rattle.meaning.specs.declared.Layout.{Layout}
 use Rattle.meaning.specs.declared.Configuration.{Configuration}
-use Rattle.meaning.specs.Card.{Bytes}
 use Rattle.meaning.specs.Configurations.{padded, stateOf, configurationOf}
 use Rattle.meaning.specs.Refusals.{all, actionsGood, setGood, configurationGood}
 use Rattle.meaning.specs.Theorems.{ConfigurationLaws}

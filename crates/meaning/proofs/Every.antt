@@ -1,12 +1,12 @@
 -- A test of every element of a list, or of every number below n, holds exactly if it holds of each.
-use mathlib.Core.Path.{_≡_, refl, ap, _∙_, sym}
+use mathlib.Core.Path.{_≡_, refl, sym}
 use mathlib.Core.Bool.{Bool, true, false, _&&_}
 use mathlib.Core.List.{List, [], _∷_}
-use Prim.Native.Nat.{ℕ, zero, suc, _+_, _≤_, _<_, suc-le-suc, zero-le}
+use Prim.Native.Nat.{ℕ, zero, suc, _+_, _<_, suc-le-suc, zero-le}
 use native.Mathlib.Nat.{le-of-suc-le-suc, not-suc-le-zero, zero-add}
 use native.Mathlib.Omega.{arith}
 use lib.ListN.{length, getD}
-use Rattle.paper.proofs.Relation.{both, false≢true}
+use Rattle.paper.proofs.Relation.{both}
 use Rattle.house.specs.Order.{numbers}
 use Rattle.meaning.specs.Refusals.{all, every}
 

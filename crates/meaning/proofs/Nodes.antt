@@ -1,11 +1,10 @@
 -- The nodes of a card that keep their rule: where their children are, and what a pass makes of each.
-use mathlib.Core.Path.{_≡_, refl, ap, ap₂, _∙_, sym}
-use mathlib.Core.Bool.{Bool, true, false, not, _&&_, _||_}
-use mathlib.Core.List.{List, [], _∷_}
-use Prim.Native.Nat.{ℕ, zero, suc, _+_, _*_, _≤_, _<_}
+use mathlib.Core.Path.{_≡_, refl, ap, ap₂, _∙_}
+use mathlib.Core.Bool.{Bool, true, false, _||_}
+use Prim.Native.Nat.{ℕ, zero, suc, _+_, _≤_, _<_}
 use native.Mathlib.Nat.{zero-add}
 use native.Mathlib.Omega.{arith}
-use lib.Dec.{eqb, ltb}
+use lib.Dec.{ltb}
 use lib.ListN.{length, getD}
 use borrow.Author.Tests.{ltb-true}
 use Rattle.paper.specs.Language.{Letter, Query, ⊤, atom, ¬′, _∧′_, _∨′_}
@@ -15,7 +14,7 @@ use Rattle.meaning.specs.declared.Layout.{Layout}
 use Rattle.meaning.specs.Card.{Bytes, byte, entryAt, Node, nodeAt, nodes, pass, queryOf, conditions}
 use Rattle.meaning.specs.Refusals.{kindGood, nodeGood, nodesGood, containsOf, containing}
 use Rattle.meaning.proofs.Every.{every-at}
-use Rattle.meaning.proofs.Pass.{Lower, pass-at}
+use Rattle.meaning.proofs.Pass.{pass-at}
 
 -- what a node's rule says of its kind and of its children
 pub record Rule (n i kind a b : ℕ) : Type 0 where

@@ -1,24 +1,22 @@
 -- A place saved and restored is the same state; an accepted place, restored and saved, is the same bytes.
 use mathlib.Core.Path.{_≡_, refl, ap, ap₂, _∙_, sym}
-use mathlib.Core.Bool.{Bool, true, false, not, _&&_}
-use mathlib.Core.List.{List, [], _∷_, _++_}
+use mathlib.Core.List.{[], _∷_, _++_}
 use Prim.Native.Nat.{ℕ, zero, suc, _+_, _*_, _/_, _%_, _≤_, _<_}
 use native.Mathlib.Nat.{add-zero, mod-eq-of-lt}
 use native.Mathlib.Omega.{arith}
-use lib.Dec.{leb, ltb, eqb}
-use lib.ListN.{length, getD, take, drop, length-drop, length-take, take-append-drop}
+use lib.Dec.{leb, eqb}
+use lib.ListN.{length, take, drop, length-drop, take-append-drop}
 use lib.Seq.{take-at, drop-at, drop-drop, drop-cons}
 use borrow.Author.Tests.{leb-true, ltb-false, eqb-true, not-false}
-use Rattle.paper.specs.Language.{Plan, ⟨_/_/_⟩}
-use Rattle.paper.specs.Atoms.{Atoms}
+use Rattle.paper.specs.Language.{⟨_/_/_⟩}
 use Rattle.paper.specs.Theorems.{AreBytes}
 use Rattle.paper.proofs.Relation.{both}
 use Rattle.house.specs.Order.{State}
 use Rattle.meaning.specs.declared.Layout.{Layout}
 use Rattle.meaning.specs.declared.Answer.the-variants.{Done}
 use Rattle.meaning.specs.Card.{Bytes, byte, numberAt, part}
-use Rattle.meaning.specs.Place.{twoBytes, placeHeader, place, placed}
-use Rattle.meaning.specs.Refusals.{firstGiven, placeTable, actionsGood, setGood}
+use Rattle.meaning.specs.Place.{placeHeader, place, placed}
+use Rattle.meaning.specs.Refusals.{firstGiven, placeTable}
 use Rattle.meaning.specs.Theorems.{PlaceLaws}
 use Rattle.meaning.proofs.Tables.{passes}
 

@@ -2,8 +2,8 @@
 -- 01, "Numbers the guide may answer": "A refusal answers the number and the configuration as it came in; load, restore and
 -- grading, which have none, answer the empty one (no atoms, empty plan, phase 0). Any count in a refusal is 0. No lent buffer
 -- is written."
-use mathlib.Core.Bool.{Bool, true, false}
-use mathlib.Core.List.{List, [], _∷_, _++_}
+use mathlib.Core.Bool.{true, false}
+use mathlib.Core.List.{List, _++_}
 use mathlib.Core.Option.{Option, none, some}
 use Prim.Native.Nat.{ℕ, zero, suc, _+_, _/_, _%_}
 use lib.Dec.{leb}

@@ -2,7 +2,7 @@
 -- the document says.
 use mathlib.Core.Path.{_≡_}
 use mathlib.Core.List.{List, [], _∷_, _++_}
-use mathlib.Core.Option.{Option, none, some}
+use mathlib.Core.Option.{none, some}
 use Prim.Native.Nat.{ℕ, suc}
 use lib.ListN.{length, replicate}
 use lib.ListN as ListN

@@ -1,6 +1,6 @@
 -- A configuration as it is handed in and out, and the state that it stands for (01, "A configuration and its transitions").
-use mathlib.Core.List.{List, [], _++_}
-use Prim.Native.Nat.{ℕ, _-_}
+use mathlib.Core.List.{[], _++_}
+use Prim.Native.Nat.{_-_}
 use lib.ListN.{length, take, replicate}
 use Rattle.paper.specs.Language.{Plan, ⟨_/_/_⟩}
 use Rattle.house.specs.Order.{State}

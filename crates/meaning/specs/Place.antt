@@ -1,5 +1,5 @@
 -- The place (01, "The place").
-use mathlib.Core.List.{List, [], _∷_, _++_}
+use mathlib.Core.List.{[], _∷_, _++_}
 use Prim.Native.Nat.{ℕ, _+_, _/_, _%_}
 use lib.ListN.{length, drop}
 use Rattle.paper.specs.Language.{⟨_/_/_⟩}

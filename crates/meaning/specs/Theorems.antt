@@ -15,7 +15,7 @@ use Rattle.meaning.specs.declared.Configuration.{Configuration}
 use Rattle.meaning.specs.Card.{Bytes, layout, weight, agent, initialPlan}
 use Rattle.meaning.specs.Configurations.{stateOf, configurationOf}
 use Rattle.meaning.specs.Place.{place, placed}
-use Rattle.meaning.specs.Refusals.{numberOf, Row, firstGiven, cardTable, configurationTable, cardShort, cardMark, countsGood, offsetsGood, weightsGood, nodesGood, containing, rulesGood, pool, actionsGood, setsGood, cardAnswer, placeTable, configurationGood}
+use Rattle.meaning.specs.Refusals.{numberOf, Row, firstGiven, cardTable, configurationTable, cardShort, cardMark, countsGood, offsetsGood, weightsGood, nodesGood, containing, rulesGood, pool, actionsGood, setsGood, placeTable, configurationGood}
 
 -- 01, "Numbers the guide may answer": "given exactly when" and "tested in the table's order": a row answers when what it is
 -- given for holds and nothing of the rows before it does.

@@ -26,8 +26,8 @@ pub enum Answer {
     Refused(Refusal),
 }
 
-// 01, "The card, edition 1", the table: "nodes, offset" and the like: how many entries (the pool: bytes) a section has, and where it
-// starts.
+// 01, "The card, edition 1", the table: "nodes, offset" and the like: how many entries (the pool: bytes) a section has, and
+// where it starts.
 pub struct Section {
     pub count: usize,
     pub offset: usize,
@@ -51,8 +51,8 @@ pub struct Layout {
     pub initial: Span,
 }
 
-// 01, "A configuration and its transitions": "a set of believed atoms, a set of goal atoms, a plan (0 to 1,024 action numbers) and a
-// phase 0, 1 or 2". The plan's first `length` bytes are its actions. What a caller hands in may be out of range: row 13.
+// 01, "A configuration and its transitions": "a set of believed atoms, a set of goal atoms, a plan (0 to 1,024 action numbers)
+// and a phase 0, 1 or 2". The plan's first `length` bytes are its actions. What a caller hands in may be out of range: row 13.
 pub struct Configuration {
     pub beliefs: [u8; 16],
     pub goals: [u8; 16],
@@ -87,8 +87,8 @@ pub struct Written {
     pub configuration: Configuration,
 }
 
-// What `run` answers. 01, "A configuration and its transitions": "the configuration reached, how many transitions were taken, and one of
-// three endings".
+// What `run` answers. 01, "A configuration and its transitions": "the configuration reached, how many transitions were taken,
+// and one of three endings".
 pub struct Ran {
     pub answer: Answer,
     pub count: u16,

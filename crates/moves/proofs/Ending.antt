@@ -1,32 +1,22 @@
 -- Where a run of a configuration ends.
-use mathlib.Core.Path.{_≡_, refl, ap, _∙_, sym, subst}
+use mathlib.Core.Path.{_≡_, ap, _∙_, sym, subst}
 use Prim.Native.Nat.{ℕ, _≤_}
 use native.Mathlib.Omega.{arith}
 use lib.ListN.{length, take}
 use lib.Seq.{length-take-le}
 use Rattle.paper.specs.Language.{Agent}
-use Rattle.house.specs.Order.{State}
-use Rattle.house.specs.Run.{Outcome, run}
+use Rattle.house.specs.Run.{run}
 use Rattle.meaning.specs.declared.Answer.the-variants.{Done}
 use Rattle.meaning.specs.declared.Configuration.{Configuration}
-use Rattle.meaning.specs.declared.Ran.{Ran}
 use Rattle.meaning.specs.Card.{Bytes}
 use Rattle.meaning.specs.Configurations.{padded, stateOf, configurationOf}
 use Rattle.meaning.specs.Calls.{ran}
-use Rattle.moves.specs.declared.mind.Mind.{Mind}
-use Rattle.moves.specs.declared.mind.Turned.{Turned}
-use Rattle.moves.specs.Minds.{stateIn, mindOf, mindIn, Held}
-use Rattle.moves.specs.Choosing.{ranTo}
+use Rattle.moves.specs.declared.outcome.Turned.{Turned}
+use Rattle.choices.specs.Minds.{mindIn, Held}
+use Rattle.moves.specs.Reached.{turnedTo}
 use Rattle.moves.proofs.Turning.{run-fits}
 
 module _ (A : Agent) (budget : ℕ) (c : Configuration) where
-  -- a mind that is the configuration's, and the plan's bytes beside it
-  pub ran-state : (m : Mind) → m ≡ mindIn c → (t : Turned) (p : Bytes)
-      → (t ≡ ranTo (run A budget (stateIn m (c .plan)))) × (p ≡ padded (run A budget (stateIn m (c .plan)) .state .mental .π))
-      → (t ≡ ranTo (run A budget (stateOf c))) × (p ≡ padded (run A budget (stateOf c) .state .mental .π))
-  unfolding stateOf
-  ran-state m e t p h = subst (λ (x : Mind). (t ≡ ranTo (run A budget (stateIn x (c .plan)))) × (p ≡ padded (run A budget (stateIn x (c .plan)) .state .mental .π))) e h
-
   plan-fits : Held (mindIn c) (c .plan) → length (stateOf c .mental .π) ≤ 1024
   unfolding stateOf
   plan-fits h =
@@ -35,7 +25,7 @@ module _ (A : Agent) (budget : ℕ) (c : Configuration) where
       let n : length (take (c .length) (c .plan)) ≡ c .length = length-take-le (c .length) (c .plan) (omega arith) in
       omega arith
 
-  module _ (t : Turned) (e : t ≡ ranTo (run A budget (stateOf c))) where
+  module _ (t : Turned) (e : t ≡ turnedTo (run A budget (stateOf c))) where
     pub ran-within : Held (mindIn c) (c .plan) → t .mind .length ≤ 1024
     ran-within h = subst (λ (x : Turned). x .mind .length ≤ 1024) (sym e) (run-fits A budget (stateOf c) (plan-fits h))
 

@@ -1,17 +1,16 @@
 -- The codes of the enabled choices, gathered one after another.
-use mathlib.Core.Path.{_≡_, refl, ap, _∙_, sym}
+use mathlib.Core.Path.{_≡_, refl, ap, ap₂, _∙_, sym}
 use mathlib.Core.Bool.{Bool, true, false}
 use mathlib.Core.List.{List, [], _∷_, _++_, map, append-nil, append-assoc, map-append}
-use Prim.Native.Nat.{ℕ, zero, suc, _+_, _≤_, _<_}
+use Prim.Native.Nat.{ℕ, zero, suc, _+_, _*_, _≤_, _<_}
 use native.Mathlib.Nat.{add-zero}
 use native.Mathlib.Numerals.{add-one}
 use native.Mathlib.Omega.{arith}
 use borrow.Author.Tests.{le-leb, lt-leb}
-use lib.Dec.{leb}
 use lib.ListN.{length, getD, take, drop, set, length-set}
 use lib.Seq.{take-suc, take-suc-set, length-take-le, drop-cons, set-at, append-snoc}
-use Rattle.paper.specs.Language.{Config, Agent}
-use Rattle.paper.specs.Transitions.{Choice, select, act, revise}
+use Rattle.paper.specs.Language.{Config}
+use Rattle.paper.specs.Transitions.{Choice}
 use Rattle.paper.specs.Next.{enabled}
 use Rattle.house.specs.Order.{kind, number, code, numbers, ofKind, inTurn, keep, enabledCodes}
 use Rattle.house.proofs.Listing.{keep-yes, keep-no}
@@ -24,10 +23,12 @@ use Rattle.meaning.specs.Configurations.{stateOf}
 use Rattle.meaning.specs.Refusals.{configurationAnswer}
 use Rattle.meaning.specs.Calls.{written, lists, listLeaves}
 use Rattle.meaning.proofs.Calls.{writes-room, writes-no-room}
-use Rattle.moves.specs.declared.mind.Mind.{Mind}
-use Rattle.moves.specs.Minds.{mentalOf, mindIn}
+use Rattle.layout.specs.Laid.{Laid}
+use Rattle.choices.specs.declared.mind.Mind.{Mind}
+use Rattle.choices.specs.Minds.{mentalOf, mindIn}
+use Rattle.choices.specs.Choosing.{choiceAt, countOf}
 use Rattle.moves.specs.Listed.{listed}
-use Rattle.moves.proofs.Choices.{selections-of, actions-of, revisions-of}
+use Rattle.choices.proofs.Choices.{of-kind}
 
 -- ---- one number more
 
@@ -99,18 +100,18 @@ module _ (t : Choice → Bool) (f : ℕ → Choice) (at : ℕ) (d₀ : List ℕ)
 -- ---- the three kinds
 
 pub three-kinds : (l : Layout) (b : Bytes) (c : Config) (p q r : List ℕ)
-    → p ≡ listed (enabled (agentFor l b) c) select (l .selections .count)
-    → q ≡ p ++ listed (enabled (agentFor l b) c) act (l .specifications .count)
-    → r ≡ q ++ listed (enabled (agentFor l b) c) revise (l .revisions .count)
+    → p ≡ listed (enabled (agentFor l b) c) (choiceAt 0) (countOf l 0)
+    → q ≡ p ++ listed (enabled (agentFor l b) c) (choiceAt 1) (countOf l 1)
+    → r ≡ q ++ listed (enabled (agentFor l b) c) (choiceAt 2) (countOf l 2)
     → r ≡ enabledCodes (agentFor l b) c
 unfolding enabledCodes inTurn listed
 three-kinds l b c p q r e₁ e₂ e₃ =
     let A = agentFor l b in
     let t = enabled A c in
-    let x = map select (numbers 0 (l .selections .count)) in
-    let y = map act (numbers 0 (l .specifications .count)) in
-    let z = map revise (numbers 0 (l .revisions .count)) in
-    let k : ofKind A 0 ++ (ofKind A 1 ++ ofKind A 2) ≡ x ++ (y ++ z) = rw (selections-of l b, actions-of l b, revisions-of l b) in
+    let x = map (choiceAt 0) (numbers 0 (countOf l 0)) in
+    let y = map (choiceAt 1) (numbers 0 (countOf l 1)) in
+    let z = map (choiceAt 2) (numbers 0 (countOf l 2)) in
+    let k : ofKind A 0 ++ (ofKind A 1 ++ ofKind A 2) ≡ x ++ (y ++ z) = ap₂ _++_ (of-kind l b 0) (ap₂ _++_ (of-kind l b 1) (of-kind l b 2)) in
     let w : map code (keep t (x ++ (y ++ z))) ≡ map code (keep t x) ++ (map code (keep t y) ++ map code (keep t z)) =
     ap (map code) (keep-append t x (y ++ z)) ∙ map-append code (keep t x) (keep t (y ++ z)) ∙ ap (λ (s : List ℕ). map code (keep t x) ++ s) (ap (map code) (keep-append t y z) ∙ map-append code (keep t y) (keep t z)) in
     e₃ ∙ ap (λ (s : List ℕ). s ++ map code (keep t z)) (e₂ ∙ ap (λ (s : List ℕ). s ++ map code (keep t y)) e₁)
@@ -119,17 +120,18 @@ three-kinds l b c p q r e₁ e₂ e₃ =
 
 -- ---- "256 times the kind … plus the number"
 
-pub code-select : (i : ℕ) → i ≡ code (select i)
+pub code-at : (k i : ℕ) → k < 3 → 256 * k + i ≡ code (choiceAt k i)
 unfolding code kind number
-code-select i = omega arith
+code-at zero i h = refl
+code-at (suc zero) i h = refl
+code-at (suc (suc zero)) i h = refl
+code-at (suc (suc (suc k))) i h = absurd (omega arith)
 
-pub code-act : (i : ℕ) → 256 + i ≡ code (act i)
-unfolding code kind number
-code-act i = omega arith
-
-pub code-revise : (i : ℕ) → 512 + i ≡ code (revise i)
-unfolding code kind number
-code-revise i = omega arith
+-- a card has at most 256 choices of a kind
+pub at-most-256 : (l : Layout) (b : Bytes) → Laid l b → (k : ℕ) → countOf l k ≤ 256
+at-most-256 l b d zero = d .selections
+at-most-256 l b d (suc zero) = d .specifications
+at-most-256 l b d (suc (suc k)) = d .revisions
 
 -- ---- codes written over a lent list
 

@@ -1,13 +1,13 @@
 -- Where an enabled choice of a card's agent leads.
-use mathlib.Core.Path.{_≡_, refl, ap, ap₂, _∙_, sym}
-use mathlib.Core.Bool.{Bool, true, false, not, _&&_}
-use mathlib.Core.List.{List, [], _∷_, _++_}
-use mathlib.Core.Option.{Option, none, some}
-use Prim.Native.Nat.{ℕ, zero, suc, _+_, _-_, _≤_, _<_}
+use mathlib.Core.Path.{_≡_, ap, ap₂, _∙_, sym}
+use mathlib.Core.Bool.{true, not}
+use mathlib.Core.List.{List, _++_}
+use mathlib.Core.Option.{none, some}
+use Prim.Native.Nat.{ℕ, _+_, _-_, _≤_, _<_}
 use native.Mathlib.Omega.{arith}
 use borrow.Author.Tests.{le-leb, lt-leb, eqb-true, eqb-false, not-true}
-use lib.Dec.{leb, eqb}
-use lib.ListN.{length, take, drop, getD, length-append, length-drop, length-take}
+use lib.Dec.{eqb}
+use lib.ListN.{length, take, drop, length-append, length-drop, length-take}
 use lib.Seq.{length-take-le}
 use Rattle.paper.specs.Language.{Config, ⟨_/_/_⟩, Agent}
 use Rattle.paper.specs.Transitions.{Choice, select, act, revise, σ′, γ′}
@@ -16,13 +16,13 @@ use Rattle.paper.proofs.Relation.{both, prefix-split}
 use Rattle.house.specs.Order.{State, kind, after}
 use Rattle.house.specs.Run.{fits}
 use Rattle.meaning.specs.declared.Layout.{Layout}
-use Rattle.meaning.specs.Card.{Bytes, byte, part, span, plan, entryAt, specificationAt, selectionAt, revisionAt, agentFor}
+use Rattle.meaning.specs.Card.{Bytes, span, plan, entryAt, selectionAt, revisionAt, agentFor}
 use Rattle.meaning.proofs.Parts.{length-part}
 use Rattle.card.specs.GoodCard.{GoodSpan, GoodCard}
-use Rattle.moves.specs.declared.mind.Mind.{Mind}
-use Rattle.moves.specs.Minds.{mentalOf, stateIn, Held}
-use Rattle.moves.specs.Choosing.{Reached, nothing, full, to, fitting, moveBy}
-use Rattle.moves.proofs.Enabledness.{selectionOf, specificationOf, revisionOf, enabled-select, enabled-act, enabled-revise, next-select, next-act, next-revise, empty-exactly, first-exactly}
+use Rattle.choices.specs.declared.mind.Mind.{Mind}
+use Rattle.choices.specs.Minds.{mentalOf, stateIn, Held}
+use Rattle.moves.specs.Reached.{nothing, full, to, fitting, moveBy}
+use Rattle.choices.proofs.Enabledness.{selectionOf, specificationOf, revisionOf, enabled-select, enabled-act, enabled-revise, next-select, next-act, next-revise, empty-exactly, first-exactly}
 
 -- ---- whether a state fits
 

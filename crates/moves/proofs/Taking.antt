@@ -1,22 +1,22 @@
 -- What taking a choice answers, and where a run leads.
 use mathlib.Core.Path.{_≡_, refl, ap, _∙_, sym, subst}
-use mathlib.Core.Bool.{Bool, true, false, not}
+use mathlib.Core.Bool.{Bool, true, false}
 use mathlib.Core.Option.{Option, none, some}
-use Prim.Native.Nat.{ℕ, zero, suc, _+_, _/_, _%_, _≤_, _<_}
+use Prim.Native.Nat.{ℕ, zero, suc, _/_, _%_, _≤_, _<_}
 use native.Mathlib.Omega.{arith}
 use lib.ListN.{length}
 use Rattle.paper.specs.Language.{Agent, Config}
 use Rattle.paper.specs.Transitions.{Choice}
 use Rattle.paper.specs.Next.{next}
 use Rattle.house.specs.Order.{State, after}
-use Rattle.house.specs.Run.{fits, run}
+use Rattle.house.specs.Run.{fits}
 use Rattle.meaning.specs.declared.Answer.{Answer}
 use Rattle.meaning.specs.declared.Answer.the-variants.{Done, Refused}
 use Rattle.meaning.specs.declared.Refusal.{Refusal}
 use Rattle.meaning.specs.declared.Configuration.{Configuration}
 use Rattle.meaning.specs.declared.Layout.{Layout}
 use Rattle.meaning.specs.Card.{Bytes, layout, agent}
-use Rattle.meaning.specs.Configurations.{padded, stateOf, configurationOf}
+use Rattle.meaning.specs.Configurations.{stateOf, configurationOf}
 use Rattle.meaning.specs.Refusals.{cardAnswer, configurationGood, configurationAnswer}
 use Rattle.meaning.specs.Calls.{choiceOf, choice, leadsTo, takes, reply}
 use Rattle.meaning.proofs.Calls.{configuration-refused, configuration-good, takes-nothing, takes-full, takes-move}
@@ -24,11 +24,10 @@ use Rattle.meaning.proofs.Configurations.{good, padded-take}
 use Rattle.card.specs.Stair.{rowAnswer}
 use Rattle.meaning.proofs.Tables.{done≢refused}
 use Rattle.card.proofs.Stair.{row-done}
-use Rattle.moves.specs.declared.mind.Mind.{Mind}
-use Rattle.moves.specs.declared.mind.Next.{Next}
-use Rattle.moves.specs.declared.mind.Stepped.{Stepped}
-use Rattle.moves.specs.Minds.{stateIn, mindOf, mindIn, configurationIn, Held}
-use Rattle.moves.specs.Choosing.{Reached, nothing, full, to, fitting, moveBy, choiceAt, answered, taking, told, left}
+use Rattle.moves.specs.declared.outcome.Stepped.{Stepped}
+use Rattle.choices.specs.Minds.{mindIn, configurationIn, Held}
+use Rattle.choices.specs.Choosing.{choiceAt}
+use Rattle.moves.specs.Reached.{Reached, nothing, full, to, moveBy, answered, taking, told, left}
 use Rattle.moves.proofs.Making.{leads-to, leads-nowhere}
 use Rattle.moves.proofs.Turning.{fitting-yes, fitting-no, made-fits}
 
@@ -91,13 +90,6 @@ pub held-configuration : (l : Layout) (c : Configuration) → length (c .plan) �
 held-configuration l c r e =
     let g = good l c e in
     record { fits = g .fits; zeros = sym (padded-take (c .plan) (c .length) r (g .fits) (g .zeros)); room = r }
-
--- a mind that is the configuration's, and the plan's bytes beside it
-pub in-state : (A : Agent) (c : Configuration) (k : Choice) (m : Mind) → m ≡ mindIn c → (s : Stepped) (p : Bytes)
-    → (s ≡ told (moveBy A (stateIn m (c .plan)) k) m) × (p ≡ left (moveBy A (stateIn m (c .plan)) k) (c .plan))
-    → (s ≡ told (moveBy A (stateOf c) k) (mindIn c)) × (p ≡ left (moveBy A (stateOf c) k) (c .plan))
-unfolding stateOf
-in-state A c k m e s p h = subst (λ (x : Mind). (s ≡ told (moveBy A (stateIn x (c .plan)) k) x) × (p ≡ left (moveBy A (stateIn x (c .plan)) k) (c .plan))) e h
 
 -- the number and the configuration that the code answers, by what the move comes to
 by-reached : (o : Reached) (c : Configuration) → reply (answered (told o (mindIn c) .next)) (configurationIn (told o (mindIn c) .mind) (left o (c .plan))) ≡ taking o c

@@ -1,5 +1,5 @@
 -- The guide's move, and a run of them, over plain values.
-use mathlib.Core.Path.{_≡_, refl, ap, ap₂, _∙_, sym, subst}
+use mathlib.Core.Path.{_≡_, refl, ap, _∙_, sym, subst}
 use mathlib.Core.Bool.{Bool, true, false, not}
 use mathlib.Core.List.{List, [], _∷_}
 use mathlib.Core.Option.{Option, none, some}
@@ -13,7 +13,7 @@ use lib.Seq.{length-take-le}
 use Rattle.paper.specs.Language.{Agent, Config, ⟨_/_/_⟩}
 use Rattle.paper.specs.Transitions.{Choice, select, act, revise, Step, execute, apply-PS, apply-PR}
 use Rattle.paper.specs.Next.{next, isSome, enabled}
-use Rattle.paper.proofs.Relation.{false≢true, none≢some, some-inj, enabled-exactly, sound}
+use Rattle.paper.proofs.Relation.{false≢true, enabled-exactly, sound}
 use Rattle.house.specs.declared.Ending.{Ending}
 use Rattle.house.specs.Order.{State, kind, inTurn, after, Move, firstMove, guide}
 use Rattle.house.specs.Run.{fits, Outcome, ended, oneMore, run}
@@ -23,14 +23,14 @@ use Rattle.meaning.specs.declared.Layout.{Layout}
 use Rattle.meaning.specs.Card.{Bytes}
 use Rattle.meaning.specs.Configurations.{padded}
 use Rattle.plans.proofs.Laws.{take-padded, length-padded}
-use Rattle.moves.specs.declared.mind.Mind.{Mind}
-use Rattle.moves.specs.declared.mind.Chosen.{Chosen}
-use Rattle.moves.specs.declared.mind.Next.{Next}
-use Rattle.moves.specs.declared.mind.Turned.{Turned}
-use Rattle.moves.specs.Truth.{Judged}
-use Rattle.moves.specs.Minds.{stateIn, mindOf, Held}
-use Rattle.moves.specs.Choosing.{chosen, firstEnabled, Reached, nothing, full, to, fitting, moveBy, choiceAt, stepOf, told, left, ranTo}
-use Rattle.moves.proofs.Choices.{first-yes, first-no}
+use Rattle.choices.specs.declared.mind.Mind.{Mind}
+use Rattle.choices.specs.declared.mind.Chosen.{Chosen}
+use Rattle.moves.specs.declared.outcome.Next.{Next}
+use Rattle.choices.specs.Truth.{Judged}
+use Rattle.choices.specs.Minds.{stateIn, mindOf, Held}
+use Rattle.choices.specs.Choosing.{chosen, firstEnabled, choiceAt}
+use Rattle.moves.specs.Reached.{Reached, nothing, full, to, fitting, moveBy, stepOf, told, left, turnedTo}
+use Rattle.choices.proofs.Choices.{first-yes, first-no}
 use Rattle.moves.proofs.Making.{fits-in, too-long, leads-to, leads-nowhere}
 
 -- ---- the first enabled choice is the guide's move
@@ -249,16 +249,16 @@ module _ (A : Agent) (budget : ℕ) where
   module _ (start : State) (m : Mind) (d : Bytes) (count : ℕ) (r : Running A budget start m d count) where
     -- where the run ends here
     ends : (e : Ending) → run A (budget - count) (stateIn m d) ≡ ended e (stateIn m d)
-        → (record { mind = m; count = count; ending = e } ≡ ranTo (run A budget start)) × (d ≡ padded (run A budget start .state .mental .π))
+        → (record { mind = m; count = count; ending = e } ≡ turnedTo (run A budget start)) × (d ≡ padded (run A budget start .state .mental .π))
     ends e q =
         let o : counted count (ended e (stateIn m d)) ≡ run A budget start = ap (counted count) (sym q) ∙ r .same in
         let h = held-mind m d (r .held) in
         let n : count ≡ count + 0 = omega arith in (
-          (λ i. record { mind = sym h i; count = n i; ending = e }) ∙ ap ranTo o,
+          (λ i. record { mind = sym h i; count = n i; ending = e }) ∙ ap turnedTo o,
           r .held .zeros ∙ ap (λ (x : Outcome). padded (x .state .mental .π)) o,
         )
 
-    pub running-spent : budget ≤ count → (record { mind = m; count = count; ending = Ending.Spent } ≡ ranTo (run A budget start)) × (d ≡ padded (run A budget start .state .mental .π))
+    pub running-spent : budget ≤ count → (record { mind = m; count = count; ending = Ending.Spent } ≡ turnedTo (run A budget start)) × (d ≡ padded (run A budget start .state .mental .π))
     unfolding run
     running-spent h = let z : budget - count ≡ 0 = omega arith in ends Ending.Spent (ap (λ n. run A n (stateIn m d)) z)
 
@@ -270,21 +270,21 @@ module _ (A : Agent) (budget : ℕ) where
       w = went A (budget - (count + 1)) (stateIn m d)
 
       pub running-rest : told (stepOf A (stateIn m d)) m .next ≡ Next.Nothing
-          → (record { mind = m; count = count; ending = Ending.Rest } ≡ ranTo (run A budget start)) × (left (stepOf A (stateIn m d)) d ≡ padded (run A budget start .state .mental .π))
+          → (record { mind = m; count = count; ending = Ending.Rest } ≡ turnedTo (run A budget start)) × (left (stepOf A (stateIn m d)) d ≡ padded (run A budget start .state .mental .π))
       running-rest e = go w
         where
           go : Went A (budget - (count + 1)) (stateIn m d) (stepOf A (stateIn m d))
-              → (record { mind = m; count = count; ending = Ending.Rest } ≡ ranTo (run A budget start)) × (left (stepOf A (stateIn m d)) d ≡ padded (run A budget start .state .mental .π))
+              → (record { mind = m; count = count; ending = Ending.Rest } ≡ turnedTo (run A budget start)) × (left (stepOf A (stateIn m d)) d ≡ padded (run A budget start .state .mental .π))
           go (went-nowhere q f) = let x = ends Ending.Rest (ap (λ n. run A n (stateIn m d)) one-less ∙ f) in (x .0, ap (λ o. left o d) q ∙ x .1)
           go (went-full q f) = absurd (let y : Next.Full ≡ Next.Nothing = sym (ap (λ o. told o m .next) q) ∙ e in let z : _≡_ {A = ℕ} 0 1 = cc in omega arith)
           go (went-to s′ q l p k f) = absurd (let y : Next.Moved ≡ Next.Nothing = sym (ap (λ o. told o m .next) q) ∙ e in let z : _≡_ {A = ℕ} 0 1 = cc in omega arith)
 
       pub running-full : told (stepOf A (stateIn m d)) m .next ≡ Next.Full
-          → (record { mind = m; count = count; ending = Ending.Full } ≡ ranTo (run A budget start)) × (left (stepOf A (stateIn m d)) d ≡ padded (run A budget start .state .mental .π))
+          → (record { mind = m; count = count; ending = Ending.Full } ≡ turnedTo (run A budget start)) × (left (stepOf A (stateIn m d)) d ≡ padded (run A budget start .state .mental .π))
       running-full e = go w
         where
           go : Went A (budget - (count + 1)) (stateIn m d) (stepOf A (stateIn m d))
-              → (record { mind = m; count = count; ending = Ending.Full } ≡ ranTo (run A budget start)) × (left (stepOf A (stateIn m d)) d ≡ padded (run A budget start .state .mental .π))
+              → (record { mind = m; count = count; ending = Ending.Full } ≡ turnedTo (run A budget start)) × (left (stepOf A (stateIn m d)) d ≡ padded (run A budget start .state .mental .π))
           go (went-nowhere q f) = absurd (let y : Next.Nothing ≡ Next.Full = sym (ap (λ o. told o m .next) q) ∙ e in let z : _≡_ {A = ℕ} 0 1 = cc in omega arith)
           go (went-full q f) = let x = ends Ending.Full (ap (λ n. run A n (stateIn m d)) one-less ∙ f) in (x .0, ap (λ o. left o d) q ∙ x .1)
           go (went-to s′ q l p k f) = absurd (let y : Next.Moved ≡ Next.Full = sym (ap (λ o. told o m .next) q) ∙ e in let z : _≡_ {A = ℕ} 0 1 = cc in omega arith)

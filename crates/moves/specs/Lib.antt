@@ -1,4 +1,2 @@
-pub mod Truth
-pub mod Minds
-pub mod Choosing
+pub mod Reached
 pub mod Listed

@@ -1,10 +1,7 @@
-// Moves: judged, listed, taken, run.
-pub mod configuration;
-pub mod enabled;
+// Moves: listed, made, taken, run.
 pub mod list;
-pub mod make;
-pub mod mind;
+mod make;
+pub mod outcome;
 pub mod run;
 pub mod take;
-pub mod truth;
-pub mod turn;
+mod turn;

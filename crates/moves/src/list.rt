@@ -1,9 +1,8 @@
 // The list: "The list of enabled choices goes as two-byte numbers, rising, each once."
 ghost use mathlib.Core.Path.{_≡_};
 ghost use mathlib.Core.List.{_++_};
-ghost use Prim.Native.Nat.{ℕ, _+_, _≤_, _<_};
+ghost use Prim.Native.Nat.{_+_, _≤_, _<_};
 ghost use lib.ListN.{length, take, drop};
-ghost use Rattle.paper.specs.Transitions.{select, act, revise};
 ghost use Rattle.paper.specs.Next.{enabled};
 ghost use Rattle.house.specs.Order.{enabledCodes};
 ghost use Rattle.meaning.specs.declared.Answer.the-variants.{Done};
@@ -11,94 +10,40 @@ ghost use Rattle.meaning.specs.Card.{layout, agentFor};
 ghost use Rattle.meaning.specs.Refusals.{cardAnswer};
 ghost use Rattle.meaning.specs.Calls.{written, lists, listLeaves};
 ghost use Rattle.card.specs.GoodCard.{GoodCard};
-ghost use Rattle.moves.specs.Truth.{Judged};
-ghost use Rattle.moves.specs.Minds.{mentalOf, configurationIn, Held};
+ghost use Rattle.choices.specs.Truth.{Judged};
+ghost use Rattle.choices.specs.Minds.{mentalOf, configurationIn, Held};
+ghost use Rattle.choices.specs.Choosing.{choiceAt, countOf};
 ghost use Rattle.moves.specs.Listed.{listed};
-use crate::configuration::judge_mind;
-use crate::enabled::can_act;
-use crate::enabled::can_revise;
-use crate::enabled::can_select;
-use crate::mind::Counted;
-use crate::mind::Mind;
-use crate::truth::judge;
+use crate::outcome::Counted;
+use choices::configuration::judge_mind;
+use choices::enabled::can;
+use choices::enabled::count_of;
+use choices::mind::Mind;
+use choices::truth::judged;
 use meaning::Answer;
 use meaning::Layout;
 use meaning::Refusal;
 
-// The enabled selection rules, from a place in the codes on; answers where the next may go.
-fn gather_selections(
+// The codes of a kind's enabled choices, from a place in the codes on; answers where the next may go.
+fn gather_kind(
     card: &[u8],
     l: Layout,
     m: Mind,
     plan: &[u8; 1024],
     marks: &[bool; 256],
+    kind: u8,
     codes: &mut [u16; 768],
     at: usize,
 ) -> usize
-    requires { ⌜ GoodCard l (now card) × Held m (now plan) × Judged l (now card) (m .beliefs) (m .goals) (now marks) × (length (now codes) ≡ 768) × (at ≤ 512) ⌝ }
-    ensures { λ r. ⌜ (take r (now (codes .exit)) ≡ take at (now (codes .entry)) ++ listed (enabled (agentFor l (now (card .entry))) (mentalOf m (now (plan .entry)))) select (l .selections .count)) × (r ≤ at + 256) × (length (now (codes .exit)) ≡ 768) ⌝ }
+    requires { ⌜ GoodCard l (now card) × Held m (now plan) × Judged l (now card) (m .beliefs) (m .goals) (now marks) × (kind < 3) × (length (now codes) ≡ 768) × (at ≤ 512) ⌝ }
+    ensures { λ r. ⌜ (take r (now (codes .exit)) ≡ take at (now (codes .entry)) ++ listed (enabled (agentFor l (now (card .entry))) (mentalOf m (now (plan .entry)))) (choiceAt kind) (countOf l kind)) × (r ≤ at + 256) × (length (now (codes .exit)) ≡ 768) ⌝ }
 {
-    let section = l.selections;
-    let n = section.count;
+    let n = count_of(l, kind);
     let mut j: usize = at;
     let mut i: usize = 0;
     while i < n {
-        if can_select(card, l, m, plan, marks, i) {
-            codes[j] = i as u16;
-            j += 1;
-        }
-        i += 1;
-    }
-    j
-}
-
-// The enabled specifications.
-fn gather_actions(
-    card: &[u8],
-    l: Layout,
-    m: Mind,
-    plan: &[u8; 1024],
-    marks: &[bool; 256],
-    codes: &mut [u16; 768],
-    at: usize,
-) -> usize
-    requires { ⌜ GoodCard l (now card) × Held m (now plan) × Judged l (now card) (m .beliefs) (m .goals) (now marks) × (length (now codes) ≡ 768) × (at ≤ 512) ⌝ }
-    ensures { λ r. ⌜ (take r (now (codes .exit)) ≡ take at (now (codes .entry)) ++ listed (enabled (agentFor l (now (card .entry))) (mentalOf m (now (plan .entry)))) act (l .specifications .count)) × (r ≤ at + 256) × (length (now (codes .exit)) ≡ 768) ⌝ }
-{
-    let section = l.specifications;
-    let n = section.count;
-    let mut j: usize = at;
-    let mut i: usize = 0;
-    while i < n {
-        if can_act(card, l, m, plan, marks, i) {
-            codes[j] = 256 + i as u16;
-            j += 1;
-        }
-        i += 1;
-    }
-    j
-}
-
-// The enabled revision rules.
-fn gather_revisions(
-    card: &[u8],
-    l: Layout,
-    m: Mind,
-    plan: &[u8; 1024],
-    marks: &[bool; 256],
-    codes: &mut [u16; 768],
-    at: usize,
-) -> usize
-    requires { ⌜ GoodCard l (now card) × Held m (now plan) × Judged l (now card) (m .beliefs) (m .goals) (now marks) × (length (now codes) ≡ 768) × (at ≤ 512) ⌝ }
-    ensures { λ r. ⌜ (take r (now (codes .exit)) ≡ take at (now (codes .entry)) ++ listed (enabled (agentFor l (now (card .entry))) (mentalOf m (now (plan .entry)))) revise (l .revisions .count)) × (r ≤ at + 256) × (length (now (codes .exit)) ≡ 768) ⌝ }
-{
-    let section = l.revisions;
-    let n = section.count;
-    let mut j: usize = at;
-    let mut i: usize = 0;
-    while i < n {
-        if can_revise(card, l, m, plan, marks, i) {
-            codes[j] = 512 + i as u16;
+        if can(card, l, m, plan, marks, kind, i) {
+            codes[j] = 256 * (kind as u16) + i as u16;
             j += 1;
         }
         i += 1;
@@ -113,10 +58,10 @@ fn gather(card: &[u8], l: Layout, m: Mind, plan: &[u8; 1024], codes: &mut [u16; 
 {
     let b = m.beliefs;
     let g = m.goals;
-    let marks = judge(card, l, b, g);
-    let first = gather_selections(card, l, m, plan, &marks, codes, 0);
-    let second = gather_actions(card, l, m, plan, &marks, codes, first);
-    gather_revisions(card, l, m, plan, &marks, codes, second)
+    let marks = judged(card, l, b, g);
+    let first = gather_kind(card, l, m, plan, &marks, 0, codes, 0);
+    let second = gather_kind(card, l, m, plan, &marks, 1, codes, first);
+    gather_kind(card, l, m, plan, &marks, 2, codes, second)
 }
 
 // The first n codes over the first n entries of a lent list.

@@ -1,19 +1,18 @@
 // A move is made: the mind by value, the plan in place. Each is a transition of Definitions 9 to 11.
 ghost use mathlib.Core.Path.{_≡_};
 ghost use mathlib.Core.Bool.{true};
-ghost use Prim.Native.Nat.{ℕ, _+_, _≤_, _<_};
-ghost use lib.ListN.{length, take};
+ghost use Prim.Native.Nat.{_<_};
 ghost use Rattle.paper.specs.Transitions.{select, act, revise};
 ghost use Rattle.paper.specs.Next.{enabled};
 ghost use Rattle.meaning.specs.Card.{agentFor};
 ghost use Rattle.card.specs.GoodCard.{GoodCard};
-ghost use Rattle.moves.specs.Minds.{mentalOf, stateIn, Held};
-ghost use Rattle.moves.specs.Choosing.{moveBy, told, left};
-use crate::mind::Mind;
-use crate::mind::Next;
-use crate::mind::Stepped;
-use card::header::read_span;
-use card::readers::set_at;
+ghost use Rattle.choices.specs.Minds.{mentalOf, stateIn, Held};
+ghost use Rattle.moves.specs.Reached.{moveBy, told, left};
+use crate::outcome::Next;
+use crate::outcome::Stepped;
+use choices::mind::Mind;
+use layout::header::read_span;
+use layout::readers::set_at;
 use meaning::Layout;
 
 // Selection rule i: "The rule's plan becomes the plan."

@@ -1,16 +1,17 @@
 // A run: "at most budget transitions", each the guide's own.
 ghost use mathlib.Core.Path.{_≡_};
 ghost use mathlib.Core.Logic.{_⊎_};
-ghost use Prim.Native.Nat.{ℕ, _≤_, _<_};
+ghost use Prim.Native.Nat.{_≤_};
 ghost use Rattle.meaning.specs.declared.Answer.the-variants.{Done};
 ghost use Rattle.meaning.specs.Card.{layout};
 ghost use Rattle.meaning.specs.Refusals.{cardAnswer};
 ghost use Rattle.meaning.specs.Calls.{runs};
-ghost use Rattle.moves.specs.Minds.{configurationIn, endedIn};
-use crate::configuration::judge_mind;
-use crate::mind::Ended;
-use crate::mind::Mind;
+ghost use Rattle.choices.specs.Minds.{configurationIn};
+ghost use Rattle.moves.specs.Reached.{endedIn};
+use crate::outcome::Ended;
 use crate::turn::turns;
+use choices::configuration::judge_mind;
+use choices::mind::Mind;
 use house::Ending;
 use meaning::Answer;
 use meaning::Layout;

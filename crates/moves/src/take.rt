@@ -1,102 +1,41 @@
 // Taking a choice: "A choice is taken exactly if it is a transition and its plan fits."
 ghost use mathlib.Core.Path.{_≡_};
 ghost use mathlib.Core.Logic.{_⊎_};
-ghost use mathlib.Core.Bool.{true};
-ghost use Prim.Native.Nat.{ℕ, _≤_, _<_};
-ghost use Rattle.paper.specs.Transitions.{select, act, revise};
+ghost use Prim.Native.Nat.{_≤_, _<_};
 ghost use Rattle.paper.specs.Next.{enabled};
 ghost use Rattle.meaning.specs.declared.Answer.the-variants.{Done};
 ghost use Rattle.meaning.specs.Card.{layout, agentFor};
 ghost use Rattle.meaning.specs.Refusals.{cardAnswer};
 ghost use Rattle.meaning.specs.Calls.{reply, takes};
 ghost use Rattle.card.specs.GoodCard.{GoodCard};
-ghost use Rattle.moves.specs.Truth.{Judged};
-ghost use Rattle.moves.specs.Minds.{mentalOf, stateIn, configurationIn, Held};
-ghost use Rattle.moves.specs.Choosing.{answered, choiceAt, moveBy, told, left};
-use crate::configuration::judge_mind;
-use crate::enabled::can_act;
-use crate::enabled::can_revise;
-use crate::enabled::can_select;
-use crate::mind::Mind;
-use crate::mind::Next;
-use crate::mind::Replied;
-use crate::mind::Stepped;
-use crate::truth::judge;
+ghost use Rattle.choices.specs.Minds.{mentalOf, stateIn, configurationIn, Held};
+ghost use Rattle.choices.specs.Choosing.{choiceAt};
+ghost use Rattle.moves.specs.Reached.{answered, moveBy, told, left};
+use crate::outcome::Next;
+use crate::outcome::Replied;
+use crate::outcome::Stepped;
 use crate::turn::make;
+use choices::configuration::judge_mind;
+use choices::enabled::can;
+use choices::enabled::count_of;
+use choices::mind::Mind;
+use choices::truth::judged;
 use meaning::Answer;
 use meaning::Layout;
 use meaning::Refusal;
 
-// Whether a number is that of an enabled selection rule.
-fn may_select(
-    card: &[u8],
-    l: Layout,
-    m: Mind,
-    plan: &[u8; 1024],
-    marks: &[bool; 256],
-    i: usize,
-) -> bool
-    requires { ⌜ GoodCard l (now card) × Held m (now plan) × Judged l (now card) (m .beliefs) (m .goals) (now marks) ⌝ }
-    ensures { λ r. ⌜ r ≡ enabled (agentFor l (now (card .entry))) (mentalOf m (now (plan .entry))) (select i) ⌝ }
-{
-    let section = l.selections;
-    if section.count <= i {
-        return false;
-    }
-    can_select(card, l, m, plan, marks, i)
-}
-
-// Whether a number is that of an enabled specification.
-fn may_act(
-    card: &[u8],
-    l: Layout,
-    m: Mind,
-    plan: &[u8; 1024],
-    marks: &[bool; 256],
-    i: usize,
-) -> bool
-    requires { ⌜ GoodCard l (now card) × Held m (now plan) × Judged l (now card) (m .beliefs) (m .goals) (now marks) ⌝ }
-    ensures { λ r. ⌜ r ≡ enabled (agentFor l (now (card .entry))) (mentalOf m (now (plan .entry))) (act i) ⌝ }
-{
-    let section = l.specifications;
-    if section.count <= i {
-        return false;
-    }
-    can_act(card, l, m, plan, marks, i)
-}
-
-// Whether a number is that of an enabled revision rule.
-fn may_revise(
-    card: &[u8],
-    l: Layout,
-    m: Mind,
-    plan: &[u8; 1024],
-    marks: &[bool; 256],
-    i: usize,
-) -> bool
-    requires { ⌜ GoodCard l (now card) × Held m (now plan) × Judged l (now card) (m .beliefs) (m .goals) (now marks) ⌝ }
-    ensures { λ r. ⌜ r ≡ enabled (agentFor l (now (card .entry))) (mentalOf m (now (plan .entry))) (revise i) ⌝ }
-{
-    let section = l.revisions;
-    if section.count <= i {
-        return false;
-    }
-    can_revise(card, l, m, plan, marks, i)
-}
-
-// Whether a choice, by its kind and number, is enabled.
+// Whether a choice, by its kind and number, is enabled; a number past the last is not.
 fn may(card: &[u8], l: Layout, m: Mind, plan: &[u8; 1024], kind: u8, i: usize) -> bool
     requires { ⌜ GoodCard l (now card) × Held m (now plan) × (kind < 3) ⌝ }
     ensures { λ r. ⌜ r ≡ enabled (agentFor l (now (card .entry))) (mentalOf m (now (plan .entry))) (choiceAt kind i) ⌝ }
 {
+    if count_of(l, kind) <= i {
+        return false;
+    }
     let b = m.beliefs;
     let g = m.goals;
-    let marks = judge(card, l, b, g);
-    match kind {
-        0 => may_select(card, l, m, plan, &marks, i),
-        1 => may_act(card, l, m, plan, &marks, i),
-        _ => may_revise(card, l, m, plan, &marks, i),
-    }
+    let marks = judged(card, l, b, g);
+    can(card, l, m, plan, &marks, kind, i)
 }
 
 // A choice is made if it is enabled.

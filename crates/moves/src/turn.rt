@@ -1,27 +1,28 @@
 // One turn of the guide, and a run of them.
 ghost use mathlib.Core.Path.{_≡_};
 ghost use mathlib.Core.Bool.{true};
-ghost use Prim.Native.Nat.{ℕ, _+_, _≤_, _<_};
-ghost use lib.ListN.{length, take};
+ghost use Prim.Native.Nat.{_<_};
+ghost use lib.ListN.{length};
 ghost use Rattle.paper.specs.Next.{enabled};
 ghost use Rattle.house.specs.Run.{run};
 ghost use Rattle.meaning.specs.Card.{agentFor};
 ghost use Rattle.meaning.specs.Configurations.{padded};
 ghost use Rattle.card.specs.GoodCard.{GoodCard};
-ghost use Rattle.moves.specs.Truth.{Judged};
-ghost use Rattle.moves.specs.Minds.{mentalOf, stateIn, Held};
-ghost use Rattle.moves.specs.Choosing.{choiceAt, moveBy, stepOf, told, left, ranTo};
-use crate::enabled::choose;
+ghost use Rattle.choices.specs.Truth.{Judged};
+ghost use Rattle.choices.specs.Minds.{mentalOf, stateIn, Held};
+ghost use Rattle.choices.specs.Choosing.{choiceAt};
+ghost use Rattle.moves.specs.Reached.{moveBy, stepOf, told, left, turnedTo};
 use crate::make::make_action;
 use crate::make::make_revision;
 use crate::make::make_selection;
-use crate::mind::Chosen;
-use crate::mind::Mind;
-use crate::mind::Next;
-use crate::mind::Stepped;
-use crate::mind::Turned;
-use crate::truth::mark_nodes;
+use crate::outcome::Next;
+use crate::outcome::Stepped;
+use crate::outcome::Turned;
 use card::nodes::no_marks;
+use choices::enabled::choose;
+use choices::mind::Chosen;
+use choices::mind::Mind;
+use choices::truth::judge_nodes;
 use house::Ending;
 use meaning::Layout;
 
@@ -60,7 +61,7 @@ fn refresh(card: &[u8], l: Layout, m: Mind, known: bool, marks: &mut [bool; 256]
     if !known {
         let b = m.beliefs;
         let g = m.goals;
-        mark_nodes(card, l, b, g, marks);
+        judge_nodes(card, l, b, g, marks);
     }
 }
 
@@ -79,7 +80,7 @@ fn end(m: Mind, count: u16, ending: Ending) -> Turned
 // stay true until an action, after which the phase is 2. The mind is taken over field by field: no unused byte is copied.
 pub fn turns(card: &[u8], l: Layout, m: Mind, plan: &mut [u8; 1024], budget: u16) -> Turned
     requires { ⌜ GoodCard l (now card) × Held m (now plan) × (m .phase < 3) ⌝ }
-    ensures { λ r. ⌜ (r ≡ ranTo (run (agentFor l (now (card .entry))) budget (stateIn m (now (plan .entry))))) × (now (plan .exit) ≡ padded (run (agentFor l (now (card .entry))) budget (stateIn m (now (plan .entry))) .state .mental .π)) ⌝ }
+    ensures { λ r. ⌜ (r ≡ turnedTo (run (agentFor l (now (card .entry))) budget (stateIn m (now (plan .entry))))) × (now (plan .exit) ≡ padded (run (agentFor l (now (card .entry))) budget (stateIn m (now (plan .entry))) .state .mental .π)) ⌝ }
 {
     let mut cur = m;
     let mut marks = no_marks();

@@ -2,13 +2,12 @@
 use mathlib.Core.Path.{_≡_, refl, ap, _∙_, sym, subst}
 use mathlib.Core.Logic.{_↔_}
 use mathlib.Core.Bool.{Bool, true, false, _&&_}
-use mathlib.Core.List.{List, [], _∷_, _++_}
+use mathlib.Core.List.{[], _∷_, _++_}
 use mathlib.Core.Option.{Option, none, some}
 use Prim.Native.Nat.{ℕ}
 use native.Mathlib.Omega.{arith}
 use lib.Dec.{T, eqb, eqb→eq, eqb-refl}
 use lib.ListN.{length, drop, getElem?}
-use Rattle.paper.specs.Atoms.{Atoms}
 use Rattle.paper.specs.Language.{Plan, Letter, Query, Specification, Selection, Revision, Agent, Config, ⟨_/_/_⟩}
 use Rattle.paper.specs.Transitions.{_⊨_, Choice, select, act, revise, Entry, σ′, γ′, Step, execute, apply-PS, apply-PR}
 use Rattle.paper.specs.Next.{isEmpty, startsWith, isPrefix, canSelect, selected, canAct, acted, canRevise, revised, outcome, next, isSome, enabled}

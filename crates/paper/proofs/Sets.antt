@@ -1,7 +1,7 @@
 -- The laws of sets of atoms, for any number of bytes, and what an action does to the members.
 use mathlib.Core.Path.{_≡_, refl, ap, _∙_, sym}
 use mathlib.Core.Bool.{Bool, true, false, not, _&&_, _||_}
-use mathlib.Core.List.{List, [], _∷_}
+use mathlib.Core.List.{[], _∷_}
 use Prim.Native.Nat.{ℕ, zero, suc, _+_, _*_, _/_, _%_, _^_, _<_}
 use native.Mathlib.Nat.{mod-lt, div-div-eq-div-mul, pow-suc, mul-comm, div-lt-iff-lt-mul}
 use native.Mathlib.Omega.{arith}

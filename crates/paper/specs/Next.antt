@@ -1,7 +1,7 @@
 -- The transitions as a function: 01, "A configuration and its transitions", sentence by sentence. A choice that is enabled
 -- leads to one configuration; any other leads to none.
 use mathlib.Core.Bool.{Bool, true, false, _&&_}
-use mathlib.Core.List.{List, [], _∷_, _++_}
+use mathlib.Core.List.{[], _∷_, _++_}
 use mathlib.Core.Option.{Option, none, some}
 use lib.Dec.{eqb}
 use lib.ListN.{length, drop, getElem?}

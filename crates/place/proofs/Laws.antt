@@ -18,7 +18,7 @@ use Rattle.meaning.specs.Card.{Bytes, numberAt, layout}
 use Rattle.meaning.specs.Place.{placeHeader, place, placed}
 use Rattle.meaning.specs.Configurations.{stateOf, configurationOf, empty}
 use Rattle.meaning.specs.Refusals.{firstGiven, placeTable, andThen, cardAnswer, placeAnswer, configurationTable, configurationGood, configurationAnswer}
-use Rattle.meaning.specs.Calls.{reply, restores, written, over, roomFor, writeAnswer, saves, saveLeaves}
+use Rattle.meaning.specs.Calls.{reply, restores, written, roomFor, writeAnswer, saves, saveLeaves}
 use Rattle.meaning.proofs.Tables.{passes, and-then-done, done≢refused}
 use Rattle.meaning.proofs.Configurations.{Good, good}
 use Rattle.meaning.proofs.Calls as Calls

@@ -1,38 +1,24 @@
 // A place judged against the card that it is given with: rows 1, 2, 3, 4, 8 and 9 of the refusal table in their order, for
 // every byte string. Each function asks one row and, where it is passed, calls the next.
 ghost use mathlib.Core.Path.{_≡_};
-ghost use mathlib.Core.Bool.{_&&_};
 ghost use Prim.Native.Nat.{_+_, _≤_};
 ghost use lib.ListN.{length, drop};
-ghost use Rattle.meaning.specs.Card.{part};
-ghost use Rattle.meaning.specs.Refusals.{actionsGood, setGood, placeMarkGood, placeCountsGood, placeOffsetsGood, placeSetsGood, firstGiven, placeTable};
-ghost use Rattle.sets.specs.Sets.{below};
+ghost use Rattle.meaning.specs.Refusals.{actionsGood, placeMarkGood, placeCountsGood, placeOffsetsGood, placeSetsGood, firstGiven, placeTable};
 ghost use Rattle.card.specs.Stair.{rowsFrom};
 use card::check::row;
 use card::contents::actions_good;
-use card::readers::number_at;
-use card::readers::set_at;
+use layout::readers::number_at;
+use layout::readers::set_at;
 use meaning::Answer;
 use meaning::Layout;
 use meaning::Refusal;
-
-// Whether the set at a place has only atoms below a number, of which it is given the set.
-fn set_good(p: &[u8], at: usize, atoms: usize, known: [u8; 16]) -> bool
-    requires { ⌜ (at + 16 ≤ length (now p)) × (atoms ≤ 128) × (known ≡ below atoms) ⌝ }
-    ensures { λ r. ⌜ r ≡ setGood atoms (part (now (p .entry)) at 16) ⌝ }
-{
-    sets::only(set_at(p, at), known)
-}
 
 // Row 9: "a set has a bit at or above the number of atoms". The beliefs stand at 12, the goals at 28.
 fn sets_good(p: &[u8], atoms: usize) -> bool
     requires { ⌜ (44 ≤ length (now p)) × (atoms ≤ 128) ⌝ }
     ensures { λ r. ⌜ r ≡ placeSetsGood atoms (now (p .entry)) ⌝ }
 {
-    let known = sets::below_number(atoms);
-    let beliefs = set_good(p, 12, atoms, known);
-    let goals = set_good(p, 28, atoms, known);
-    beliefs & goals
+    sets::both_known(set_at(p, 12), set_at(p, 28), atoms)
 }
 
 // Row 9, the last.

@@ -8,16 +8,16 @@ ghost use Rattle.meaning.specs.Configurations.{configurationOf, empty};
 ghost use Rattle.meaning.specs.Place.{placed};
 ghost use Rattle.meaning.specs.Refusals.{cardAnswer};
 ghost use Rattle.meaning.specs.Calls.{reply, restores};
-ghost use Rattle.moves.specs.Minds.{configurationIn};
+ghost use Rattle.choices.specs.Minds.{configurationIn};
 ghost use Rattle.place.specs.PlaceRows.{Sized};
 use crate::judge::judge_place;
-use card::readers::number_at;
-use card::readers::set_at;
+use choices::configuration::size;
+use choices::mind::Mind;
+use layout::readers::number_at;
+use layout::readers::set_at;
 use meaning::Answer;
 use meaning::Layout;
-use moves::configuration::size;
-use moves::mind::Mind;
-use moves::mind::Replied;
+use moves::outcome::Replied;
 
 // "plan length L at 4; … phase at 8; … beliefs at 12; goals at 28; the plan's L bytes at 44."
 fn read(p: &[u8], plan: &mut [u8; 1024]) -> Mind

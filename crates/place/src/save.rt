@@ -10,15 +10,15 @@ ghost use Rattle.meaning.specs.Configurations.{stateOf};
 ghost use Rattle.meaning.specs.Place.{placeHeader, place};
 ghost use Rattle.meaning.specs.Refusals.{cardAnswer};
 ghost use Rattle.meaning.specs.Calls.{written, saves, saveLeaves};
-ghost use Rattle.moves.specs.Minds.{configurationIn};
+ghost use Rattle.choices.specs.Minds.{configurationIn};
 ghost use Rattle.place.specs.PlaceRows.{savedFrom};
 use card::check::row;
+use choices::configuration::judge_mind;
+use choices::mind::Mind;
 use meaning::Answer;
 use meaning::Layout;
 use meaning::Refusal;
-use moves::configuration::judge_mind;
-use moves::mind::Counted;
-use moves::mind::Mind;
+use moves::outcome::Counted;
 
 // "Bytes 33 50 hex; edition 1 at 2; plan length L at 4; plan offset 44 at 6; phase at 8; zero at 10"
 fn head(n: usize, phase: u8) -> [u8; 12]

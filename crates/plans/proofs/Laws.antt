@@ -11,7 +11,7 @@ use borrow.Author.Tests.{eqb-true, eq-eqb}
 use lib.Bits.{bitOr, bitXor, and-le-l, and-le-r, or-add-and, xor-add-and, or-zero-l, xor-self}
 use lib.Dec.{eqb}
 use lib.ListN.{drop-of-length-le, length, getD, set, take, drop, replicate, length-append, length-take, length-drop, length-replicate, getD-replicate, List·getD-append, replicate-append-replicate}
-use lib.Seq.{getD-take, take-nil, set-at, append-snoc, take-suc, drop-cons, getD-drop, take-at, drop-at, getD-append-add, length-take-le, paste, paste-suc, take-paste, drop-paste, length-paste-head, length-paste, drop-drop, take-all}
+use lib.Seq.{getD-take, take-nil, set-at, append-snoc, take-suc, drop-cons, getD-drop, take-at, drop-at, getD-append-add, length-take-le, paste, paste-suc, take-paste, drop-paste, length-paste-head, length-paste, drop-drop}
 use Rattle.paper.specs.Next.{isPrefix}
 use Rattle.paper.proofs.Relation.{both, false≢true}
 use Rattle.meaning.specs.Card.{part}

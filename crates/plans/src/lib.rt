@@ -1,7 +1,7 @@
 // Plans, changed in place in their 1,024 bytes: the first len are the actions, and zeros stand after their end.
 ghost use mathlib.Core.Path.{_≡_};
 ghost use mathlib.Core.List.{_++_};
-ghost use Prim.Native.Nat.{ℕ, _+_, _-_, _≤_, _<_};
+ghost use Prim.Native.Nat.{_+_, _-_, _≤_, _<_};
 ghost use lib.Dec.{eqb};
 ghost use lib.ListN.{length, getD, take, drop, replicate};
 ghost use lib.Seq.{paste};

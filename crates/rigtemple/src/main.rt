@@ -2,9 +2,9 @@
 // a step.
 ghost use Prim.Native.Nat.{_≤_};
 use answers::refusal_number;
-use card::readers::number_at;
 use house::Ending;
 use house::Verdict;
+use layout::readers::number_at;
 use meaning::Answer;
 use meaning::Configuration;
 

@@ -1,11 +1,9 @@
 -- The atoms below a number, as bytes and as members.
-use mathlib.Core.Path.{_≡_, refl, ap, _∙_, sym}
-use mathlib.Core.List.{List, map}
-use Prim.Native.Nat.{ℕ, zero, suc, _+_, _-_, _*_, _≤_, _<_, min}
+use mathlib.Core.Path.{_≡_, refl, ap, _∙_}
+use Prim.Native.Nat.{ℕ, zero, suc, _-_, _*_, _≤_, _<_, min}
 use native.Mathlib.Nat.{zero-add}
 use native.Mathlib.Omega.{arith}
 use lib.ListN.{length, getD}
-use Rattle.house.specs.Order.{numbers}
 use Rattle.house.proofs.Numbers.{length-made, made-at}
 use Rattle.sets.specs.Sets.{lowBits, below}
 

@@ -1,3 +1,3 @@
 pub mod Loops
 pub mod Below
-pub mod Known
+pub mod KnownAtoms

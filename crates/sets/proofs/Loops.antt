@@ -1,8 +1,8 @@
 -- Laws of loops, each over any list or number: a loop that fills an array, and one that asks a question of every entry.
 use mathlib.Core.Path.{_≡_, refl, sym, ap, _∙_}
-use mathlib.Core.Bool.{Bool, true, false, _&&_}
-use mathlib.Core.List.{List, [], _∷_, _++_, append-nil}
-use Prim.Native.Nat.{ℕ, zero, suc, _+_, _-_, _≤_, _<_}
+use mathlib.Core.Bool.{Bool, true, _&&_, and-true, and-assoc}
+use mathlib.Core.List.{List, _++_, append-nil}
+use Prim.Native.Nat.{ℕ, suc, _+_, _-_, _≤_, _<_}
 use native.Mathlib.Nat.{sub-zero}
 use native.Mathlib.Numerals.{add-one}
 use native.Mathlib.Omega.{arith}
@@ -37,14 +37,6 @@ module _ {A : Type 0} (f : ℕ → A) (l : List A) (i : ℕ) (v z : A) where
 
 -- ---- a question asked of every element of a list: what was found of the first i, and what is left to ask
 
-and-assoc : (a b c : Bool) → (a && b) && c ≡ a && (b && c)
-and-assoc true b c = refl
-and-assoc false b c = refl
-
-pub and-true : (a : Bool) → a && true ≡ a
-and-true true = refl
-and-true false = refl
-
 module _ {A : Type 0} (t : A → Bool) (xs : List A) where
   abbrev pub Found : Bool → ℕ → Type 0
   Found ok i = ok && all t (drop i xs) ≡ all t xs
@@ -62,6 +54,14 @@ module _ {A : Type 0} (t : A → Bool) (xs : List A) where
 -- ---- the same, of every number below n
 
 module _ (t : ℕ → Bool) (n : ℕ) where
+  -- one turn: with what is found at i, what is left after i tells as much as what was left from i on
+  pub all-turn : (a b : Bool) (i : ℕ) → i < n → b ≡ t i → (a && b) && all t (numbers (i + 1) (n - (i + 1))) ≡ a && all t (numbers i (n - i))
+  unfolding numbers
+  all-turn a b i h e =
+      let k : n - i ≡ suc (n - (i + 1)) = omega arith in
+      let s : all t (numbers i (n - i)) ≡ t i && all t (numbers (i + 1) (n - (i + 1))) = rw (k, add-one i) in
+      and-assoc a b _ ∙ ap (λ x. a && x) (ap (λ x. x && all t (numbers (i + 1) (n - (i + 1)))) e ∙ sym s)
+
   abbrev pub Kept : Bool → ℕ → Type 0
   Kept ok i = ok && all t (numbers i (n - i)) ≡ every n t
 
@@ -69,11 +69,7 @@ module _ (t : ℕ → Bool) (n : ℕ) where
   kept-start = rw sub-zero
 
   pub kept-turn : (ok : Bool) (i : ℕ) → i < n → Kept ok i → Kept (ok && t i) (i + 1)
-  unfolding numbers
-  kept-turn ok i h e =
-      let k : n - i ≡ suc (n - (i + 1)) = omega arith in
-      let s : all t (numbers i (n - i)) ≡ t i && all t (numbers (i + 1) (n - (i + 1))) = rw (k, add-one i) in
-      and-assoc ok (t i) (all t (numbers (i + 1) (n - (i + 1)))) ∙ ap (λ b. ok && b) (sym s) ∙ e
+  kept-turn ok i h e = all-turn ok (t i) i h refl ∙ e
 
   pub kept-all : (ok : Bool) (i : ℕ) → n ≤ i → Kept ok i → ok ≡ every n t
   unfolding numbers

@@ -1,6 +1,6 @@
 -- Sets of 16 bytes: the atoms below a number, and the empty set.
 use mathlib.Core.Bool.{Bool}
-use mathlib.Core.List.{List, map}
+use mathlib.Core.List.{map}
 use Prim.Native.Nat.{ℕ, _-_, _*_, _^_, min}
 use lib.Dec.{eqb}
 use Rattle.paper.specs.Atoms.{Atoms}

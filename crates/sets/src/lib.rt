@@ -1,7 +1,9 @@
 // Sets of atoms, 16 bytes by value: "atom k is bit (k modulo 8) of byte (k divided by 8)" (document 01).
 ghost use mathlib.Core.Path.{_≡_};
+ghost use mathlib.Core.Bool.{_&&_};
 ghost use Rattle.paper.specs.Atoms.{_∈_, _∪_, _∖_};
-ghost use Prim.Native.Nat.{_-_};
+ghost use Prim.Native.Nat.{_-_, _≤_};
+ghost use Rattle.meaning.specs.Refusals.{setGood};
 ghost use Rattle.sets.specs.Sets.{lowBits, below, isEmpty};
 
 // Whether atom k is in s.
@@ -42,7 +44,7 @@ pub fn difference(a: [u8; 16], b: [u8; 16]) -> [u8; 16]
 }
 
 // Whether no atom is in s.
-pub fn is_empty(s: [u8; 16]) -> bool
+fn is_empty(s: [u8; 16]) -> bool
     ensures { λ r. ⌜ r ≡ isEmpty s ⌝ }
 {
     let mut empty = true;
@@ -82,7 +84,7 @@ fn past(n: usize, m: usize) -> usize
 }
 
 // The atoms below n.
-pub fn below_number(n: usize) -> [u8; 16]
+fn below_number(n: usize) -> [u8; 16]
     ensures { λ r. ⌜ r ≡ below n ⌝ }
 {
     let mut r = [0u8; 16];
@@ -94,9 +96,18 @@ pub fn below_number(n: usize) -> [u8; 16]
     r
 }
 
-// Whether every atom of s is among some.
-pub fn only(s: [u8; 16], among: [u8; 16]) -> bool
-    ensures { λ r. ⌜ r ≡ isEmpty (s ∖ among) ⌝ }
+// Whether s has only atoms below a number.
+pub fn known(s: [u8; 16], atoms: usize) -> bool
+    requires { ⌜ atoms ≤ 128 ⌝ }
+    ensures { λ r. ⌜ r ≡ setGood atoms s ⌝ }
 {
-    is_empty(difference(s, among))
+    is_empty(difference(s, below_number(atoms)))
+}
+
+// Whether a and b both have only atoms below a number.
+pub fn both_known(a: [u8; 16], b: [u8; 16], atoms: usize) -> bool
+    requires { ⌜ atoms ≤ 128 ⌝ }
+    ensures { λ r. ⌜ r ≡ (setGood atoms a && setGood atoms b) ⌝ }
+{
+    known(union(a, b), atoms)
 }

@@ -1,16 +1,9 @@
 use Rattle.meaning.specs.Refusals.{answerNumber}
-use mathlib.Core.Path.{_≡_, refl, sym, ap, _∙_}
-use mathlib.Core.List.{List, [], _∷_, _++_, append-nil, append-assoc}
-use Prim.Native.Nat.{ℕ, suc, _+_, _-_, _*_, _≤_, _<_}
-use native.Mathlib.Omega.{arith}
+use mathlib.Core.Path.{sym, ap, _∙_}
+use Prim.Native.Nat.{_-_}
 use borrow.Author.Needs.{needs}
-use denote.Ref.{now}
-use lib.ListN.{length, getD, set, take, drop, replicate}
 use Rattle.answers.proofs.answer_number.Statement.{statement}
 use Rattle.answers.proofs.answer_number.Tie as tie
-use Rattle.answers.proofs.answer_number.Reads as reads
-use Rattle.answers.proofs.answer_number.Lts as lts
-use Rattle.answers.proofs.refusal_number.Reads as refusal-number-reads
 
 -- src/lib.rt:39:25
 enum-told : tie.Need-enum-told

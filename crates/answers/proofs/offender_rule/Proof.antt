@@ -1,17 +1,10 @@
 use Rattle.house.specs.declared.Offender.{Offender}
 use mathlib.Core.Path.{subst}
 use Rattle.meaning.specs.Numbers.{offenderRule}
-use mathlib.Core.Path.{_≡_, refl, sym, ap, _∙_}
-use mathlib.Core.List.{List, [], _∷_, _++_, append-nil, append-assoc}
-use Prim.Native.Nat.{ℕ, suc, _+_, _-_, _*_, _≤_, _<_}
-use native.Mathlib.Omega.{arith}
+use Prim.Native.Nat.{_-_, _<_}
 use borrow.Author.Needs.{needs}
-use denote.Ref.{now}
-use lib.ListN.{length, getD, set, take, drop, replicate}
 use Rattle.answers.proofs.offender_rule.Statement.{statement}
 use Rattle.answers.proofs.offender_rule.Tie as tie
-use Rattle.answers.proofs.offender_rule.Reads as reads
-use Rattle.answers.proofs.offender_rule.Lts as lts
 
 -- src/lib.rt:96:34
 enum-told : tie.Need-enum-told

@@ -1,18 +1,11 @@
 use Rattle.house.specs.declared.Verdict.{Verdict}
 use mathlib.Core.Path.{subst}
 use Rattle.meaning.specs.Numbers.{verdictRule}
-use mathlib.Core.Path.{_≡_, refl, sym, ap, _∙_}
-use mathlib.Core.List.{List, [], _∷_, _++_, append-nil, append-assoc}
-use Prim.Native.Nat.{ℕ, suc, _+_, _-_, _*_, _≤_, _<_}
-use native.Mathlib.Omega.{arith}
+use mathlib.Core.Path.{sym, ap, _∙_}
+use Prim.Native.Nat.{_-_, _<_}
 use borrow.Author.Needs.{needs}
-use denote.Ref.{now}
-use lib.ListN.{length, getD, set, take, drop, replicate}
 use Rattle.answers.proofs.verdict_rule.Statement.{statement}
 use Rattle.answers.proofs.verdict_rule.Tie as tie
-use Rattle.answers.proofs.verdict_rule.Reads as reads
-use Rattle.answers.proofs.verdict_rule.Lts as lts
-use Rattle.answers.proofs.offender_rule.Reads as offender-rule-reads
 
 -- src/lib.rt:104:29
 enum-told : tie.Need-enum-told

@@ -1,18 +1,9 @@
 use Rattle.demands.specs.Demands.{checkedNumber}
-use Rattle.meaning.specs.Calls.{checks}
-use mathlib.Core.Path.{_≡_, refl, sym, ap, _∙_}
-use mathlib.Core.List.{List, [], _∷_, _++_, append-nil, append-assoc}
-use Prim.Native.Nat.{ℕ, suc, _+_, _-_, _*_, _≤_, _<_}
-use native.Mathlib.Omega.{arith}
+use mathlib.Core.Path.{sym, ap, _∙_}
+use Prim.Native.Nat.{_-_}
 use borrow.Author.Needs.{needs}
-use denote.Ref.{now}
-use lib.ListN.{length, getD, set, take, drop, replicate}
 use Rattle.board.proofs.rigtemple_check_parts.Statement.{statement}
 use Rattle.board.proofs.rigtemple_check_parts.Tie as tie
-use Rattle.board.proofs.rigtemple_check_parts.Reads as reads
-use Rattle.board.proofs.rigtemple_check_parts.Lts as lts
-use Rattle.answers.proofs.refusal_number.Reads as refusal-number-reads
-use Rattle.guide.proofs.check.Reads as check-reads
 
 -- src/lib.rt:60:9
 check-requires : tie.Need-check-requires

@@ -3,22 +3,12 @@ use mathlib.Core.Path.{subst}
 use Rattle.meaning.specs.Numbers.{verdictNumber, verdictOffender, verdictRule}
 use Rattle.meaning.specs.Refusals.{answerNumber}
 use Rattle.meaning.specs.declared.Graded.{Graded}
-use mathlib.Core.Path.{_≡_, refl, sym, ap, _∙_}
-use mathlib.Core.List.{List, [], _∷_, _++_, append-nil, append-assoc}
-use Prim.Native.Nat.{ℕ, suc, _+_, _-_, _*_, _≤_, _<_}
-use native.Mathlib.Omega.{arith}
+use mathlib.Core.Path.{sym, ap, _∙_}
+use Prim.Native.Nat.{_-_, _<_}
 use borrow.Author.Needs.{needs}
 use denote.Ref.{now}
-use lib.ListN.{length, getD, set, take, drop, replicate}
 use Rattle.board.proofs.rigtemple_grade_parts.Statement.{statement}
 use Rattle.board.proofs.rigtemple_grade_parts.Tie as tie
-use Rattle.board.proofs.rigtemple_grade_parts.Reads as reads
-use Rattle.board.proofs.rigtemple_grade_parts.Lts as lts
-use Rattle.answers.proofs.answer_number.Reads as answer-number-reads
-use Rattle.answers.proofs.verdict_number.Reads as verdict-number-reads
-use Rattle.answers.proofs.verdict_offender.Reads as verdict-offender-reads
-use Rattle.answers.proofs.verdict_rule.Reads as verdict-rule-reads
-use Rattle.guide.proofs.grade.Reads as grade-reads
 
 -- src/lib.rt:311:9
 grade-requires : tie.Need-grade-requires

@@ -1,18 +1,10 @@
 use Rattle.meaning.specs.Refusals.{answerNumber}
 use Rattle.meaning.specs.declared.Reply.{Reply}
-use mathlib.Core.Path.{_≡_, refl, sym, ap, _∙_}
-use mathlib.Core.List.{List, [], _∷_, _++_, append-nil, append-assoc}
-use Prim.Native.Nat.{ℕ, suc, _+_, _-_, _*_, _≤_, _<_}
-use native.Mathlib.Omega.{arith}
+use mathlib.Core.Path.{ap, _∙_}
+use Prim.Native.Nat.{_-_}
 use borrow.Author.Needs.{needs}
-use denote.Ref.{now}
-use lib.ListN.{length, getD, set, take, drop, replicate}
 use Rattle.board.proofs.rigtemple_load_parts.Statement.{statement}
 use Rattle.board.proofs.rigtemple_load_parts.Tie as tie
-use Rattle.board.proofs.rigtemple_load_parts.Reads as reads
-use Rattle.board.proofs.rigtemple_load_parts.Lts as lts
-use Rattle.answers.proofs.answer_number.Reads as answer-number-reads
-use Rattle.guide.proofs.load.Reads as load-reads
 
 -- src/lib.rt:79:9
 load-requires : tie.Need-load-requires

@@ -1,37 +1,23 @@
 use mathlib.Core.Path.{subst}
 use mathlib.Core.Logic.{⊎-elim}
 use Rattle.card.specs.Stair.{answerOf}
-use Rattle.guide.proofs.Laws.{card-first, card-first-of-place}
-use Rattle.meaning.proofs.Calls.{saves-refused, restores-refused}
-use Rattle.meaning.proofs.Calls.{good-judged, refused-judged, lists-refused, takes-refused, runs-refused}
+use Rattle.guide.proofs.Laws.{card-first}
+use Rattle.meaning.proofs.Calls.{good-judged, refused-judged, takes-refused}
 use Rattle.meaning.specs.Refusals.{answerNumber}
-use Rattle.meaning.specs.Numbers.{endingNumber}
-use Rattle.meaning.specs.Calls.{reply, written, lists, listLeaves, takes, runs, saves, saveLeaves, restores}
+use Rattle.meaning.specs.Calls.{takes}
 use Rattle.meaning.specs.declared.Configuration.{Configuration}
 use Rattle.meaning.specs.declared.Reply.{Reply}
-use Rattle.meaning.specs.declared.Ran.{Ran}
-use Rattle.meaning.specs.declared.Written.{Written}
-use Rattle.moves.specs.declared.mind.Mind.{Mind}
-use Rattle.moves.specs.Minds.{configurationIn, endedIn}
+use Rattle.choices.specs.declared.mind.Mind.{Mind}
 use Rattle.board.specs.Parts.{whole}
 use Rattle.board.proofs.Parts.{in-parts}
-use mathlib.Core.Path.{_≡_, refl, sym, ap, _∙_}
-use mathlib.Core.List.{List, [], _∷_, _++_, append-nil, append-assoc}
-use Prim.Native.Nat.{ℕ, suc, _+_, _-_, _*_, _≤_, _<_}
+use mathlib.Core.Path.{sym, ap, _∙_}
+use Prim.Native.Nat.{_≤_}
 use native.Mathlib.Omega.{arith}
 use borrow.Author.Needs.{needs}
 use denote.Ref.{now}
-use lib.ListN.{length, getD, set, take, drop, replicate}
+use lib.ListN.{length, take}
 use Rattle.board.proofs.rigtemple_take_parts.Statement.{statement}
 use Rattle.board.proofs.rigtemple_take_parts.Tie as tie
-use Rattle.board.proofs.rigtemple_take_parts.Reads as reads
-use Rattle.board.proofs.rigtemple_take_parts.Lts as lts
-use Rattle.answers.proofs.answer_number.Reads as answer-number-reads
-use Rattle.board.proofs.mind.Reads as mind-reads
-use Rattle.board.proofs.put.Reads as put-reads
-use Rattle.card.proofs.check.check.Reads as check-reads
-use Rattle.card.proofs.load.answer_of.Reads as answer-of-reads
-use Rattle.moves.proofs.take.take.Reads as take-reads
 
 -- src/lib.rt:101:9
 check-requires : tie.Need-check-requires

@@ -1,17 +1,9 @@
-use mathlib.Core.Path.{_≡_, refl, sym, ap, _∙_}
-use mathlib.Core.List.{List, [], _∷_, _++_, append-nil, append-assoc}
-use Prim.Native.Nat.{ℕ, suc, _+_, _-_, _*_, _≤_, _<_}
-use native.Mathlib.Omega.{arith}
+use mathlib.Core.Path.{_≡_}
+use Prim.Native.Nat.{_-_, _≤_}
 use borrow.Author.Needs.{needs}
-use denote.Ref.{now}
-use lib.ListN.{length, getD, set, take, drop, replicate}
+use lib.ListN.{length}
 use Rattle.drill.proofs.entries.Statement.{statement}
 use Rattle.drill.proofs.entries.Tie as tie
-use Rattle.drill.proofs.entries.Reads as reads
-use Rattle.drill.proofs.entries.Lts as lts
-use Rattle.drill.proofs.high.Reads as high-reads
-use Rattle.drill.proofs.lent_bytes.Reads as lent-bytes-reads
-use Rattle.drill.proofs.low.Reads as low-reads
 
 abbrev Inv-loop : tie.InvT-loop
 Inv-loop list bytes₀ i₀ bytes i = (i ≤ length list) × (length bytes ≡ 2048)

@@ -2,24 +2,12 @@ use Rattle.answers.proofs.Laws.{grades-narrow}
 use mathlib.Core.Path.{subst}
 use Rattle.meaning.specs.Numbers.{verdictRule}
 use Rattle.meaning.specs.declared.Graded.{Graded}
-use mathlib.Core.Path.{_≡_, refl, sym, ap, _∙_}
-use mathlib.Core.List.{List, [], _∷_, _++_, append-nil, append-assoc}
-use Prim.Native.Nat.{ℕ, suc, _+_, _-_, _*_, _≤_, _<_}
-use native.Mathlib.Omega.{arith}
+use mathlib.Core.Path.{sym}
+use Prim.Native.Nat.{_-_, _<_}
 use borrow.Author.Needs.{needs}
 use denote.Ref.{now}
-use lib.ListN.{length, getD, set, take, drop, replicate}
 use Rattle.drill.proofs.grade.Statement.{statement}
 use Rattle.drill.proofs.grade.Tie as tie
-use Rattle.drill.proofs.grade.Reads as reads
-use Rattle.drill.proofs.grade.Lts as lts
-use Rattle.answers.proofs.answer_number.Reads as answer-number-reads
-use Rattle.answers.proofs.verdict_number.Reads as verdict-number-reads
-use Rattle.answers.proofs.verdict_offender.Reads as verdict-offender-reads
-use Rattle.answers.proofs.verdict_rule.Reads as verdict-rule-reads
-use Rattle.drill.proofs.tell.Reads as tell-reads
-use Rattle.drill.proofs.tell_verdict.Reads as tell-verdict-reads
-use Rattle.guide.proofs.grade.Reads as grade-reads
 
 -- src/main.rt:182:9
 grade-requires : tie.Need-grade-requires

@@ -1,14 +1,7 @@
-use mathlib.Core.Path.{_≡_, refl, sym, ap, _∙_}
-use mathlib.Core.List.{List, [], _∷_, _++_, append-nil, append-assoc}
-use Prim.Native.Nat.{ℕ, suc, _+_, _-_, _*_, _≤_, _<_}
-use native.Mathlib.Omega.{arith}
+use Prim.Native.Nat.{_-_, _≤_}
 use borrow.Author.Needs.{needs}
-use denote.Ref.{now}
-use lib.ListN.{length, getD, set, take, drop, replicate}
 use Rattle.drill.proofs.least.Statement.{statement}
 use Rattle.drill.proofs.least.Tie as tie
-use Rattle.drill.proofs.least.Reads as reads
-use Rattle.drill.proofs.least.Lts as lts
 
 abbrev Inv-loop : tie.InvT-loop
 Inv-loop plan m₀ m = m ≤ 1024

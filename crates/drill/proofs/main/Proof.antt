@@ -1,16 +1,9 @@
-use mathlib.Core.Path.{_≡_, refl, sym, ap, _∙_}
-use mathlib.Core.List.{List, [], _∷_, _++_, append-nil, append-assoc}
-use Prim.Native.Nat.{ℕ, suc, _+_, _-_, _*_, _≤_, _<_}
-use native.Mathlib.Omega.{arith}
+use mathlib.Core.Path.{_≡_}
+use Prim.Native.Nat.{_-_, _≤_}
 use borrow.Author.Needs.{needs}
-use denote.Ref.{now}
-use lib.ListN.{length, getD, set, take, drop, replicate}
+use lib.ListN.{length}
 use Rattle.drill.proofs.main.Statement.{statement}
 use Rattle.drill.proofs.main.Tie as tie
-use Rattle.drill.proofs.main.Reads as reads
-use Rattle.drill.proofs.main.Lts as lts
-use Rattle.drill.proofs.room.Reads as room-reads
-use Rattle.drill.proofs.turn.Reads as turn-reads
 
 abbrev Inv-loop : tie.InvT-loop
 Inv-loop card₀ n₀ turns₀ card n turns = (turns ≤ 18446744073709551615) × (length card ≡ 65535)

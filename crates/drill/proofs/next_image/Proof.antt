@@ -1,20 +1,11 @@
 use lib.Seq.{length-take-le}
-use mathlib.Core.Path.{_≡_, refl, sym, ap, _∙_}
-use mathlib.Core.List.{List, [], _∷_, _++_, append-nil, append-assoc}
-use Prim.Native.Nat.{ℕ, suc, _+_, _-_, _*_, _≤_, _<_}
+use mathlib.Core.Path.{sym}
+use Prim.Native.Nat.{_≤_}
 use native.Mathlib.Omega.{arith}
 use borrow.Author.Needs.{needs}
-use denote.Ref.{now}
-use lib.ListN.{length, getD, set, take, drop, replicate}
+use lib.ListN.{length}
 use Rattle.drill.proofs.next_image.Statement.{statement}
 use Rattle.drill.proofs.next_image.Tie as tie
-use Rattle.drill.proofs.next_image.Reads as reads
-use Rattle.drill.proofs.next_image.Lts as lts
-use Rattle.card.proofs.readers.set_at.Reads as set-at-reads
-use Rattle.drill.proofs.fill.Reads as fill-reads
-use Rattle.drill.proofs.joined.Reads as joined-reads
-use Rattle.drill.proofs.no_plan.Reads as no-plan-reads
-use Rattle.io.proofs.read_full.Reads as read-full-reads
 
 -- src/ask.rt:64:20
 no-plan-requires : tie.Need-no-plan-requires

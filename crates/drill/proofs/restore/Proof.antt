@@ -1,18 +1,11 @@
 use lib.Seq.{length-take-le}
-use mathlib.Core.Path.{_≡_, refl, sym, ap, _∙_}
-use mathlib.Core.List.{List, [], _∷_, _++_, append-nil, append-assoc}
-use Prim.Native.Nat.{ℕ, suc, _+_, _-_, _*_, _≤_, _<_}
+use mathlib.Core.Path.{sym}
+use Prim.Native.Nat.{_-_, _≤_}
 use native.Mathlib.Omega.{arith}
 use borrow.Author.Needs.{needs}
-use denote.Ref.{now}
-use lib.ListN.{length, getD, set, take, drop, replicate}
+use lib.ListN.{length}
 use Rattle.drill.proofs.restore.Statement.{statement}
 use Rattle.drill.proofs.restore.Tie as tie
-use Rattle.drill.proofs.restore.Reads as reads
-use Rattle.drill.proofs.restore.Lts as lts
-use Rattle.drill.proofs.next_number.Reads as next-number-reads
-use Rattle.drill.proofs.restore_from.Reads as restore-from-reads
-use Rattle.io.proofs.buffer.Reads as buffer-reads
 
 -- src/calls.rt:182:9
 next-number-requires : tie.Need-next-number-requires

@@ -1,19 +1,11 @@
 use lib.Seq.{length-take-le}
-use mathlib.Core.Path.{_≡_, refl, sym, ap, _∙_}
-use mathlib.Core.List.{List, [], _∷_, _++_, append-nil, append-assoc}
-use Prim.Native.Nat.{ℕ, suc, _+_, _-_, _*_, _≤_, _<_}
+use mathlib.Core.Path.{sym}
+use Prim.Native.Nat.{_-_, _≤_}
 use native.Mathlib.Omega.{arith}
 use borrow.Author.Needs.{needs}
-use denote.Ref.{now}
-use lib.ListN.{length, getD, set, take, drop, replicate}
+use lib.ListN.{length}
 use Rattle.drill.proofs.save.Statement.{statement}
 use Rattle.drill.proofs.save.Tie as tie
-use Rattle.drill.proofs.save.Reads as reads
-use Rattle.drill.proofs.save.Lts as lts
-use Rattle.drill.proofs.next_image.Reads as next-image-reads
-use Rattle.drill.proofs.next_number.Reads as next-number-reads
-use Rattle.drill.proofs.lent_bytes.Reads as lent-bytes-reads
-use Rattle.drill.proofs.save_into.Reads as save-into-reads
 
 -- src/calls.rt:150:9
 next-image-requires : tie.Need-next-image-requires

@@ -1,17 +1,12 @@
 use lib.Seq.{length-take-le}
-use mathlib.Core.Path.{_≡_, refl, sym, ap, _∙_}
-use mathlib.Core.List.{List, [], _∷_, _++_, append-nil, append-assoc}
-use Prim.Native.Nat.{ℕ, suc, _+_, _-_, _*_, _≤_, _<_}
+use mathlib.Core.Path.{sym}
+use Prim.Native.Nat.{_-_, _≤_}
 use native.Mathlib.Omega.{arith}
 use borrow.Author.Needs.{needs}
 use denote.Ref.{now}
-use lib.ListN.{length, getD, set, take, drop, replicate}
+use lib.ListN.{length}
 use Rattle.drill.proofs.take_card.Statement.{statement}
 use Rattle.drill.proofs.take_card.Tie as tie
-use Rattle.drill.proofs.take_card.Reads as reads
-use Rattle.drill.proofs.take_card.Lts as lts
-use Rattle.drill.proofs.fill.Reads as fill-reads
-use Rattle.drill.proofs.next_number.Reads as next-number-reads
 
 -- src/main.rt:17:9
 next-number-requires : tie.Need-next-number-requires

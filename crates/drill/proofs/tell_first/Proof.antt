@@ -1,16 +1,12 @@
 use lib.Seq.{length-take-le}
-use mathlib.Core.Path.{_≡_, refl, sym, ap, _∙_}
-use mathlib.Core.List.{List, [], _∷_, _++_, append-nil, append-assoc}
-use Prim.Native.Nat.{ℕ, suc, _+_, _-_, _*_, _≤_, _<_}
+use mathlib.Core.Path.{sym}
+use Prim.Native.Nat.{_-_, _≤_}
 use native.Mathlib.Omega.{arith}
 use borrow.Author.Needs.{needs}
 use denote.Ref.{now}
-use lib.ListN.{length, getD, set, take, drop, replicate}
+use lib.ListN.{length}
 use Rattle.drill.proofs.tell_first.Statement.{statement}
 use Rattle.drill.proofs.tell_first.Tie as tie
-use Rattle.drill.proofs.tell_first.Reads as reads
-use Rattle.drill.proofs.tell_first.Lts as lts
-use Rattle.io.proofs.write_all.Reads as write-all-reads
 
 -- src/main.rt:136:26
 slice-aggregate-write-all : tie.Need-slice-aggregate-write-all

@@ -1,18 +1,12 @@
 use lib.Seq.{length-take-le}
-use mathlib.Core.Path.{_≡_, refl, sym, ap, _∙_}
-use mathlib.Core.List.{List, [], _∷_, _++_, append-nil, append-assoc}
-use Prim.Native.Nat.{ℕ, suc, _+_, _-_, _*_, _≤_, _<_}
+use mathlib.Core.Path.{sym}
+use Prim.Native.Nat.{_-_, _≤_}
 use native.Mathlib.Omega.{arith}
 use borrow.Author.Needs.{needs}
 use denote.Ref.{now}
-use lib.ListN.{length, getD, set, take, drop, replicate}
+use lib.ListN.{length}
 use Rattle.drill.proofs.turn.Statement.{statement}
 use Rattle.drill.proofs.turn.Tie as tie
-use Rattle.drill.proofs.turn.Reads as reads
-use Rattle.drill.proofs.turn.Lts as lts
-use Rattle.drill.proofs.answer.Reads as answer-reads
-use Rattle.drill.proofs.next_byte.Reads as next-byte-reads
-use Rattle.drill.proofs.take_card.Reads as take-card-reads
 
 -- src/main.rt:47:9
 next-byte-requires : tie.Need-next-byte-requires

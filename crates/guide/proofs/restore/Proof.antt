@@ -3,22 +3,11 @@ use Rattle.meaning.proofs.Calls.{restores-refused}
 use Rattle.meaning.proofs.Calls.{good-judged, refused-judged}
 use Rattle.card.specs.Stair.{answerOf}
 use Rattle.meaning.specs.Calls.{reply}
-use mathlib.Core.Path.{_≡_, refl, sym, ap, _∙_}
-use mathlib.Core.List.{List, [], _∷_, _++_, append-nil, append-assoc}
-use Prim.Native.Nat.{ℕ, suc, _+_, _-_, _*_, _≤_, _<_}
-use native.Mathlib.Omega.{arith}
+use mathlib.Core.Path.{sym, ap, _∙_}
 use borrow.Author.Needs.{needs}
 use denote.Ref.{now}
-use lib.ListN.{length, getD, set, take, drop, replicate}
 use Rattle.guide.proofs.restore.Statement.{statement}
 use Rattle.guide.proofs.restore.Tie as tie
-use Rattle.guide.proofs.restore.Reads as reads
-use Rattle.guide.proofs.restore.Lts as lts
-use Rattle.card.proofs.check.check.Reads as check-reads
-use Rattle.card.proofs.load.answer_of.Reads as answer-of-reads
-use Rattle.card.proofs.load.empty_configuration.Reads as empty-configuration-reads
-use Rattle.guide.proofs.whole.Reads as whole-reads
-use Rattle.place.proofs.restore.restore.Reads as restore-reads
 
 -- src/lib.rt:155:9
 check-requires : tie.Need-check-requires

@@ -3,24 +3,14 @@ use Rattle.guide.proofs.Laws.{card-first}
 use Rattle.meaning.proofs.Calls.{saves-refused}
 use Rattle.card.specs.Stair.{answerOf}
 use Rattle.meaning.specs.Calls.{written, saves, saveLeaves}
-use Rattle.moves.specs.declared.mind.Mind.{Mind}
-use Rattle.moves.specs.Minds.{configurationIn}
+use Rattle.choices.specs.declared.mind.Mind.{Mind}
+use Rattle.choices.specs.Minds.{configurationIn}
 use mathlib.Core.Path.{subst}
-use mathlib.Core.Path.{_≡_, refl, sym, ap, _∙_}
-use mathlib.Core.List.{List, [], _∷_, _++_, append-nil, append-assoc}
-use Prim.Native.Nat.{ℕ, suc, _+_, _-_, _*_, _≤_, _<_}
-use native.Mathlib.Omega.{arith}
+use mathlib.Core.Path.{_≡_, sym, ap, _∙_}
 use borrow.Author.Needs.{needs}
 use denote.Ref.{now}
-use lib.ListN.{length, getD, set, take, drop, replicate}
 use Rattle.guide.proofs.save.Statement.{statement}
 use Rattle.guide.proofs.save.Tie as tie
-use Rattle.guide.proofs.save.Reads as reads
-use Rattle.guide.proofs.save.Lts as lts
-use Rattle.card.proofs.check.check.Reads as check-reads
-use Rattle.card.proofs.load.answer_of.Reads as answer-of-reads
-use Rattle.moves.proofs.configuration.mind_of.Reads as mind-of-reads
-use Rattle.place.proofs.save.save.Reads as save-reads
 
 -- src/lib.rt:133:9
 check-requires : tie.Need-check-requires

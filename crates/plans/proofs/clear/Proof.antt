@@ -2,17 +2,15 @@ use lib.ListN.{length-replicate}
 use lib.Seq.{take-all}
 use lib.Seq.{paste, paste-zero}
 use Rattle.plans.proofs.Laws.{clear-more}
-use mathlib.Core.Path.{_≡_, refl, sym, ap, _∙_}
-use mathlib.Core.List.{List, [], _∷_, _++_, append-nil, append-assoc}
-use Prim.Native.Nat.{ℕ, suc, _+_, _-_, _*_, _≤_, _<_}
+use mathlib.Core.Path.{_≡_, ap, _∙_}
+use mathlib.Core.List.{List}
+use Prim.Native.Nat.{ℕ, _+_, _-_, _≤_}
 use native.Mathlib.Omega.{arith}
 use borrow.Author.Needs.{needs}
 use denote.Ref.{now}
-use lib.ListN.{length, getD, set, take, drop, replicate}
+use lib.ListN.{length, set, replicate}
 use Rattle.plans.proofs.clear.Statement.{statement}
 use Rattle.plans.proofs.clear.Tie as tie
-use Rattle.plans.proofs.clear.Reads as reads
-use Rattle.plans.proofs.clear.Lts as lts
 
 abbrev Inv-loop : tie.InvT-loop
 Inv-loop s₀ from to i₀ s i = (from ≤ i) × (i ≤ to) × (s ≡ paste s₀ from (replicate (to - from) 0) (i - from))

@@ -1,16 +1,14 @@
 use lib.Seq.{paste, paste-zero}
 use Rattle.plans.proofs.Laws.{down-more}
-use mathlib.Core.Path.{_≡_, refl, sym, ap, _∙_}
-use mathlib.Core.List.{List, [], _∷_, _++_, append-nil, append-assoc}
-use Prim.Native.Nat.{ℕ, suc, _+_, _-_, _*_, _≤_, _<_}
+use mathlib.Core.Path.{_≡_, ap, _∙_}
+use mathlib.Core.List.{List}
+use Prim.Native.Nat.{ℕ, _+_, _-_, _≤_}
 use native.Mathlib.Omega.{arith}
 use borrow.Author.Needs.{needs}
 use denote.Ref.{now}
-use lib.ListN.{length, getD, set, take, drop, replicate}
+use lib.ListN.{length, getD, set, drop}
 use Rattle.plans.proofs.down.Statement.{statement}
 use Rattle.plans.proofs.down.Tie as tie
-use Rattle.plans.proofs.down.Reads as reads
-use Rattle.plans.proofs.down.Lts as lts
 
 abbrev Inv-loop : tie.InvT-loop
 Inv-loop s₀ to from n i₀ s i = (i ≤ n) × (s ≡ paste s₀ to (drop from s₀) i)

@@ -1,16 +1,10 @@
 use Rattle.plans.proofs.Laws.{dropped}
-use mathlib.Core.Path.{_≡_, refl, sym, ap, _∙_}
-use mathlib.Core.List.{List, [], _∷_, _++_, append-nil, append-assoc}
-use Prim.Native.Nat.{ℕ, suc, _+_, _-_, _*_, _≤_, _<_}
-use native.Mathlib.Omega.{arith}
+use mathlib.Core.Path.{_∙_}
+use Prim.Native.Nat.{_-_}
 use borrow.Author.Needs.{needs}
 use denote.Ref.{now}
-use lib.ListN.{length, getD, set, take, drop, replicate}
 use Rattle.plans.proofs.drop_front.Statement.{statement}
 use Rattle.plans.proofs.drop_front.Tie as tie
-use Rattle.plans.proofs.drop_front.Reads as reads
-use Rattle.plans.proofs.drop_front.Lts as lts
-use Rattle.plans.proofs.shift.Reads as shift-reads
 
 -- src/lib.rt:76:5
 shift-requires : tie.Need-shift-requires

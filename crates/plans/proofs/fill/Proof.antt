@@ -1,17 +1,11 @@
 use Rattle.plans.proofs.Laws.{length-put, filled}
-use mathlib.Core.Path.{_≡_, refl, sym, ap, _∙_}
-use mathlib.Core.List.{List, [], _∷_, _++_, append-nil, append-assoc}
-use Prim.Native.Nat.{ℕ, suc, _+_, _-_, _*_, _≤_, _<_}
+use mathlib.Core.Path.{_∙_}
+use Prim.Native.Nat.{_-_}
 use native.Mathlib.Omega.{arith}
 use borrow.Author.Needs.{needs}
 use denote.Ref.{now}
-use lib.ListN.{length, getD, set, take, drop, replicate}
 use Rattle.plans.proofs.fill.Statement.{statement}
 use Rattle.plans.proofs.fill.Tie as tie
-use Rattle.plans.proofs.fill.Reads as reads
-use Rattle.plans.proofs.fill.Lts as lts
-use Rattle.plans.proofs.clear.Reads as clear-reads
-use Rattle.plans.proofs.put.Reads as put-reads
 
 -- src/lib.rt:102:5
 put-requires : tie.Need-put-requires

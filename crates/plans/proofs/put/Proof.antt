@@ -1,17 +1,14 @@
-use native.Mathlib.Nat.{zero-add}
 use lib.Seq.{paste, paste-zero}
 use Rattle.plans.proofs.Laws.{copy-more}
-use mathlib.Core.Path.{_≡_, refl, sym, ap, _∙_}
-use mathlib.Core.List.{List, [], _∷_, _++_, append-nil, append-assoc}
-use Prim.Native.Nat.{ℕ, suc, _+_, _-_, _*_, _≤_, _<_}
+use mathlib.Core.Path.{_≡_, ap, _∙_}
+use mathlib.Core.List.{List}
+use Prim.Native.Nat.{ℕ, _+_, _-_, _≤_}
 use native.Mathlib.Omega.{arith}
 use borrow.Author.Needs.{needs}
 use denote.Ref.{now}
-use lib.ListN.{length, getD, set, take, drop, replicate}
+use lib.ListN.{length, getD, set, drop}
 use Rattle.plans.proofs.put.Statement.{statement}
 use Rattle.plans.proofs.put.Tie as tie
-use Rattle.plans.proofs.put.Reads as reads
-use Rattle.plans.proofs.put.Lts as lts
 
 abbrev Inv-loop : tie.InvT-loop
 Inv-loop s₀ card start n i₀ s i = (i ≤ n) × (s ≡ paste s₀ 0 (drop start card) i)

@@ -1,18 +1,12 @@
 use Rattle.plans.proofs.Laws.{length-shifted}
 use Rattle.plans.proofs.Laws.{replaced}
-use mathlib.Core.Path.{_≡_, refl, sym, ap, _∙_}
-use mathlib.Core.List.{List, [], _∷_, _++_, append-nil, append-assoc}
-use Prim.Native.Nat.{ℕ, suc, _+_, _-_, _*_, _≤_, _<_}
+use mathlib.Core.Path.{_∙_}
+use Prim.Native.Nat.{_-_}
 use native.Mathlib.Omega.{arith}
 use borrow.Author.Needs.{needs}
 use denote.Ref.{now}
-use lib.ListN.{length, getD, set, take, drop, replicate}
 use Rattle.plans.proofs.replace_front.Statement.{statement}
 use Rattle.plans.proofs.replace_front.Tie as tie
-use Rattle.plans.proofs.replace_front.Reads as reads
-use Rattle.plans.proofs.replace_front.Lts as lts
-use Rattle.plans.proofs.put.Reads as put-reads
-use Rattle.plans.proofs.shift.Reads as shift-reads
 
 -- src/lib.rt:84:5
 shift-requires : tie.Need-shift-requires

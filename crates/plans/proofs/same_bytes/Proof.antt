@@ -2,17 +2,13 @@ use Rattle.plans.proofs.Laws.{differing-more}
 use Rattle.sets.proofs.Loops.{Kept, kept-start, kept-turn, kept-all}
 use lib.Dec.{eqb}
 use mathlib.Core.Bool.{Bool, _&&_}
-use mathlib.Core.Path.{_≡_, refl, sym, ap, _∙_}
-use mathlib.Core.List.{List, [], _∷_, _++_, append-nil, append-assoc}
-use Prim.Native.Nat.{ℕ, suc, _+_, _-_, _*_, _≤_, _<_}
+use Prim.Native.Nat.{ℕ, _+_, _-_, _≤_}
 use native.Mathlib.Omega.{arith}
 use borrow.Author.Needs.{needs}
 use denote.Ref.{now}
-use lib.ListN.{length, getD, set, take, drop, replicate}
+use lib.ListN.{getD}
 use Rattle.plans.proofs.same_bytes.Statement.{statement}
 use Rattle.plans.proofs.same_bytes.Tie as tie
-use Rattle.plans.proofs.same_bytes.Reads as reads
-use Rattle.plans.proofs.same_bytes.Lts as lts
 
 abbrev Inv-loop : tie.InvT-loop
 Inv-loop card at plan from n differing₀ i₀ differing i = (i ≤ n) × Kept (λ j. eqb (getD card (at + j) 0) (getD plan (from + j) 0)) n (eqb differing 0) i

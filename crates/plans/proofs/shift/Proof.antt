@@ -1,19 +1,12 @@
 use Rattle.plans.proofs.Laws.{length-zeroed, length-shift}
 use Rattle.plans.proofs.Laws.{shifted-up, shifted-down}
-use mathlib.Core.Path.{_≡_, refl, sym, ap, _∙_}
-use mathlib.Core.List.{List, [], _∷_, _++_, append-nil, append-assoc}
-use Prim.Native.Nat.{ℕ, suc, _+_, _-_, _*_, _≤_, _<_}
+use mathlib.Core.Path.{_∙_}
+use Prim.Native.Nat.{_-_}
 use native.Mathlib.Omega.{arith}
 use borrow.Author.Needs.{needs}
 use denote.Ref.{now}
-use lib.ListN.{length, getD, set, take, drop, replicate}
 use Rattle.plans.proofs.shift.Statement.{statement}
 use Rattle.plans.proofs.shift.Tie as tie
-use Rattle.plans.proofs.shift.Reads as reads
-use Rattle.plans.proofs.shift.Lts as lts
-use Rattle.plans.proofs.clear.Reads as clear-reads
-use Rattle.plans.proofs.down.Reads as down-reads
-use Rattle.plans.proofs.up.Reads as up-reads
 
 -- src/lib.rt:62:16
 sub-tail : tie.Need-sub-tail

@@ -5,17 +5,13 @@ use Rattle.meaning.specs.Card.{part}
 use borrow.Author.Tests.{ne-eqb, not-true, not-false}
 use lib.Seq.{getD-take, length-take-le}
 use mathlib.Core.Path.{_≡_, refl, sym, ap, _∙_}
-use mathlib.Core.List.{List, [], _∷_, _++_, append-nil, append-assoc}
-use Prim.Native.Nat.{ℕ, suc, _+_, _-_, _*_, _≤_, _<_}
+use Prim.Native.Nat.{_+_, _-_, _≤_}
 use native.Mathlib.Omega.{arith}
 use borrow.Author.Needs.{needs}
 use denote.Ref.{now}
-use lib.ListN.{length, getD, set, take, drop, replicate}
+use lib.ListN.{length, getD, take}
 use Rattle.plans.proofs.starts_with.Statement.{statement}
 use Rattle.plans.proofs.starts_with.Tie as tie
-use Rattle.plans.proofs.starts_with.Reads as reads
-use Rattle.plans.proofs.starts_with.Lts as lts
-use Rattle.plans.proofs.same_bytes.Reads as same-bytes-reads
 
 abbrev Inv-loop : tie.InvT-loop
 Inv-loop card hstart hlen plan len last i₀ i = (i ≤ hlen) × Agree card plan hstart i

@@ -2,17 +2,15 @@ use native.Mathlib.Nat.{add-zero, sub-zero}
 use lib.Seq.{paste-zero}
 use lib.Seq.{paste}
 use Rattle.plans.proofs.Laws.{up-more}
-use mathlib.Core.Path.{_≡_, refl, sym, ap, _∙_}
-use mathlib.Core.List.{List, [], _∷_, _++_, append-nil, append-assoc}
-use Prim.Native.Nat.{ℕ, suc, _+_, _-_, _*_, _≤_, _<_}
+use mathlib.Core.Path.{_≡_, refl, ap, _∙_}
+use mathlib.Core.List.{List}
+use Prim.Native.Nat.{ℕ, _+_, _-_, _≤_}
 use native.Mathlib.Omega.{arith}
 use borrow.Author.Needs.{needs}
 use denote.Ref.{now}
-use lib.ListN.{length, getD, set, take, drop, replicate}
+use lib.ListN.{length, getD, set, drop}
 use Rattle.plans.proofs.up.Statement.{statement}
 use Rattle.plans.proofs.up.Tie as tie
-use Rattle.plans.proofs.up.Reads as reads
-use Rattle.plans.proofs.up.Lts as lts
 
 abbrev Inv-loop : tie.InvT-loop
 Inv-loop s₀ to from n i₀ s i = (i ≤ n) × (s ≡ paste s₀ (to + i) (drop (from + i) s₀) (n - i))

@@ -1,15 +1,7 @@
-use mathlib.Core.Path.{_≡_, refl, sym, ap, _∙_}
-use mathlib.Core.List.{List, [], _∷_, _++_, append-nil, append-assoc}
-use Prim.Native.Nat.{ℕ, suc, _+_, _-_, _*_, _≤_, _<_}
-use native.Mathlib.Omega.{arith}
+use Prim.Native.Nat.{_-_, _≤_}
 use borrow.Author.Needs.{needs}
-use denote.Ref.{now}
-use lib.ListN.{length, getD, set, take, drop, replicate}
 use Rattle.rigtemple.proofs.lowest.Statement.{statement}
 use Rattle.rigtemple.proofs.lowest.Tie as tie
-use Rattle.rigtemple.proofs.lowest.Reads as reads
-use Rattle.rigtemple.proofs.lowest.Lts as lts
-use Rattle.guide.proofs.list.Reads as list-reads
 
 abbrev Inv-loop : tie.InvT-loop
 Inv-loop card kind codes n i₀ i = i ≤ 768

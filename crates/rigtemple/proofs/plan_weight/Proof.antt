@@ -1,15 +1,7 @@
-use mathlib.Core.Path.{_≡_, refl, sym, ap, _∙_}
-use mathlib.Core.List.{List, [], _∷_, _++_, append-nil, append-assoc}
-use Prim.Native.Nat.{ℕ, suc, _+_, _-_, _*_, _≤_, _<_}
-use native.Mathlib.Omega.{arith}
+use Prim.Native.Nat.{_-_, _*_, _≤_}
 use borrow.Author.Needs.{needs}
-use denote.Ref.{now}
-use lib.ListN.{length, getD, set, take, drop, replicate}
 use Rattle.rigtemple.proofs.plan_weight.Statement.{statement}
 use Rattle.rigtemple.proofs.plan_weight.Tie as tie
-use Rattle.rigtemple.proofs.plan_weight.Reads as reads
-use Rattle.rigtemple.proofs.plan_weight.Lts as lts
-use Rattle.rigtemple.proofs.weight.Reads as weight-reads
 
 abbrev Inv-loop : tie.InvT-loop
 Inv-loop card plan n total₀ i₀ total i = (i ≤ 1024) × (total ≤ 65535 * i)

@@ -1,19 +1,7 @@
-use mathlib.Core.Path.{_≡_, refl, sym, ap, _∙_}
-use mathlib.Core.List.{List, [], _∷_, _++_, append-nil, append-assoc}
-use Prim.Native.Nat.{ℕ, suc, _+_, _-_, _*_, _≤_, _<_}
-use native.Mathlib.Omega.{arith}
+use Prim.Native.Nat.{_-_, _≤_}
 use borrow.Author.Needs.{needs}
-use denote.Ref.{now}
-use lib.ListN.{length, getD, set, take, drop, replicate}
 use Rattle.rigtemple.proofs.steps.Statement.{statement}
 use Rattle.rigtemple.proofs.steps.Tie as tie
-use Rattle.rigtemple.proofs.steps.Reads as reads
-use Rattle.rigtemple.proofs.steps.Lts as lts
-use Rattle.guide.proofs.run.Reads as run-reads
-use Rattle.rigtemple.proofs.last_line.Reads as last-line-reads
-use Rattle.rigtemple.proofs.lowest.Reads as lowest-reads
-use Rattle.rigtemple.proofs.plan_weight.Reads as plan-weight-reads
-use Rattle.rigtemple.proofs.step_line.Reads as step-line-reads
 
 abbrev Inv-loop : tie.InvT-loop
 Inv-loop card c₀ count₀ c count = count ≤ 1000

@@ -1,20 +1,13 @@
 use Rattle.sets.proofs.Below.{length-below, at-below}
-use Rattle.house.proofs.Numbers.{length-made, made-at}
 use Rattle.sets.proofs.Loops.{filled, filled-turn, filled-all}
 use Rattle.sets.specs.Sets.{lowBits, below}
 use mathlib.Core.Path.{_≡_, refl, sym, ap, _∙_}
-use mathlib.Core.List.{List, [], _∷_, _++_, append-nil, append-assoc}
-use Prim.Native.Nat.{ℕ, suc, _+_, _-_, _*_, _≤_, _<_}
+use Prim.Native.Nat.{_-_, _*_, _≤_}
 use native.Mathlib.Omega.{arith}
 use borrow.Author.Needs.{needs}
-use denote.Ref.{now}
-use lib.ListN.{length, getD, set, take, drop, replicate}
+use lib.ListN.{getD, replicate}
 use Rattle.sets.proofs.below_number.Statement.{statement}
 use Rattle.sets.proofs.below_number.Tie as tie
-use Rattle.sets.proofs.below_number.Reads as reads
-use Rattle.sets.proofs.below_number.Lts as lts
-use Rattle.sets.proofs.low_bits.Reads as low-bits-reads
-use Rattle.sets.proofs.past.Reads as past-reads
 
 abbrev Inv-loop : tie.InvT-loop
 Inv-loop n r₀ i₀ r i = (i ≤ 16) × (r ≡ filled (below n) (replicate 16 0) i)
@@ -22,35 +15,35 @@ Inv-loop n r₀ i₀ r i = (i ≤ 16) × (r ≡ filled (below n) (replicate 16 0
 abbrev μ-loop : tie.MeasureT-loop
 μ-loop n r₀ i₀ r i = 16 - i
 
--- src/lib.rt:90:5
+-- src/lib.rt:91:5
 loop-holds : tie.Need-loop-holds Inv-loop μ-loop
 loop-holds c = (omega arith, refl)
 
--- src/lib.rt:91:33
+-- src/lib.rt:92:33
 mul-past : tie.Need-mul-past Inv-loop μ-loop
 mul-past c = search needs
 
--- src/lib.rt:91:25
+-- src/lib.rt:92:25
 past-requires : tie.Need-past-requires Inv-loop μ-loop
 past-requires c κs = search needs
 
--- src/lib.rt:91:16
+-- src/lib.rt:92:16
 low-bits-requires : tie.Need-low-bits-requires Inv-loop μ-loop
 low-bits-requires c κs = search needs
 
--- src/lib.rt:91:9
+-- src/lib.rt:92:9
 array-write-r : tie.Need-array-write-r Inv-loop μ-loop
 array-write-r c = search needs
 
--- src/lib.rt:92:9
+-- src/lib.rt:93:9
 add-i : tie.Need-add-i Inv-loop μ-loop
 add-i c = search needs
 
--- src/lib.rt:90:5
+-- src/lib.rt:91:5
 loop-less : tie.Need-loop-less Inv-loop μ-loop
 loop-less c = search needs
 
--- src/lib.rt:90:5
+-- src/lib.rt:91:5
 loop-again : tie.Need-loop-again Inv-loop μ-loop
 loop-again c =
     let l = c .before .before .before .loop in
@@ -58,7 +51,7 @@ loop-again c =
     let at : getD (below n) (l .i) 0 ≡ lowBits (n - 8 * l .i) = at-below n (l .i) (omega arith) in
     (omega arith, rw (l .inv .1) (filled-turn (below n) (replicate 16 0) (length-below n) (l .i) 0 _ (omega arith) (c .low-bits .ensures ∙ ap lowBits (c .before .past .ensures) ∙ sym at)))
 
--- src/lib.rt:85:1
+-- src/lib.rt:86:1
 returns : tie.Need-returns Inv-loop μ-loop
 returns c =
     let l = c .before .loop in

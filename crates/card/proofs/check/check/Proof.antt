@@ -4,55 +4,47 @@ use Rattle.meaning.proofs.Accepted.{accepted}
 use Rattle.meaning.specs.declared.Checked.{Checked}
 use Rattle.meaning.specs.Refusals.{cardAnswer, cardShort}
 use borrow.Author.Tests.{ltb-false}
-use mathlib.Core.Path.{_≡_, refl, sym, ap, _∙_}
-use mathlib.Core.List.{List, [], _∷_, _++_, append-nil, append-assoc}
-use Prim.Native.Nat.{ℕ, suc, _+_, _-_, _*_, _≤_, _<_}
-use native.Mathlib.Omega.{arith}
+use mathlib.Core.Path.{_≡_, sym, ap, _∙_}
 use borrow.Author.Needs.{needs}
 use denote.Ref.{now}
-use lib.ListN.{length, getD, set, take, drop, replicate}
 use Rattle.card.proofs.check.check.Statement.{statement}
 use Rattle.card.proofs.check.check.Tie as tie
-use Rattle.card.proofs.check.check.Reads as reads
-use Rattle.card.proofs.check.check.Lts as lts
-use Rattle.card.proofs.check.judge.Reads as judge-reads
-use Rattle.card.proofs.header.read_layout.Reads as read-layout-reads
 
--- src/check.rt:145:9
-judge-requires : tie.Need-judge-requires
-judge-requires c κs = search needs
+-- src/check.rt:153:9
+judge-card-requires : tie.Need-judge-card-requires
+judge-card-requires c κs = search needs
 
--- src/check.rt:146:25
+-- src/check.rt:154:25
 enum-known-a : tie.Need-enum-known-a
 enum-known-a c = search needs
 
--- src/check.rt:147:30
+-- src/check.rt:155:30
 enum-told : tie.Need-enum-told
 enum-told c = search needs
 
--- src/check.rt:147:30
+-- src/check.rt:155:30
 read-layout-requires : tie.Need-read-layout-requires
 unfolding cardShort
 read-layout-requires c κs =
     let b = now (c .before .before .before .before .args .card) in
-    let e : cardAnswer b ≡ Done = sym (c .before .before .judge .ensures) ∙ c .enum-told .given .1 in
+    let e : cardAnswer b ≡ Done = sym (c .before .before .judge-card .ensures) ∙ c .enum-told .given .1 in
     ltb-false _ 64 (accepted b e .long-enough)
 
--- src/check.rt:147:9
+-- src/check.rt:155:9
 returns : tie.Need-returns
 returns c =
     let b = now (c .before .before .before .before .before .args .card) in
-    let e : cardAnswer b ≡ Done = sym (c .before .before .before .judge .ensures) ∙ c .before .enum-told .given .1 in
+    let e : cardAnswer b ≡ Done = sym (c .before .before .before .judge-card .ensures) ∙ c .before .enum-told .given .1 in
     ap Checked.Good (c .read-layout .ensures .0) ∙ sym (checks-good b e)
 
--- src/check.rt:142:1
+-- src/check.rt:150:1
 returns-2 : tie.Need-returns-2
 returns-2 c =
     let b = now (c .before .before .before .before .before .args .card) in
     let g = c .before .a .given in
-    sym (checks-refused b _ (sym (c .before .before .before .judge .ensures) ∙ g .1))
+    sym (checks-refused b _ (sym (c .before .before .before .judge-card .ensures) ∙ g .1))
 
 pub check-spec : {M : Type 1} → statement M
 check-spec =
     tie.close
-    (tie.spec judge-requires enum-known-a enum-told read-layout-requires returns returns-2)
+    (tie.spec judge-card-requires enum-known-a enum-told read-layout-requires returns returns-2)

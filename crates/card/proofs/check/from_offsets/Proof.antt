@@ -1,41 +1,32 @@
-use Rattle.card.proofs.Laid.{laid}
-use Rattle.card.proofs.Stair.{row-done}
-use Rattle.card.proofs.Stair.{stops, goes-on}
+use Rattle.layout.proofs.Laid.{laid}
+use Rattle.card.proofs.Stair.{row-done, stops, goes-on}
 use Rattle.card.specs.Stair.{rowsFrom}
 use Rattle.meaning.specs.Refusals.{cardTable, offsetsGood}
 use Rattle.meaning.specs.Card.{layout}
 use mathlib.Core.Bool.{not}
-use mathlib.Core.Path.{_≡_, refl, sym, ap, _∙_}
-use mathlib.Core.List.{List, [], _∷_, _++_, append-nil, append-assoc}
-use Prim.Native.Nat.{ℕ, suc, _+_, _-_, _*_, _≤_, _<_}
-use native.Mathlib.Omega.{arith}
+use mathlib.Core.Path.{_≡_, sym, ap, _∙_}
 use borrow.Author.Needs.{needs}
 use denote.Ref.{now}
-use lib.ListN.{length, getD, set, take, drop, replicate}
+use lib.ListN.{length}
 use Rattle.card.proofs.check.from_offsets.Statement.{statement}
 use Rattle.card.proofs.check.from_offsets.Tie as tie
-use Rattle.card.proofs.check.from_offsets.Reads as reads
-use Rattle.card.proofs.check.from_offsets.Lts as lts
-use Rattle.card.proofs.check.from_weights.Reads as from-weights-reads
-use Rattle.card.proofs.check.row.Reads as row-reads
-use Rattle.card.proofs.header.offsets_good.Reads as offsets-good-reads
 
--- src/check.rt:92:17
+-- src/check.rt:98:17
 offsets-good-requires : tie.Need-offsets-good-requires
 offsets-good-requires c κs = search needs
 
--- src/check.rt:92:9
+-- src/check.rt:98:9
 row-requires : tie.Need-row-requires
 row-requires c κs = search needs
 
 enum-told : tie.Need-enum-told
 enum-told c = search needs
 
--- src/check.rt:94:9
+-- src/check.rt:100:9
 enum-told-2 : tie.Need-enum-told-2
 enum-told-2 c = search needs
 
--- src/check.rt:94:9
+-- src/check.rt:100:9
 returns : tie.Need-returns
 unfolding rowsFrom cardTable
 returns c =
@@ -43,14 +34,14 @@ returns c =
     let e : c .before .before .before .offsets-good .result ≡ offsetsGood (layout b) (length b) = c .before .before .before .offsets-good .ensures ∙ ap (λ l. offsetsGood l (length b)) (c .before .before .before .before .before .pre .0) in
     stops _ _ b (c .before .before .before .offsets-good .result) (ap not (sym e)) (c .before .before .row .result) (c .before .before .row .ensures) _ (c .enum-told2 .given .1)
 
--- src/check.rt:96:5
+-- src/check.rt:102:5
 from-weights-requires : tie.Need-from-weights-requires
 from-weights-requires c κs =
     let a = c .before .before .before .before .before .args in
     let p = c .before .before .before .before .before .pre in
     (laid (a .l) (now (a .card)) (p .0) (p .2) (sym (c .before .before .before .offsets-good .ensures) ∙ row-done _ _ (sym (c .before .before .row .ensures) ∙ c .enum-told .given .1)), p .1 .initial)
 
--- src/check.rt:88:1
+-- src/check.rt:94:1
 returns-2 : tie.Need-returns-2
 unfolding rowsFrom cardTable
 returns-2 c =

@@ -3,37 +3,28 @@ use Rattle.card.specs.Stair.{rowsFrom}
 use Rattle.meaning.specs.Refusals.{cardTable, actionsGood, pool}
 use Rattle.meaning.specs.Card.{layout}
 use mathlib.Core.Bool.{not}
-use mathlib.Core.Path.{_≡_, refl, sym, ap, _∙_}
-use mathlib.Core.List.{List, [], _∷_, _++_, append-nil, append-assoc}
-use Prim.Native.Nat.{ℕ, suc, _+_, _-_, _*_, _≤_, _<_}
-use native.Mathlib.Omega.{arith}
+use mathlib.Core.Path.{_≡_, sym, ap, _∙_}
 use borrow.Author.Needs.{needs}
 use denote.Ref.{now}
-use lib.ListN.{length, getD, set, take, drop, replicate}
 use Rattle.card.proofs.check.from_pool.Statement.{statement}
 use Rattle.card.proofs.check.from_pool.Tie as tie
-use Rattle.card.proofs.check.from_pool.Reads as reads
-use Rattle.card.proofs.check.from_pool.Lts as lts
-use Rattle.card.proofs.check.from_sets.Reads as from-sets-reads
-use Rattle.card.proofs.check.row.Reads as row-reads
-use Rattle.card.proofs.contents.pool_good.Reads as pool-good-reads
 
--- src/check.rt:48:17
+-- src/check.rt:50:17
 pool-good-requires : tie.Need-pool-good-requires
 pool-good-requires c κs = search needs
 
--- src/check.rt:48:9
+-- src/check.rt:50:9
 row-requires : tie.Need-row-requires
 row-requires c κs = search needs
 
 enum-told : tie.Need-enum-told
 enum-told c = search needs
 
--- src/check.rt:50:9
+-- src/check.rt:52:9
 enum-told-2 : tie.Need-enum-told-2
 enum-told-2 c = search needs
 
--- src/check.rt:50:9
+-- src/check.rt:52:9
 returns : tie.Need-returns
 unfolding rowsFrom cardTable
 returns c =
@@ -41,11 +32,11 @@ returns c =
     let e : c .before .before .before .pool-good .result ≡ actionsGood (layout b .actions) (pool (layout b) b) = c .before .before .before .pool-good .ensures ∙ ap (λ l. actionsGood (l .actions) (pool l b)) (c .before .before .before .before .before .pre .says) in
     stops _ _ b (c .before .before .before .pool-good .result) (ap not (sym e)) (c .before .before .row .result) (c .before .before .row .ensures) _ (c .enum-told2 .given .1)
 
--- src/check.rt:52:5
+-- src/check.rt:54:5
 from-sets-requires : tie.Need-from-sets-requires
 from-sets-requires c κs = search needs
 
--- src/check.rt:44:1
+-- src/check.rt:46:1
 returns-2 : tie.Need-returns-2
 unfolding rowsFrom cardTable
 returns-2 c =

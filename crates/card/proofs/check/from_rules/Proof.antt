@@ -3,37 +3,28 @@ use Rattle.card.specs.Stair.{rowsFrom}
 use Rattle.meaning.specs.Refusals.{cardTable, rulesGood, containing}
 use Rattle.meaning.specs.Card.{layout}
 use mathlib.Core.Bool.{not}
-use mathlib.Core.Path.{_≡_, refl, sym, ap, _∙_}
-use mathlib.Core.List.{List, [], _∷_, _++_, append-nil, append-assoc}
-use Prim.Native.Nat.{ℕ, suc, _+_, _-_, _*_, _≤_, _<_}
-use native.Mathlib.Omega.{arith}
+use mathlib.Core.Path.{_≡_, sym, ap, _∙_}
 use borrow.Author.Needs.{needs}
 use denote.Ref.{now}
-use lib.ListN.{length, getD, set, take, drop, replicate}
 use Rattle.card.proofs.check.from_rules.Statement.{statement}
 use Rattle.card.proofs.check.from_rules.Tie as tie
-use Rattle.card.proofs.check.from_rules.Reads as reads
-use Rattle.card.proofs.check.from_rules.Lts as lts
-use Rattle.card.proofs.check.from_pool.Reads as from-pool-reads
-use Rattle.card.proofs.check.row.Reads as row-reads
-use Rattle.card.proofs.rules.rules_good.Reads as rules-good-reads
 
--- src/check.rt:59:17
+-- src/check.rt:62:17
 rules-good-requires : tie.Need-rules-good-requires
 rules-good-requires c κs = search needs
 
--- src/check.rt:59:9
+-- src/check.rt:62:9
 row-requires : tie.Need-row-requires
 row-requires c κs = search needs
 
 enum-told : tie.Need-enum-told
 enum-told c = search needs
 
--- src/check.rt:61:9
+-- src/check.rt:64:9
 enum-told-2 : tie.Need-enum-told-2
 enum-told-2 c = search needs
 
--- src/check.rt:61:9
+-- src/check.rt:64:9
 returns : tie.Need-returns
 unfolding rowsFrom cardTable
 returns c =
@@ -41,11 +32,11 @@ returns c =
     let e : c .before .before .before .rules-good .result ≡ rulesGood (containing 1 (layout b) b) (containing 2 (layout b) b) (layout b) b = c .before .before .before .rules-good .ensures ∙ ap (λ l. rulesGood (containing 1 l b) (containing 2 l b) l b) (c .before .before .before .before .before .pre .0 .says) in
     stops _ _ b (c .before .before .before .rules-good .result) (ap not (sym e)) (c .before .before .row .result) (c .before .before .row .ensures) _ (c .enum-told2 .given .1)
 
--- src/check.rt:63:5
+-- src/check.rt:66:5
 from-pool-requires : tie.Need-from-pool-requires
 from-pool-requires c κs = search needs
 
--- src/check.rt:55:1
+-- src/check.rt:58:1
 returns-2 : tie.Need-returns-2
 unfolding rowsFrom cardTable
 returns-2 c =

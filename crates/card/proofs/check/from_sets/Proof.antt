@@ -1,31 +1,23 @@
 use Rattle.card.proofs.Stair.{last-row, no-row}
 use Rattle.card.specs.Stair.{rowsFrom}
-use Rattle.meaning.specs.Refusals.{firstGiven, cardTable, setsGood}
+use Rattle.meaning.specs.Refusals.{cardTable, setsGood}
 use Rattle.meaning.specs.Card.{layout}
 use mathlib.Core.Bool.{not}
-use mathlib.Core.Path.{_≡_, refl, sym, ap, _∙_}
-use mathlib.Core.List.{List, [], _∷_, _++_, append-nil, append-assoc}
-use Prim.Native.Nat.{ℕ, suc, _+_, _-_, _*_, _≤_, _<_}
-use native.Mathlib.Omega.{arith}
+use mathlib.Core.Path.{_≡_, sym, ap, _∙_}
 use borrow.Author.Needs.{needs}
 use denote.Ref.{now}
-use lib.ListN.{length, getD, set, take, drop, replicate}
 use Rattle.card.proofs.check.from_sets.Statement.{statement}
 use Rattle.card.proofs.check.from_sets.Tie as tie
-use Rattle.card.proofs.check.from_sets.Reads as reads
-use Rattle.card.proofs.check.from_sets.Lts as lts
-use Rattle.card.proofs.check.row.Reads as row-reads
-use Rattle.card.proofs.contents.sets_good.Reads as sets-good-reads
 
--- src/check.rt:41:9
+-- src/check.rt:42:9
 sets-good-requires : tie.Need-sets-good-requires
 sets-good-requires c κs = search needs
 
--- src/check.rt:41:5
+-- src/check.rt:42:5
 row-requires : tie.Need-row-requires
 row-requires c κs = search needs
 
--- src/check.rt:37:1
+-- src/check.rt:38:1
 returns : tie.Need-returns
 unfolding rowsFrom cardTable
 returns c =

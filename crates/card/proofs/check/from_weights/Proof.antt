@@ -3,37 +3,28 @@ use Rattle.card.specs.Stair.{rowsFrom}
 use Rattle.meaning.specs.Refusals.{cardTable, weightsGood}
 use Rattle.meaning.specs.Card.{layout}
 use mathlib.Core.Bool.{not}
-use mathlib.Core.Path.{_≡_, refl, sym, ap, _∙_}
-use mathlib.Core.List.{List, [], _∷_, _++_, append-nil, append-assoc}
-use Prim.Native.Nat.{ℕ, suc, _+_, _-_, _*_, _≤_, _<_}
-use native.Mathlib.Omega.{arith}
+use mathlib.Core.Path.{_≡_, sym, ap, _∙_}
 use borrow.Author.Needs.{needs}
 use denote.Ref.{now}
-use lib.ListN.{length, getD, set, take, drop, replicate}
 use Rattle.card.proofs.check.from_weights.Statement.{statement}
 use Rattle.card.proofs.check.from_weights.Tie as tie
-use Rattle.card.proofs.check.from_weights.Reads as reads
-use Rattle.card.proofs.check.from_weights.Lts as lts
-use Rattle.card.proofs.check.from_nodes.Reads as from-nodes-reads
-use Rattle.card.proofs.check.row.Reads as row-reads
-use Rattle.card.proofs.contents.weights_good.Reads as weights-good-reads
 
--- src/check.rt:81:17
+-- src/check.rt:86:17
 weights-good-requires : tie.Need-weights-good-requires
 weights-good-requires c κs = search needs
 
--- src/check.rt:81:9
+-- src/check.rt:86:9
 row-requires : tie.Need-row-requires
 row-requires c κs = search needs
 
 enum-told : tie.Need-enum-told
 enum-told c = search needs
 
--- src/check.rt:83:9
+-- src/check.rt:88:9
 enum-told-2 : tie.Need-enum-told-2
 enum-told-2 c = search needs
 
--- src/check.rt:83:9
+-- src/check.rt:88:9
 returns : tie.Need-returns
 unfolding rowsFrom cardTable
 returns c =
@@ -41,11 +32,11 @@ returns c =
     let e : c .before .before .before .weights-good .result ≡ weightsGood (layout b) b = c .before .before .before .weights-good .ensures ∙ ap (λ l. weightsGood l b) (c .before .before .before .before .before .pre .0 .says) in
     stops _ _ b (c .before .before .before .weights-good .result) (ap not (sym e)) (c .before .before .row .result) (c .before .before .row .ensures) _ (c .enum-told2 .given .1)
 
--- src/check.rt:85:5
+-- src/check.rt:90:5
 from-nodes-requires : tie.Need-from-nodes-requires
 from-nodes-requires c κs = search needs
 
--- src/check.rt:77:1
+-- src/check.rt:82:1
 returns-2 : tie.Need-returns-2
 unfolding rowsFrom cardTable
 returns-2 c =

@@ -6,17 +6,13 @@ use Rattle.meaning.specs.Refusals.{all, actionsGood}
 use Rattle.meaning.specs.Card.{part}
 use lib.Dec.{eqb, ltb, leb}
 use mathlib.Core.Path.{_≡_, refl, sym, ap, _∙_}
-use mathlib.Core.List.{List, [], _∷_, _++_, append-nil, append-assoc}
-use Prim.Native.Nat.{ℕ, suc, _+_, _-_, _*_, _≤_, _<_}
+use Prim.Native.Nat.{ℕ, _+_, _-_, _≤_}
 use native.Mathlib.Omega.{arith}
 use borrow.Author.Needs.{needs}
 use denote.Ref.{now}
-use lib.ListN.{length, getD, set, take, drop, replicate}
+use lib.ListN.{getD}
 use Rattle.card.proofs.contents.actions_good.Statement.{statement}
 use Rattle.card.proofs.contents.actions_good.Tie as tie
-use Rattle.card.proofs.contents.actions_good.Reads as reads
-use Rattle.card.proofs.contents.actions_good.Lts as lts
-use Rattle.card.proofs.contents.last_action.Reads as last-action-reads
 
 abbrev Inv-loop : tie.InvT-loop
 Inv-loop bytes from n actions last good₀ i₀ good i = (i ≤ n) × Found (λ a. ltb a actions) (part bytes from n) good i

@@ -1,26 +1,21 @@
 use native.Mathlib.Nat.{sub-zero}
-use Rattle.sets.proofs.Loops.{and-true}
-use Rattle.card.proofs.Sets.{good-∪, union-turn}
+use Rattle.sets.proofs.Loops.{all-turn}
+use Rattle.sets.proofs.KnownAtoms.{good-∪}
 use Rattle.meaning.proofs.Parts.{length-part}
 use Rattle.meaning.specs.Refusals.{all, every, setGood, setsGood}
 use Rattle.meaning.specs.Card.{Bytes, part}
 use Rattle.house.specs.Order.{numbers}
 use Rattle.paper.specs.Atoms.{Atoms, _∪_}
 use Rattle.paper.proofs.Sets.{length-∪}
-use mathlib.Core.Bool.{Bool, _&&_, and-assoc}
-use mathlib.Core.Path.{_≡_, refl, sym, ap, ap₂, _∙_}
-use mathlib.Core.List.{List, [], _∷_, _++_, append-nil, append-assoc}
-use Prim.Native.Nat.{ℕ, suc, _+_, _-_, _*_, _≤_, _<_}
+use mathlib.Core.Bool.{Bool, _&&_, and-true, and-assoc}
+use mathlib.Core.Path.{_≡_, sym, ap, ap₂, _∙_}
+use Prim.Native.Nat.{ℕ, _+_, _-_, _*_, _≤_}
 use native.Mathlib.Omega.{arith}
 use borrow.Author.Needs.{needs}
 use denote.Ref.{now}
-use lib.ListN.{length, getD, set, take, drop, replicate}
+use lib.ListN.{length}
 use Rattle.card.proofs.contents.all_sets.Statement.{statement}
 use Rattle.card.proofs.contents.all_sets.Tie as tie
-use Rattle.card.proofs.contents.all_sets.Reads as reads
-use Rattle.card.proofs.contents.all_sets.Lts as lts
-use Rattle.card.proofs.readers.set_at.Reads as set-at-reads
-use Rattle.sets.proofs.union.Reads as union-reads
 
 -- row 9 of specification i's sets, of k atoms
 abbrev entry : Bytes → ℕ → ℕ → ℕ → Bool
@@ -36,19 +31,19 @@ Inv-loop card n from all₀ i₀ all i = (i ≤ n) × (length all ≡ 16) × Ask
 abbrev μ-loop : tie.MeasureT-loop
 μ-loop card n from all₀ i₀ all i = n - i
 
--- src/contents.rt:84:31
+-- src/contents.rt:76:31
 set-at-requires : tie.Need-set-at-requires Inv-loop μ-loop
 set-at-requires c κs = search needs
 
--- src/contents.rt:84:49
+-- src/contents.rt:76:49
 set-at-requires-2 : tie.Need-set-at-requires-2 Inv-loop μ-loop
 set-at-requires-2 c κs = search needs
 
--- src/contents.rt:84:9
+-- src/contents.rt:76:9
 union-requires : tie.Need-union-requires Inv-loop μ-loop
 union-requires c κs = search needs
 
--- src/contents.rt:86:5
+-- src/contents.rt:78:5
 loop-holds : tie.Need-loop-holds Inv-loop μ-loop
 loop-holds c =
     let a = c .before .before .before .before .before .args in
@@ -68,47 +63,47 @@ loop-holds c =
           ∙ and-assoc (setGood k X) (setGood k Y) (every n (f k)),
     )
 
--- src/contents.rt:87:25
+-- src/contents.rt:79:25
 mul-at : tie.Need-mul-at Inv-loop μ-loop
 mul-at c = search needs
 
--- src/contents.rt:87:18
+-- src/contents.rt:79:18
 add-at : tie.Need-add-at Inv-loop μ-loop
 add-at c = search needs
 
--- src/contents.rt:88:45
+-- src/contents.rt:80:45
 add-set-at : tie.Need-add-set-at Inv-loop μ-loop
 add-set-at c = search needs
 
--- src/contents.rt:88:32
+-- src/contents.rt:80:32
 set-at-requires-3 : tie.Need-set-at-requires-3 Inv-loop μ-loop
 set-at-requires-3 c κs = search needs
 
--- src/contents.rt:88:67
+-- src/contents.rt:80:67
 add-set-at-2 : tie.Need-add-set-at-2 Inv-loop μ-loop
 add-set-at-2 c = search needs
 
--- src/contents.rt:88:54
+-- src/contents.rt:80:54
 set-at-requires-4 : tie.Need-set-at-requires-4 Inv-loop μ-loop
 set-at-requires-4 c κs = search needs
 
--- src/contents.rt:88:13
+-- src/contents.rt:80:13
 union-requires-2 : tie.Need-union-requires-2 Inv-loop μ-loop
 union-requires-2 c κs = search needs
 
--- src/contents.rt:89:13
+-- src/contents.rt:81:13
 union-requires-3 : tie.Need-union-requires-3 Inv-loop μ-loop
 union-requires-3 c κs = search needs
 
--- src/contents.rt:91:9
+-- src/contents.rt:83:9
 add-i : tie.Need-add-i Inv-loop μ-loop
 add-i c = search needs
 
--- src/contents.rt:86:5
+-- src/contents.rt:78:5
 loop-less : tie.Need-loop-less Inv-loop μ-loop
 loop-less c = search needs
 
--- src/contents.rt:86:5
+-- src/contents.rt:78:5
 loop-again : tie.Need-loop-again Inv-loop μ-loop
 loop-again c =
     let a = c .before .before .before .before .before .before .before .before .before .before .before .args in
@@ -129,11 +124,11 @@ loop-again c =
       ap length e ∙ length-∪ (l .all) (X ∪ Y) (la ∙ sym lxy) ∙ la,
       λ k. ap (λ s. setGood k s && all (f k) (numbers (l .i + 1) (n - (l .i + 1)))) e
           ∙ ap (λ x. x && all (f k) (numbers (l .i + 1) (n - (l .i + 1)))) (good-∪ k (l .all) (X ∪ Y) (la ∙ sym lxy))
-          ∙ union-turn (setGood k (l .all)) (setGood k (X ∪ Y)) (f k) (l .i) n (omega arith) (good-∪ k X Y (lx ∙ sym ly))
+          ∙ all-turn (f k) n (setGood k (l .all)) (setGood k (X ∪ Y)) (l .i) (omega arith) (good-∪ k X Y (lx ∙ sym ly))
           ∙ l .inv .2 k,
     )
 
--- src/contents.rt:77:1
+-- src/contents.rt:69:1
 returns : tie.Need-returns Inv-loop μ-loop
 unfolding setsGood numbers
 returns c =

@@ -2,19 +2,13 @@ use mathlib.Core.Bool.{Bool}
 use Rattle.sets.proofs.Loops.{Kept, kept-start, kept-turn, kept-all}
 use Rattle.meaning.specs.Refusals.{within, weightsGood}
 use Rattle.meaning.specs.Card.{weightAt}
-use mathlib.Core.Path.{_≡_, refl, sym, ap, _∙_}
-use mathlib.Core.List.{List, [], _∷_, _++_, append-nil, append-assoc}
-use Prim.Native.Nat.{ℕ, suc, _+_, _-_, _*_, _≤_, _<_}
+use mathlib.Core.Path.{_≡_, ap, _∙_}
+use Prim.Native.Nat.{ℕ, _-_, _≤_}
 use native.Mathlib.Omega.{arith}
 use borrow.Author.Needs.{needs}
 use denote.Ref.{now}
-use lib.ListN.{length, getD, set, take, drop, replicate}
 use Rattle.card.proofs.contents.weights_good.Statement.{statement}
 use Rattle.card.proofs.contents.weights_good.Tie as tie
-use Rattle.card.proofs.contents.weights_good.Reads as reads
-use Rattle.card.proofs.contents.weights_good.Lts as lts
-use Rattle.card.proofs.header.in_range.Reads as in-range-reads
-use Rattle.card.proofs.readers.number_at.Reads as number-at-reads
 
 abbrev Inv-loop : tie.InvT-loop
 Inv-loop card n good₀ a₀ good a = (a ≤ n) × Kept (λ a. within 1 1024 (weightAt card a)) n good a
@@ -22,35 +16,35 @@ Inv-loop card n good₀ a₀ good a = (a ≤ n) × Kept (λ a. within 1 1024 (we
 abbrev μ-loop : tie.MeasureT-loop
 μ-loop card n good₀ a₀ good a = n - a
 
--- src/contents.rt:23:5
+-- src/contents.rt:22:5
 loop-holds : tie.Need-loop-holds Inv-loop μ-loop
 loop-holds c = (omega arith, kept-start _ _)
 
--- src/contents.rt:24:59
+-- src/contents.rt:23:59
 mul-number-at : tie.Need-mul-number-at Inv-loop μ-loop
 mul-number-at c = search needs
 
--- src/contents.rt:24:54
+-- src/contents.rt:23:54
 add-number-at : tie.Need-add-number-at Inv-loop μ-loop
 add-number-at c = search needs
 
--- src/contents.rt:24:38
+-- src/contents.rt:23:38
 number-at-requires : tie.Need-number-at-requires Inv-loop μ-loop
 number-at-requires c κs = search needs
 
--- src/contents.rt:24:13
+-- src/contents.rt:23:13
 in-range-requires : tie.Need-in-range-requires Inv-loop μ-loop
 in-range-requires c κs = search needs
 
--- src/contents.rt:26:9
+-- src/contents.rt:25:9
 add-a : tie.Need-add-a Inv-loop μ-loop
 add-a c = search needs
 
--- src/contents.rt:23:5
+-- src/contents.rt:22:5
 loop-less : tie.Need-loop-less Inv-loop μ-loop
 loop-less c = search needs
 
--- src/contents.rt:23:5
+-- src/contents.rt:22:5
 loop-again : tie.Need-loop-again Inv-loop μ-loop
 loop-again c =
     let a = c .before .before .before .before .before .args in
@@ -60,7 +54,7 @@ loop-again c =
     let e : c .in-range .result ≡ t (l .a) = c .in-range .ensures ∙ ap (within 1 1024) (c .before .number-at .ensures .0) in
     (omega arith, rw e (kept-turn t (a .l .actions) (l .good) (l .a) (omega arith) (l .inv .1)))
 
--- src/contents.rt:16:1
+-- src/contents.rt:15:1
 returns : tie.Need-returns Inv-loop μ-loop
 unfolding weightsGood
 returns c =

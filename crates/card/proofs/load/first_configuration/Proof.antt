@@ -1,43 +1,37 @@
 use Rattle.meaning.proofs.Parts.{length-part}
 use Rattle.meaning.specs.Configurations.{padded, configurationOf}
-use Rattle.meaning.specs.Card.{part, layout, plan, initialPlan, start}
+use Rattle.meaning.specs.Card.{part, plan, initialPlan, start}
 use Rattle.meaning.specs.declared.Layout.{Layout}
-use mathlib.Core.Path.{subst}
-use mathlib.Core.Path.{_≡_, refl, sym, ap, _∙_}
-use mathlib.Core.List.{List, [], _∷_, _++_, append-nil, append-assoc}
-use Prim.Native.Nat.{ℕ, suc, _+_, _-_, _*_, _≤_, _<_}
+use mathlib.Core.Path.{_≡_, sym, ap, _∙_}
+use Prim.Native.Nat.{_+_}
 use native.Mathlib.Omega.{arith}
 use borrow.Author.Needs.{needs}
 use denote.Ref.{now}
-use lib.ListN.{length, getD, set, take, drop, replicate}
+use lib.ListN.{length}
 use Rattle.card.proofs.load.first_configuration.Statement.{statement}
 use Rattle.card.proofs.load.first_configuration.Tie as tie
-use Rattle.card.proofs.load.first_configuration.Reads as reads
-use Rattle.card.proofs.load.first_configuration.Lts as lts
-use Rattle.card.proofs.load.plan_at.Reads as plan-at-reads
-use Rattle.card.proofs.readers.set_at.Reads as set-at-reads
 
--- src/load.rt:61:9
+-- src/load.rt:26:9
 set-at-requires : tie.Need-set-at-requires
 set-at-requires c κs = search needs
 
--- src/load.rt:62:9
+-- src/load.rt:27:9
 set-at-requires-2 : tie.Need-set-at-requires-2
 set-at-requires-2 c κs = search needs
 
--- src/load.rt:63:30
+-- src/load.rt:28:30
 add-plan-at : tie.Need-add-plan-at
 add-plan-at c = search needs
 
--- src/load.rt:63:9
+-- src/load.rt:28:9
 plan-at-requires : tie.Need-plan-at-requires
 plan-at-requires c κs = search needs
 
--- src/load.rt:68:17
+-- src/load.rt:33:17
 cast-t10 : tie.Need-cast-t10
 cast-t10 c = search needs
 
--- src/load.rt:54:1
+-- src/load.rt:19:1
 returns : tie.Need-returns
 unfolding configurationOf start plan initialPlan
 returns c =

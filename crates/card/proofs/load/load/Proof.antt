@@ -2,43 +2,33 @@ use Rattle.meaning.specs.declared.Answer.the-variants.{Done}
 use Rattle.card.proofs.GoodCard.{good-card}
 use Rattle.meaning.proofs.Calls.{good-judged, refused-judged, loads-good, loads-refused}
 use Rattle.card.specs.Stair.{answerOf}
-use mathlib.Core.Path.{_≡_, refl, sym, ap, _∙_}
-use mathlib.Core.List.{List, [], _∷_, _++_, append-nil, append-assoc}
-use Prim.Native.Nat.{ℕ, suc, _+_, _-_, _*_, _≤_, _<_}
-use native.Mathlib.Omega.{arith}
+use mathlib.Core.Path.{sym, ap, _∙_}
 use borrow.Author.Needs.{needs}
 use denote.Ref.{now}
-use lib.ListN.{length, getD, set, take, drop, replicate}
 use Rattle.card.proofs.load.load.Statement.{statement}
 use Rattle.card.proofs.load.load.Tie as tie
-use Rattle.card.proofs.load.load.Reads as reads
-use Rattle.card.proofs.load.load.Lts as lts
-use Rattle.card.proofs.check.check.Reads as check-reads
-use Rattle.card.proofs.load.answer_of.Reads as answer-of-reads
-use Rattle.card.proofs.load.empty_configuration.Reads as empty-configuration-reads
-use Rattle.card.proofs.load.first_configuration.Reads as first-configuration-reads
 
--- src/load.rt:87:9
+-- src/load.rt:42:9
 check-requires : tie.Need-check-requires
 check-requires c κs = search needs
 
--- src/load.rt:88:23
+-- src/load.rt:43:23
 enum-known-v : tie.Need-enum-known-v
 enum-known-v c = search needs
 
--- src/load.rt:89:13
+-- src/load.rt:44:13
 enum-told : tie.Need-enum-told
 enum-told c = search needs
 
--- src/load.rt:89:13
+-- src/load.rt:44:13
 empty-configuration-requires : tie.Need-empty-configuration-requires
 empty-configuration-requires c κs = search needs
 
--- src/load.rt:91:21
+-- src/load.rt:46:21
 answer-of-requires : tie.Need-answer-of-requires
 answer-of-requires c κs = search needs
 
--- src/load.rt:90:9
+-- src/load.rt:45:9
 returns : tie.Need-returns
 returns c =
     let b = now (c .before .before .before .before .before .before .args .card) in
@@ -47,14 +37,14 @@ returns c =
     (λ i. record { answer = (c .answer-of .ensures ∙ ap answerOf told) i; configuration = c .before .empty-configuration .ensures i })
     ∙ sym (loads-refused b _ e)
 
--- src/load.rt:95:9
+-- src/load.rt:50:9
 first-configuration-requires : tie.Need-first-configuration-requires
 first-configuration-requires c κs =
     let b = now (c .before .before .before .before .before .args .card) in
     let j = good-judged b _ (sym (c .before .before .before .check .ensures) ∙ c .before .v .given .1) in
     good-card _ b (j .0) (j .1)
 
--- src/load.rt:84:1
+-- src/load.rt:39:1
 returns-2 : tie.Need-returns-2
 returns-2 c =
     let b = now (c .before .before .before .before .before .before .args .card) in

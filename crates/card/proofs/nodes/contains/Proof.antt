@@ -1,26 +1,20 @@
 use Rattle.card.proofs.Laws.{contains-flat}
 use mathlib.Core.Bool.{false}
-use mathlib.Core.Path.{_≡_, refl, sym, ap, _∙_}
-use mathlib.Core.List.{List, [], _∷_, _++_, append-nil, append-assoc}
-use Prim.Native.Nat.{ℕ, suc, _+_, _-_, _*_, _≤_, _<_}
-use native.Mathlib.Omega.{arith}
 use borrow.Author.Needs.{needs}
 use denote.Ref.{now}
-use lib.ListN.{length, getD, set, take, drop, replicate}
+use lib.ListN.{getD}
 use Rattle.card.proofs.nodes.contains.Statement.{statement}
 use Rattle.card.proofs.nodes.contains.Tie as tie
-use Rattle.card.proofs.nodes.contains.Reads as reads
-use Rattle.card.proofs.nodes.contains.Lts as lts
 
--- src/nodes.rt:49:17
+-- src/nodes.rt:50:17
 element-copy-out-first : tie.Need-element-copy-out-first
 element-copy-out-first c = search needs
 
--- src/nodes.rt:50:18
+-- src/nodes.rt:51:18
 element-copy-out-second : tie.Need-element-copy-out-second
 element-copy-out-second c = search needs
 
--- src/nodes.rt:45:1
+-- src/nodes.rt:46:1
 returns : tie.Need-returns
 returns c =
     let a = c .before .before .args in

@@ -1,34 +1,28 @@
 use Rattle.card.proofs.Laws.{either-of}
 use mathlib.Core.Logic.{⊎-elim}
-use mathlib.Core.Path.{_≡_, refl, sym, ap, _∙_}
-use mathlib.Core.List.{List, [], _∷_, _++_, append-nil, append-assoc}
-use Prim.Native.Nat.{ℕ, suc, _+_, _-_, _*_, _≤_, _<_}
+use mathlib.Core.Path.{_≡_}
+use Prim.Native.Nat.{suc, _-_}
 use native.Mathlib.Omega.{arith}
-use borrow.Author.Needs.{needs}
-use denote.Ref.{now}
-use lib.ListN.{length, getD, set, take, drop, replicate}
 use Rattle.card.proofs.nodes.kind_good.Statement.{statement}
 use Rattle.card.proofs.nodes.kind_good.Tie as tie
-use Rattle.card.proofs.nodes.kind_good.Reads as reads
-use Rattle.card.proofs.nodes.kind_good.Lts as lts
 
--- src/nodes.rt:11:1
+-- src/nodes.rt:12:1
 returns : tie.Need-returns
 returns c = rw (c .match .keys1)
 
--- src/nodes.rt:11:1
+-- src/nodes.rt:12:1
 returns-2 : tie.Need-returns-2
 returns-2 c = rw (c .match .keys2)
 
--- src/nodes.rt:11:1
+-- src/nodes.rt:12:1
 returns-3 : tie.Need-returns-3
 returns-3 c = ⊎-elim (λ e. rw e) (λ e. rw e) (either-of 1 (c .before .before .args .kind) (omega arith) (omega arith))
 
--- src/nodes.rt:11:1
+-- src/nodes.rt:12:1
 returns-4 : tie.Need-returns-4
 returns-4 c = ⊎-elim (λ e. rw e) (λ e. rw e) (either-of 4 (c .before .before .before .args .kind) (omega arith) (omega arith))
 
--- src/nodes.rt:11:1
+-- src/nodes.rt:12:1
 returns-5 : tie.Need-returns-5
 returns-5 c =
     let k = c .before .before .before .args .kind in

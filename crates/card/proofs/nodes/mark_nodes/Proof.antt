@@ -1,17 +1,11 @@
 use Rattle.card.proofs.Laws.{MarkedTo, marked-start, marked-turn, marked-all}
-use mathlib.Core.Path.{subst}
-use mathlib.Core.Path.{_≡_, refl, sym, ap, _∙_}
-use mathlib.Core.List.{List, [], _∷_, _++_, append-nil, append-assoc}
-use Prim.Native.Nat.{ℕ, suc, _+_, _-_, _*_, _≤_, _<_}
+use mathlib.Core.Path.{subst, _≡_}
+use Prim.Native.Nat.{_-_, _≤_, _<_}
 use native.Mathlib.Omega.{arith}
 use borrow.Author.Needs.{needs}
 use denote.Ref.{now}
-use lib.ListN.{length, getD, set, take, drop, replicate}
 use Rattle.card.proofs.nodes.mark_nodes.Statement.{statement}
 use Rattle.card.proofs.nodes.mark_nodes.Tie as tie
-use Rattle.card.proofs.nodes.mark_nodes.Reads as reads
-use Rattle.card.proofs.nodes.mark_nodes.Lts as lts
-use Rattle.card.proofs.nodes.contains_at.Reads as contains-at-reads
 
 abbrev Inv-loop : tie.InvT-loop
 Inv-loop card l beliefs₀ goals₀ n i₀ beliefs goals i = (i ≤ n) × MarkedTo 1 l card beliefs i × MarkedTo 2 l card goals i
@@ -19,7 +13,7 @@ Inv-loop card l beliefs₀ goals₀ n i₀ beliefs goals i = (i ≤ n) × Marked
 abbrev μ-loop : tie.MeasureT-loop
 μ-loop card l beliefs₀ goals₀ n i₀ beliefs goals i = n - i
 
--- src/nodes.rt:86:5
+-- src/nodes.rt:87:5
 loop-holds : tie.Need-loop-holds Inv-loop μ-loop
 loop-holds c =
     let a = c .before .before .args in
@@ -27,31 +21,31 @@ loop-holds c =
     let b = now (a .card) in
     (omega arith, marked-start 1 (a .l) b _ (p .2), marked-start 2 (a .l) b _ (p .3))
 
--- src/nodes.rt:87:13
+-- src/nodes.rt:88:13
 contains-at-requires : tie.Need-contains-at-requires Inv-loop μ-loop
 contains-at-requires c κs = search needs
 
--- src/nodes.rt:88:13
+-- src/nodes.rt:89:13
 contains-at-requires-2 : tie.Need-contains-at-requires-2 Inv-loop μ-loop
 contains-at-requires-2 c κs = search needs
 
--- src/nodes.rt:89:9
+-- src/nodes.rt:90:9
 element-write-beliefs : tie.Need-element-write-beliefs Inv-loop μ-loop
 element-write-beliefs c = search needs
 
--- src/nodes.rt:90:9
+-- src/nodes.rt:91:9
 element-write-goals : tie.Need-element-write-goals Inv-loop μ-loop
 element-write-goals c = search needs
 
--- src/nodes.rt:91:9
+-- src/nodes.rt:92:9
 add-i : tie.Need-add-i Inv-loop μ-loop
 add-i c = search needs
 
--- src/nodes.rt:86:5
+-- src/nodes.rt:87:5
 loop-less : tie.Need-loop-less Inv-loop μ-loop
 loop-less c = search needs
 
--- src/nodes.rt:86:5
+-- src/nodes.rt:87:5
 loop-again : tie.Need-loop-again Inv-loop μ-loop
 loop-again c =
     let a = c .before .before .before .before .before .before .before .before .args in
@@ -65,7 +59,7 @@ loop-again c =
       marked-turn 2 (a .l) b (p .1) (l .goals) (l .i) _ k m (c .contains-at2 .ensures) (l .inv .2),
     )
 
--- src/nodes.rt:79:1
+-- src/nodes.rt:80:1
 returns : tie.Need-returns Inv-loop μ-loop
 returns c =
     let a = c .before .before .before .before .args in

@@ -1,72 +1,63 @@
 use Rattle.meaning.specs.Refusals.{conditionGood, spanGood, containing, revisionGood}
-use Rattle.meaning.specs.Card.{span, numberAt}
-use lib.Dec.{ltb, eqb}
-use mathlib.Core.Bool.{not, false, _&&_}
-use mathlib.Core.Path.{_≡_, refl, sym, ap, _∙_}
-use mathlib.Core.List.{List, [], _∷_, _++_, append-nil, append-assoc}
-use Prim.Native.Nat.{ℕ, suc, _+_, _-_, _*_, _≤_, _<_}
+use Rattle.meaning.specs.Card.{span}
+use mathlib.Core.Path.{_≡_, ap, _∙_}
+use Prim.Native.Nat.{_+_, _<_}
 use native.Mathlib.Omega.{arith}
 use borrow.Author.Needs.{needs}
 use denote.Ref.{now}
-use lib.ListN.{length, getD, set, take, drop, replicate}
+use lib.ListN.{getD}
 use Rattle.card.proofs.rules.revision_good.Statement.{statement}
 use Rattle.card.proofs.rules.revision_good.Tie as tie
-use Rattle.card.proofs.rules.revision_good.Reads as reads
-use Rattle.card.proofs.rules.revision_good.Lts as lts
-use Rattle.card.proofs.header.read_span.Reads as read-span-reads
-use Rattle.card.proofs.readers.number_at.Reads as number-at-reads
-use Rattle.card.proofs.rules.condition_good.Reads as condition-good-reads
-use Rattle.card.proofs.rules.span_good.Reads as span-good-reads
 
--- src/rules.rt:71:47
+-- src/rules.rt:72:40
 shared-slice-read-condition-good : tie.Need-shared-slice-read-condition-good
 shared-slice-read-condition-good c = search needs
 
--- src/rules.rt:71:9
+-- src/rules.rt:72:9
 condition-good-requires : tie.Need-condition-good-requires
 condition-good-requires c κs = search needs
 
--- src/rules.rt:72:22
+-- src/rules.rt:73:22
 add-first : tie.Need-add-first
 add-first c = search needs
 
--- src/rules.rt:72:17
+-- src/rules.rt:73:17
 shared-slice-read-first : tie.Need-shared-slice-read-first
 shared-slice-read-first c = search needs
 
--- src/rules.rt:73:52
+-- src/rules.rt:74:52
 add-read-span : tie.Need-add-read-span
 add-read-span c = search needs
 
--- src/rules.rt:73:36
+-- src/rules.rt:74:36
 read-span-requires : tie.Need-read-span-requires
 read-span-requires c κs = search needs
 
--- src/rules.rt:73:9
+-- src/rules.rt:74:9
 span-good-requires : tie.Need-span-good-requires
 span-good-requires c κs = search needs
 
--- src/rules.rt:74:52
+-- src/rules.rt:75:52
 add-read-span-2 : tie.Need-add-read-span-2
 add-read-span-2 c = search needs
 
--- src/rules.rt:74:36
+-- src/rules.rt:75:36
 read-span-requires-2 : tie.Need-read-span-requires-2
 read-span-requires-2 c κs = search needs
 
--- src/rules.rt:74:9
+-- src/rules.rt:75:9
 span-good-requires-2 : tie.Need-span-good-requires-2
 span-good-requires-2 c κs = search needs
 
--- src/rules.rt:75:32
+-- src/rules.rt:76:32
 add-number-at : tie.Need-add-number-at
 add-number-at c = search needs
 
--- src/rules.rt:75:9
+-- src/rules.rt:76:9
 number-at-requires : tie.Need-number-at-requires
 number-at-requires c κs = search needs
 
--- src/rules.rt:63:1
+-- src/rules.rt:66:1
 returns : tie.Need-returns
 unfolding revisionGood
 returns c =

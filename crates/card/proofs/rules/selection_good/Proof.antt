@@ -1,64 +1,55 @@
 use Rattle.meaning.specs.Refusals.{conditionGood, spanGood, containing, selectionGood}
-use Rattle.meaning.specs.Card.{span, numberAt}
-use lib.Dec.{ltb, eqb}
-use mathlib.Core.Bool.{not, false, _&&_}
-use mathlib.Core.Path.{_≡_, refl, sym, ap, _∙_}
-use mathlib.Core.List.{List, [], _∷_, _++_, append-nil, append-assoc}
-use Prim.Native.Nat.{ℕ, suc, _+_, _-_, _*_, _≤_, _<_}
+use Rattle.meaning.specs.Card.{span}
+use mathlib.Core.Path.{_≡_, ap, _∙_}
+use Prim.Native.Nat.{_+_, _<_}
 use native.Mathlib.Omega.{arith}
 use borrow.Author.Needs.{needs}
 use denote.Ref.{now}
-use lib.ListN.{length, getD, set, take, drop, replicate}
+use lib.ListN.{getD}
 use Rattle.card.proofs.rules.selection_good.Statement.{statement}
 use Rattle.card.proofs.rules.selection_good.Tie as tie
-use Rattle.card.proofs.rules.selection_good.Reads as reads
-use Rattle.card.proofs.rules.selection_good.Lts as lts
-use Rattle.card.proofs.header.read_span.Reads as read-span-reads
-use Rattle.card.proofs.readers.number_at.Reads as number-at-reads
-use Rattle.card.proofs.rules.condition_good.Reads as condition-good-reads
-use Rattle.card.proofs.rules.span_good.Reads as span-good-reads
 
--- src/rules.rt:55:47
+-- src/rules.rt:58:40
 shared-slice-read-condition-good : tie.Need-shared-slice-read-condition-good
 shared-slice-read-condition-good c = search needs
 
--- src/rules.rt:55:9
+-- src/rules.rt:58:9
 condition-good-requires : tie.Need-condition-good-requires
 condition-good-requires c κs = search needs
 
--- src/rules.rt:56:52
+-- src/rules.rt:59:45
 add-condition-good : tie.Need-add-condition-good
 add-condition-good c = search needs
 
--- src/rules.rt:56:47
+-- src/rules.rt:59:40
 shared-slice-read-condition-good-2 : tie.Need-shared-slice-read-condition-good-2
 shared-slice-read-condition-good-2 c = search needs
 
--- src/rules.rt:56:9
+-- src/rules.rt:59:9
 condition-good-requires-2 : tie.Need-condition-good-requires-2
 condition-good-requires-2 c κs = search needs
 
--- src/rules.rt:57:52
+-- src/rules.rt:60:52
 add-read-span : tie.Need-add-read-span
 add-read-span c = search needs
 
--- src/rules.rt:57:36
+-- src/rules.rt:60:36
 read-span-requires : tie.Need-read-span-requires
 read-span-requires c κs = search needs
 
--- src/rules.rt:57:9
+-- src/rules.rt:60:9
 span-good-requires : tie.Need-span-good-requires
 span-good-requires c κs = search needs
 
--- src/rules.rt:58:32
+-- src/rules.rt:61:32
 add-number-at : tie.Need-add-number-at
 add-number-at c = search needs
 
--- src/rules.rt:58:9
+-- src/rules.rt:61:9
 number-at-requires : tie.Need-number-at-requires
 number-at-requires c κs = search needs
 
--- src/rules.rt:47:1
+-- src/rules.rt:46:1
 returns : tie.Need-returns
 unfolding selectionGood
 returns c =

@@ -1,18 +1,12 @@
 use Rattle.sets.proofs.Loops.{Kept, kept-start, kept-turn, kept-all}
 use Rattle.meaning.specs.Refusals.{containing, selectionGood}
 use mathlib.Core.Bool.{Bool}
-use mathlib.Core.Path.{_≡_, refl, sym, ap, _∙_}
-use mathlib.Core.List.{List, [], _∷_, _++_, append-nil, append-assoc}
-use Prim.Native.Nat.{ℕ, suc, _+_, _-_, _*_, _≤_, _<_}
+use Prim.Native.Nat.{ℕ, _+_, _-_, _*_, _≤_}
 use native.Mathlib.Omega.{arith}
 use borrow.Author.Needs.{needs}
 use denote.Ref.{now}
-use lib.ListN.{length, getD, set, take, drop, replicate}
 use Rattle.card.proofs.rules.selections_good.Statement.{statement}
 use Rattle.card.proofs.rules.selections_good.Tie as tie
-use Rattle.card.proofs.rules.selections_good.Reads as reads
-use Rattle.card.proofs.rules.selections_good.Lts as lts
-use Rattle.card.proofs.rules.selection_good.Reads as selection-good-reads
 
 abbrev Inv-loop : tie.InvT-loop
 Inv-loop card l beliefs goals n from good₀ i₀ good i = (i ≤ n) × Kept (λ i. selectionGood (containing 1 l card) (containing 2 l card) l card (from + 8 * i)) n good i
@@ -20,31 +14,31 @@ Inv-loop card l beliefs goals n from good₀ i₀ good i = (i ≤ n) × Kept (λ
 abbrev μ-loop : tie.MeasureT-loop
 μ-loop card l beliefs goals n from good₀ i₀ good i = n - i
 
--- src/rules.rt:105:5
+-- src/rules.rt:108:5
 loop-holds : tie.Need-loop-holds Inv-loop μ-loop
 loop-holds c = (omega arith, kept-start _ _)
 
--- src/rules.rt:106:67
+-- src/rules.rt:109:67
 mul-selection-good : tie.Need-mul-selection-good Inv-loop μ-loop
 mul-selection-good c = search needs
 
--- src/rules.rt:106:60
+-- src/rules.rt:109:60
 add-selection-good : tie.Need-add-selection-good Inv-loop μ-loop
 add-selection-good c = search needs
 
--- src/rules.rt:106:13
+-- src/rules.rt:109:13
 selection-good-requires : tie.Need-selection-good-requires Inv-loop μ-loop
 selection-good-requires c κs = search needs
 
--- src/rules.rt:108:9
+-- src/rules.rt:111:9
 add-i : tie.Need-add-i Inv-loop μ-loop
 add-i c = search needs
 
--- src/rules.rt:105:5
+-- src/rules.rt:108:5
 loop-less : tie.Need-loop-less Inv-loop μ-loop
 loop-less c = search needs
 
--- src/rules.rt:105:5
+-- src/rules.rt:108:5
 loop-again : tie.Need-loop-again Inv-loop μ-loop
 loop-again c =
     let a = c .before .before .before .before .before .args in
@@ -53,7 +47,7 @@ loop-again c =
     let t : ℕ → Bool = λ i. selectionGood (containing 1 (a .l) b) (containing 2 (a .l) b) (a .l) b (a .l .selections .offset + 8 * i) in
     (omega arith, rw (c .selection-good .ensures) (kept-turn t (a .l .selections .count) (l .good) (l .i) (omega arith) (l .inv .1)))
 
--- src/rules.rt:96:1
+-- src/rules.rt:99:1
 returns : tie.Need-returns Inv-loop μ-loop
 returns c =
     let a = c .before .before .before .before .args in

@@ -1,54 +1,46 @@
-use Rattle.meaning.specs.Refusals.{conditionGood, containing}
-use lib.Dec.{ltb}
-use mathlib.Core.Bool.{not, false, _&&_}
-use Rattle.meaning.specs.Refusals.{specificationGood}
-use mathlib.Core.Path.{_≡_, refl, sym, ap, _∙_}
-use mathlib.Core.List.{List, [], _∷_, _++_, append-nil, append-assoc}
-use Prim.Native.Nat.{ℕ, suc, _+_, _-_, _*_, _≤_, _<_}
+use Rattle.meaning.specs.Refusals.{conditionGood, containing, specificationGood}
+use mathlib.Core.Path.{_≡_, _∙_}
+use Prim.Native.Nat.{_+_, _<_}
 use native.Mathlib.Omega.{arith}
 use borrow.Author.Needs.{needs}
 use denote.Ref.{now}
-use lib.ListN.{length, getD, set, take, drop, replicate}
+use lib.ListN.{getD}
 use Rattle.card.proofs.rules.specification_good.Statement.{statement}
 use Rattle.card.proofs.rules.specification_good.Tie as tie
-use Rattle.card.proofs.rules.specification_good.Reads as reads
-use Rattle.card.proofs.rules.specification_good.Lts as lts
-use Rattle.card.proofs.readers.byte_below.Reads as byte-below-reads
-use Rattle.card.proofs.rules.condition_good.Reads as condition-good-reads
 
--- src/rules.rt:42:29
+-- src/rules.rt:40:29
 shared-slice-read-byte-below : tie.Need-shared-slice-read-byte-below
 shared-slice-read-byte-below c = search needs
 
--- src/rules.rt:42:9
+-- src/rules.rt:40:9
 byte-below-requires : tie.Need-byte-below-requires
 byte-below-requires c κs = search needs
 
--- src/rules.rt:43:55
+-- src/rules.rt:41:48
 add-condition-good : tie.Need-add-condition-good
 add-condition-good c = search needs
 
--- src/rules.rt:43:50
+-- src/rules.rt:41:43
 shared-slice-read-condition-good : tie.Need-shared-slice-read-condition-good
 shared-slice-read-condition-good c = search needs
 
--- src/rules.rt:43:9
+-- src/rules.rt:41:9
 condition-good-requires : tie.Need-condition-good-requires
 condition-good-requires c κs = search needs
 
--- src/rules.rt:44:34
+-- src/rules.rt:42:34
 add-result : tie.Need-add-result
 add-result c = search needs
 
--- src/rules.rt:44:29
+-- src/rules.rt:42:29
 shared-slice-read-result : tie.Need-shared-slice-read-result
 shared-slice-read-result c = search needs
 
--- src/rules.rt:44:56
+-- src/rules.rt:42:56
 add-result-2 : tie.Need-add-result-2
 add-result-2 c = search needs
 
--- src/rules.rt:44:51
+-- src/rules.rt:42:51
 shared-slice-read-result-2 : tie.Need-shared-slice-read-result-2
 shared-slice-read-result-2 c = search needs
 

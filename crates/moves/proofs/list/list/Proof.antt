@@ -1,25 +1,16 @@
 use Rattle.meaning.specs.declared.Refusal.{Refusal}
 use Rattle.meaning.specs.Calls.{written}
-use Rattle.moves.specs.Minds.{configurationIn}
+use Rattle.choices.specs.Minds.{configurationIn}
 use Rattle.moves.proofs.Gathering.{listed-state, list-yes, list-not}
 use Rattle.moves.proofs.Taking.{judged-bad, judged-good, held-configuration}
 use Rattle.meaning.proofs.Calls.{lists-refused}
 use Rattle.card.proofs.GoodCard.{good-card}
-use mathlib.Core.Path.{_≡_, refl, sym, ap, _∙_}
-use mathlib.Core.List.{List, [], _∷_, _++_, append-nil, append-assoc}
-use Prim.Native.Nat.{ℕ, suc, _+_, _-_, _*_, _≤_, _<_}
+use mathlib.Core.Path.{refl, sym, ap, _∙_}
 use native.Mathlib.Omega.{arith}
 use borrow.Author.Needs.{needs}
 use denote.Ref.{now}
-use lib.ListN.{length, getD, set, take, drop, replicate}
 use Rattle.moves.proofs.list.list.Statement.{statement}
 use Rattle.moves.proofs.list.list.Tie as tie
-use Rattle.moves.proofs.list.list.Reads as reads
-use Rattle.moves.proofs.list.list.Lts as lts
-use Rattle.moves.proofs.configuration.judge_mind.Reads as judge-mind-reads
-use Rattle.moves.proofs.list.gather.Reads as gather-reads
-use Rattle.moves.proofs.list.no_codes.Reads as no-codes-reads
-use Rattle.moves.proofs.list.write.Reads as write-reads
 
 -- src/list.rt:146:9
 judge-mind-requires : tie.Need-judge-mind-requires

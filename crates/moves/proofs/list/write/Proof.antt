@@ -1,15 +1,13 @@
 use Rattle.moves.proofs.Gathering.{Writing, writing-none, writing-more}
-use mathlib.Core.Path.{_≡_, refl, sym, ap, _∙_}
-use mathlib.Core.List.{List, [], _∷_, _++_, append-nil, append-assoc}
-use Prim.Native.Nat.{ℕ, suc, _+_, _-_, _*_, _≤_, _<_}
+use mathlib.Core.Path.{_≡_, ap, _∙_}
+use mathlib.Core.List.{_++_}
+use Prim.Native.Nat.{ℕ, _-_, _≤_}
 use native.Mathlib.Omega.{arith}
 use borrow.Author.Needs.{needs}
 use denote.Ref.{now}
-use lib.ListN.{length, getD, set, take, drop, replicate}
+use lib.ListN.{take, drop}
 use Rattle.moves.proofs.list.write.Statement.{statement}
 use Rattle.moves.proofs.list.write.Tie as tie
-use Rattle.moves.proofs.list.write.Reads as reads
-use Rattle.moves.proofs.list.write.Lts as lts
 
 abbrev Inv-loop : tie.InvT-loop
 Inv-loop codes n out₀ i₀ out i = (i ≤ n) × Writing codes out₀ i out

@@ -1,28 +1,20 @@
 use Rattle.moves.proofs.Making.{plan-not-empty, acts-to}
-use Rattle.moves.specs.Choosing.{Reached, told, left}
-use Rattle.moves.specs.declared.mind.Next.{Next}
-use Rattle.meaning.specs.Configurations.{padded}
+use Rattle.moves.specs.Reached.{Reached, told, left}
+use Rattle.moves.specs.declared.outcome.Next.{Next}
 use Rattle.meaning.specs.Card.{specificationAt}
 use Rattle.paper.specs.Transitions.{σ′, γ′}
 use Rattle.paper.specs.Atoms.{_∪_, _∖_}
 use lib.Seq.{length-take-le}
 use lib.ListN.{length-drop}
 use mathlib.Core.Path.{ap₂}
-use mathlib.Core.Path.{_≡_, refl, sym, ap, _∙_}
-use mathlib.Core.List.{List, [], _∷_, _++_, append-nil, append-assoc}
-use Prim.Native.Nat.{ℕ, suc, _+_, _-_, _*_, _≤_, _<_}
+use mathlib.Core.Path.{_≡_, sym, ap, _∙_}
+use Prim.Native.Nat.{_-_}
 use native.Mathlib.Omega.{arith}
 use borrow.Author.Needs.{needs}
 use denote.Ref.{now}
-use lib.ListN.{length, getD, set, take, drop, replicate}
+use lib.ListN.{length, take, drop}
 use Rattle.moves.proofs.make.make_action.Statement.{statement}
 use Rattle.moves.proofs.make.make_action.Tie as tie
-use Rattle.moves.proofs.make.make_action.Reads as reads
-use Rattle.moves.proofs.make.make_action.Lts as lts
-use Rattle.card.proofs.readers.set_at.Reads as set-at-reads
-use Rattle.plans.proofs.drop_front.Reads as drop-front-reads
-use Rattle.sets.proofs.difference.Reads as difference-reads
-use Rattle.sets.proofs.union.Reads as union-reads
 
 -- src/make.rt:49:31
 mul-at : tie.Need-mul-at

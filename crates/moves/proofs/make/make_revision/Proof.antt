@@ -1,24 +1,20 @@
 use Rattle.moves.proofs.Making.{head-fits, revised-length, revises-to, revises-full}
-use Rattle.moves.specs.Choosing.{Reached, told, left}
-use Rattle.moves.specs.declared.mind.Next.{Next}
+use Rattle.moves.specs.Reached.{Reached, told, left}
+use Rattle.moves.specs.declared.outcome.Next.{Next}
 use Rattle.card.proofs.GoodCard.{good-as}
 use Rattle.meaning.specs.Configurations.{padded}
-use Rattle.meaning.specs.Card.{part, span, plan, entryAt}
+use Rattle.meaning.specs.Card.{plan}
 use Rattle.meaning.specs.declared.Span.{Span}
 use mathlib.Core.Path.{ap₂}
-use mathlib.Core.Path.{_≡_, refl, sym, ap, _∙_}
-use mathlib.Core.List.{List, [], _∷_, _++_, append-nil, append-assoc}
-use Prim.Native.Nat.{ℕ, suc, _+_, _-_, _*_, _≤_, _<_}
+use mathlib.Core.Path.{sym, ap, _∙_}
+use mathlib.Core.List.{_++_}
+use Prim.Native.Nat.{_+_, _-_, _≤_, _<_}
 use native.Mathlib.Omega.{arith}
 use borrow.Author.Needs.{needs}
 use denote.Ref.{now}
-use lib.ListN.{length, getD, set, take, drop, replicate}
+use lib.ListN.{length, take, drop}
 use Rattle.moves.proofs.make.make_revision.Statement.{statement}
 use Rattle.moves.proofs.make.make_revision.Tie as tie
-use Rattle.moves.proofs.make.make_revision.Reads as reads
-use Rattle.moves.proofs.make.make_revision.Lts as lts
-use Rattle.card.proofs.header.read_span.Reads as read-span-reads
-use Rattle.plans.proofs.replace_front.Reads as replace-front-reads
 
 -- src/make.rt:76:31
 mul-at : tie.Need-mul-at

@@ -1,25 +1,19 @@
-use Rattle.moves.proofs.Making.{plan-empty, plan-length, newPlan, selects-to}
-use Rattle.moves.specs.Choosing.{Reached, told, left}
-use Rattle.moves.specs.Minds.{stateIn}
-use Rattle.moves.specs.declared.mind.Stepped.{Stepped}
-use Rattle.moves.specs.declared.mind.Next.{Next}
+use Rattle.moves.proofs.Making.{plan-empty, plan-length, selects-to}
+use Rattle.moves.specs.Reached.{Reached, told, left}
+use Rattle.moves.specs.declared.outcome.Next.{Next}
 use Rattle.card.proofs.GoodCard.{good-as}
 use Rattle.meaning.specs.Configurations.{padded}
-use Rattle.meaning.specs.Card.{part, span, plan, entryAt, agentFor}
+use Rattle.meaning.specs.Card.{plan, entryAt}
 use Rattle.meaning.specs.declared.Span.{Span}
-use mathlib.Core.Path.{_≡_, refl, sym, ap, _∙_}
-use mathlib.Core.List.{List, [], _∷_, _++_, append-nil, append-assoc}
-use Prim.Native.Nat.{ℕ, suc, _+_, _-_, _*_, _≤_, _<_}
+use mathlib.Core.Path.{sym, ap, _∙_}
+use mathlib.Core.List.{append-nil}
+use Prim.Native.Nat.{_+_}
 use native.Mathlib.Omega.{arith}
 use borrow.Author.Needs.{needs}
 use denote.Ref.{now}
-use lib.ListN.{length, getD, set, take, drop, replicate}
+use lib.ListN.{length}
 use Rattle.moves.proofs.make.make_selection.Statement.{statement}
 use Rattle.moves.proofs.make.make_selection.Tie as tie
-use Rattle.moves.proofs.make.make_selection.Reads as reads
-use Rattle.moves.proofs.make.make_selection.Lts as lts
-use Rattle.card.proofs.header.read_span.Reads as read-span-reads
-use Rattle.plans.proofs.replace_front.Reads as replace-front-reads
 
 -- src/make.rt:26:46
 mul-read-span : tie.Need-mul-read-span

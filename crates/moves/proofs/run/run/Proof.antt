@@ -9,22 +9,15 @@ use Rattle.meaning.specs.Configurations.{stateOf}
 use Rattle.meaning.specs.Calls.{ran}
 use Rattle.meaning.proofs.Calls.{runs-refused, runs-good}
 use Rattle.meaning.proofs.Configurations.{good}
-use Rattle.moves.specs.Minds.{configurationIn}
+use Rattle.choices.specs.Minds.{configurationIn}
 use Rattle.moves.proofs.Taking.{judged-bad, judged-good, held-configuration}
 use Rattle.moves.proofs.Ending.{ran-within, ran-good}
-use mathlib.Core.Path.{_≡_, refl, sym, ap, _∙_}
-use mathlib.Core.List.{List, [], _∷_, _++_, append-nil, append-assoc}
-use Prim.Native.Nat.{ℕ, suc, _+_, _-_, _*_, _≤_, _<_}
+use mathlib.Core.Path.{refl, sym, ap, _∙_}
 use native.Mathlib.Omega.{arith}
 use borrow.Author.Needs.{needs}
 use denote.Ref.{now}
-use lib.ListN.{length, getD, set, take, drop, replicate}
 use Rattle.moves.proofs.run.run.Statement.{statement}
 use Rattle.moves.proofs.run.run.Tie as tie
-use Rattle.moves.proofs.run.run.Reads as reads
-use Rattle.moves.proofs.run.run.Lts as lts
-use Rattle.moves.proofs.configuration.judge_mind.Reads as judge-mind-reads
-use Rattle.moves.proofs.turn.turns.Reads as turns-reads
 
 -- src/run.rt:23:9
 judge-mind-requires : tie.Need-judge-mind-requires

@@ -1,14 +1,6 @@
-use mathlib.Core.Path.{_≡_, refl, sym, ap, _∙_}
-use mathlib.Core.List.{List, [], _∷_, _++_, append-nil, append-assoc}
-use Prim.Native.Nat.{ℕ, suc, _+_, _-_, _*_, _≤_, _<_}
-use native.Mathlib.Omega.{arith}
 use borrow.Author.Needs.{needs}
-use denote.Ref.{now}
-use lib.ListN.{length, getD, set, take, drop, replicate}
 use Rattle.moves.proofs.take.answer_to.Statement.{statement}
 use Rattle.moves.proofs.take.answer_to.Tie as tie
-use Rattle.moves.proofs.take.answer_to.Reads as reads
-use Rattle.moves.proofs.take.answer_to.Lts as lts
 
 -- src/take.rt:123:24
 enum-told : tie.Need-enum-told

@@ -1,21 +1,14 @@
 use Rattle.meaning.specs.Card.{agentFor}
-use Rattle.moves.specs.Choosing.{Reached, told, left, choiceAt}
-use Rattle.moves.specs.Minds.{stateIn}
+use Rattle.choices.specs.Choosing.{choiceAt}
+use Rattle.moves.specs.Reached.{Reached, told, left}
+use Rattle.choices.specs.Minds.{stateIn}
 use Rattle.moves.proofs.Making.{leads-nowhere}
 use Rattle.moves.proofs.Turning.{is-none}
-use mathlib.Core.Path.{_≡_, refl, sym, ap, _∙_}
-use mathlib.Core.List.{List, [], _∷_, _++_, append-nil, append-assoc}
-use Prim.Native.Nat.{ℕ, suc, _+_, _-_, _*_, _≤_, _<_}
-use native.Mathlib.Omega.{arith}
+use mathlib.Core.Path.{sym, ap, _∙_}
 use borrow.Author.Needs.{needs}
 use denote.Ref.{now}
-use lib.ListN.{length, getD, set, take, drop, replicate}
 use Rattle.moves.proofs.take.attempt.Statement.{statement}
 use Rattle.moves.proofs.take.attempt.Tie as tie
-use Rattle.moves.proofs.take.attempt.Reads as reads
-use Rattle.moves.proofs.take.attempt.Lts as lts
-use Rattle.moves.proofs.take.may.Reads as may-reads
-use Rattle.moves.proofs.turn.make.Reads as make-reads
 
 -- src/take.rt:110:8
 may-requires : tie.Need-may-requires

@@ -8,23 +8,16 @@ use Rattle.meaning.specs.Configurations.{stateOf}
 use Rattle.meaning.specs.Calls.{reply}
 use Rattle.meaning.proofs.Calls.{takes-refused}
 use Rattle.meaning.proofs.Configurations.{good}
-use Rattle.moves.specs.Minds.{configurationIn}
-use Rattle.moves.specs.Choosing.{choiceAt, moveBy, taking}
+use Rattle.choices.specs.Minds.{configurationIn}
+use Rattle.choices.specs.Choosing.{choiceAt}
+use Rattle.moves.specs.Reached.{moveBy, taking}
 use Rattle.moves.proofs.Taking.{judged-bad, judged-good, held-configuration, mind-within, taken, takes-unknown, takes-known}
-use mathlib.Core.Path.{_≡_, refl, sym, ap, _∙_}
-use mathlib.Core.List.{List, [], _∷_, _++_, append-nil, append-assoc}
-use Prim.Native.Nat.{ℕ, suc, _+_, _-_, _*_, _≤_, _<_}
+use mathlib.Core.Path.{refl, sym, ap, _∙_}
 use native.Mathlib.Omega.{arith}
 use borrow.Author.Needs.{needs}
 use denote.Ref.{now}
-use lib.ListN.{length, getD, set, take, drop, replicate}
 use Rattle.moves.proofs.take.take.Statement.{statement}
 use Rattle.moves.proofs.take.take.Tie as tie
-use Rattle.moves.proofs.take.take.Reads as reads
-use Rattle.moves.proofs.take.take.Lts as lts
-use Rattle.moves.proofs.configuration.judge_mind.Reads as judge-mind-reads
-use Rattle.moves.proofs.take.answer_to.Reads as answer-to-reads
-use Rattle.moves.proofs.take.attempt.Reads as attempt-reads
 
 -- src/take.rt:132:9
 judge-mind-requires : tie.Need-judge-mind-requires

@@ -1,20 +1,12 @@
 use Rattle.moves.proofs.Turning.{steps-by, steps-nowhere}
-use Rattle.moves.specs.Choosing.{Reached, told, left}
-use Rattle.moves.specs.Minds.{stateIn}
+use Rattle.moves.specs.Reached.{Reached, told, left}
+use Rattle.choices.specs.Minds.{stateIn}
 use Rattle.meaning.specs.Card.{agentFor}
-use mathlib.Core.Path.{_≡_, refl, sym, ap, _∙_}
-use mathlib.Core.List.{List, [], _∷_, _++_, append-nil, append-assoc}
-use Prim.Native.Nat.{ℕ, suc, _+_, _-_, _*_, _≤_, _<_}
-use native.Mathlib.Omega.{arith}
+use mathlib.Core.Path.{sym, ap, _∙_}
 use borrow.Author.Needs.{needs}
 use denote.Ref.{now}
-use lib.ListN.{length, getD, set, take, drop, replicate}
 use Rattle.moves.proofs.turn.step.Statement.{statement}
 use Rattle.moves.proofs.turn.step.Tie as tie
-use Rattle.moves.proofs.turn.step.Reads as reads
-use Rattle.moves.proofs.turn.step.Lts as lts
-use Rattle.moves.proofs.enabled.choose.Reads as choose-reads
-use Rattle.moves.proofs.turn.make.Reads as make-reads
 
 -- src/turn.rt:45:9
 choose-requires : tie.Need-choose-requires

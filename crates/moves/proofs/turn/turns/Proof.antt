@@ -1,26 +1,19 @@
 use Rattle.moves.proofs.Turning.{Running, running-start, running-spent, running-rest, running-full, running-moved, running-judged}
-use Rattle.moves.specs.Truth.{Judged}
-use Rattle.moves.specs.Minds.{stateIn}
-use Rattle.moves.specs.declared.mind.Stepped.{Stepped}
+use Rattle.choices.specs.Truth.{Judged}
+use Rattle.choices.specs.Minds.{stateIn}
+use Rattle.moves.specs.declared.outcome.Stepped.{Stepped}
 use Rattle.meaning.specs.Card.{agentFor}
 use Rattle.paper.proofs.Relation.{false≢true}
 use lib.ListN.{length-replicate}
 use mathlib.Core.Bool.{true, false}
-use mathlib.Core.Path.{_≡_, refl, sym, ap, _∙_}
-use mathlib.Core.List.{List, [], _∷_, _++_, append-nil, append-assoc}
-use Prim.Native.Nat.{ℕ, suc, _+_, _-_, _*_, _≤_, _<_}
+use mathlib.Core.Path.{_≡_, sym, ap, _∙_}
+use Prim.Native.Nat.{_-_}
 use native.Mathlib.Omega.{arith}
 use borrow.Author.Needs.{needs}
 use denote.Ref.{now}
-use lib.ListN.{length, getD, set, take, drop, replicate}
+use lib.ListN.{length}
 use Rattle.moves.proofs.turn.turns.Statement.{statement}
 use Rattle.moves.proofs.turn.turns.Tie as tie
-use Rattle.moves.proofs.turn.turns.Reads as reads
-use Rattle.moves.proofs.turn.turns.Lts as lts
-use Rattle.card.proofs.nodes.no_marks.Reads as no-marks-reads
-use Rattle.moves.proofs.turn.end.Reads as end-reads
-use Rattle.moves.proofs.turn.refresh.Reads as refresh-reads
-use Rattle.moves.proofs.turn.step.Reads as step-reads
 
 abbrev Inv-loop : tie.InvT-loop
 Inv-loop card l plan₀ budget cur₀ marks₀ known₀ count₀ plan cur marks known count = Running (agentFor l card) budget (stateIn cur₀ plan₀) cur plan count × (length marks ≡ 256) × (known ≡ true → Judged l card (cur .beliefs) (cur .goals) marks)

@@ -2,37 +2,28 @@ use Rattle.meaning.specs.Refusals.{placeTable}
 use Rattle.card.specs.Stair.{rowsFrom}
 use Rattle.card.proofs.Stair.{stops, goes-on}
 use mathlib.Core.Bool.{not}
-use mathlib.Core.Path.{_≡_, refl, sym, ap, _∙_}
-use mathlib.Core.List.{List, [], _∷_, _++_, append-nil, append-assoc}
-use Prim.Native.Nat.{ℕ, suc, _+_, _-_, _*_, _≤_, _<_}
-use native.Mathlib.Omega.{arith}
+use mathlib.Core.Path.{sym, ap, _∙_}
 use borrow.Author.Needs.{needs}
 use denote.Ref.{now}
-use lib.ListN.{length, getD, set, take, drop, replicate}
 use Rattle.place.proofs.judge.from_counts.Statement.{statement}
 use Rattle.place.proofs.judge.from_counts.Tie as tie
-use Rattle.place.proofs.judge.from_counts.Reads as reads
-use Rattle.place.proofs.judge.from_counts.Lts as lts
-use Rattle.place.proofs.judge.counts_good.Reads as counts-good-reads
-use Rattle.place.proofs.judge.from_offsets.Reads as from-offsets-reads
-use Rattle.card.proofs.check.row.Reads as row-reads
 
--- src/judge.rt:100:17
+-- src/judge.rt:91:17
 counts-good-requires : tie.Need-counts-good-requires
 counts-good-requires c κs = search needs
 
--- src/judge.rt:100:9
+-- src/judge.rt:91:9
 row-requires : tie.Need-row-requires
 row-requires c κs = search needs
 
 enum-told : tie.Need-enum-told
 enum-told c = search needs
 
--- src/judge.rt:102:9
+-- src/judge.rt:93:9
 enum-told-2 : tie.Need-enum-told-2
 enum-told-2 c = search needs
 
--- src/judge.rt:102:9
+-- src/judge.rt:93:9
 returns : tie.Need-returns
 unfolding rowsFrom placeTable
 returns c =
@@ -40,11 +31,11 @@ returns c =
     let good = c .before .before .before .counts-good in
     stops _ _ b (good .result) (ap not (sym (good .ensures))) (c .before .before .row .result) (c .before .before .row .ensures) _ (c .enum-told2 .given .1)
 
--- src/judge.rt:104:5
+-- src/judge.rt:95:5
 from-offsets-requires : tie.Need-from-offsets-requires
 from-offsets-requires c κs = search needs
 
--- src/judge.rt:96:1
+-- src/judge.rt:87:1
 returns-2 : tie.Need-returns-2
 unfolding rowsFrom placeTable
 returns-2 c =

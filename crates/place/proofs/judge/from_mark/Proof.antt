@@ -2,37 +2,28 @@ use Rattle.meaning.specs.Refusals.{placeTable}
 use Rattle.card.specs.Stair.{rowsFrom}
 use Rattle.card.proofs.Stair.{stops, goes-on}
 use mathlib.Core.Bool.{not}
-use mathlib.Core.Path.{_≡_, refl, sym, ap, _∙_}
-use mathlib.Core.List.{List, [], _∷_, _++_, append-nil, append-assoc}
-use Prim.Native.Nat.{ℕ, suc, _+_, _-_, _*_, _≤_, _<_}
-use native.Mathlib.Omega.{arith}
+use mathlib.Core.Path.{sym, ap, _∙_}
 use borrow.Author.Needs.{needs}
 use denote.Ref.{now}
-use lib.ListN.{length, getD, set, take, drop, replicate}
 use Rattle.place.proofs.judge.from_mark.Statement.{statement}
 use Rattle.place.proofs.judge.from_mark.Tie as tie
-use Rattle.place.proofs.judge.from_mark.Reads as reads
-use Rattle.place.proofs.judge.from_mark.Lts as lts
-use Rattle.place.proofs.judge.from_counts.Reads as from-counts-reads
-use Rattle.place.proofs.judge.mark_good.Reads as mark-good-reads
-use Rattle.card.proofs.check.row.Reads as row-reads
 
--- src/judge.rt:120:17
+-- src/judge.rt:112:17
 mark-good-requires : tie.Need-mark-good-requires
 mark-good-requires c κs = search needs
 
--- src/judge.rt:120:9
+-- src/judge.rt:112:9
 row-requires : tie.Need-row-requires
 row-requires c κs = search needs
 
 enum-told : tie.Need-enum-told
 enum-told c = search needs
 
--- src/judge.rt:122:9
+-- src/judge.rt:114:9
 enum-told-2 : tie.Need-enum-told-2
 enum-told-2 c = search needs
 
--- src/judge.rt:122:9
+-- src/judge.rt:114:9
 returns : tie.Need-returns
 unfolding rowsFrom placeTable
 returns c =
@@ -40,11 +31,11 @@ returns c =
     let good = c .before .before .before .mark-good in
     stops _ _ b (good .result) (ap not (sym (good .ensures))) (c .before .before .row .result) (c .before .before .row .ensures) _ (c .enum-told2 .given .1)
 
--- src/judge.rt:124:5
+-- src/judge.rt:116:5
 from-counts-requires : tie.Need-from-counts-requires
 from-counts-requires c κs = search needs
 
--- src/judge.rt:116:1
+-- src/judge.rt:108:1
 returns-2 : tie.Need-returns-2
 unfolding rowsFrom placeTable
 returns-2 c =

@@ -2,37 +2,28 @@ use Rattle.meaning.specs.Refusals.{placeTable}
 use Rattle.card.specs.Stair.{rowsFrom}
 use Rattle.card.proofs.Stair.{stops, goes-on}
 use mathlib.Core.Bool.{not}
-use mathlib.Core.Path.{_≡_, refl, sym, ap, _∙_}
-use mathlib.Core.List.{List, [], _∷_, _++_, append-nil, append-assoc}
-use Prim.Native.Nat.{ℕ, suc, _+_, _-_, _*_, _≤_, _<_}
-use native.Mathlib.Omega.{arith}
+use mathlib.Core.Path.{sym, ap, _∙_}
 use borrow.Author.Needs.{needs}
 use denote.Ref.{now}
-use lib.ListN.{length, getD, set, take, drop, replicate}
 use Rattle.place.proofs.judge.from_offsets.Statement.{statement}
 use Rattle.place.proofs.judge.from_offsets.Tie as tie
-use Rattle.place.proofs.judge.from_offsets.Reads as reads
-use Rattle.place.proofs.judge.from_offsets.Lts as lts
-use Rattle.place.proofs.judge.from_plan.Reads as from-plan-reads
-use Rattle.place.proofs.judge.offsets_good.Reads as offsets-good-reads
-use Rattle.card.proofs.check.row.Reads as row-reads
 
--- src/judge.rt:78:17
+-- src/judge.rt:68:17
 offsets-good-requires : tie.Need-offsets-good-requires
 offsets-good-requires c κs = search needs
 
--- src/judge.rt:78:9
+-- src/judge.rt:68:9
 row-requires : tie.Need-row-requires
 row-requires c κs = search needs
 
 enum-told : tie.Need-enum-told
 enum-told c = search needs
 
--- src/judge.rt:80:9
+-- src/judge.rt:70:9
 enum-told-2 : tie.Need-enum-told-2
 enum-told-2 c = search needs
 
--- src/judge.rt:80:9
+-- src/judge.rt:70:9
 returns : tie.Need-returns
 unfolding rowsFrom placeTable
 returns c =
@@ -40,11 +31,11 @@ returns c =
     let good = c .before .before .before .offsets-good in
     stops _ _ b (good .result) (ap not (sym (good .ensures))) (c .before .before .row .result) (c .before .before .row .ensures) _ (c .enum-told2 .given .1)
 
--- src/judge.rt:82:5
+-- src/judge.rt:72:5
 from-plan-requires : tie.Need-from-plan-requires
 from-plan-requires c κs = search needs
 
--- src/judge.rt:74:1
+-- src/judge.rt:64:1
 returns-2 : tie.Need-returns-2
 unfolding rowsFrom placeTable
 returns-2 c =

@@ -2,37 +2,28 @@ use Rattle.meaning.specs.Refusals.{placeTable}
 use Rattle.card.specs.Stair.{rowsFrom}
 use Rattle.card.proofs.Stair.{stops, goes-on}
 use mathlib.Core.Bool.{not}
-use mathlib.Core.Path.{_≡_, refl, sym, ap, _∙_}
-use mathlib.Core.List.{List, [], _∷_, _++_, append-nil, append-assoc}
-use Prim.Native.Nat.{ℕ, suc, _+_, _-_, _*_, _≤_, _<_}
-use native.Mathlib.Omega.{arith}
+use mathlib.Core.Path.{sym, ap, _∙_}
 use borrow.Author.Needs.{needs}
 use denote.Ref.{now}
-use lib.ListN.{length, getD, set, take, drop, replicate}
 use Rattle.place.proofs.judge.from_plan.Statement.{statement}
 use Rattle.place.proofs.judge.from_plan.Tie as tie
-use Rattle.place.proofs.judge.from_plan.Reads as reads
-use Rattle.place.proofs.judge.from_plan.Lts as lts
-use Rattle.place.proofs.judge.from_sets.Reads as from-sets-reads
-use Rattle.place.proofs.judge.plan_good.Reads as plan-good-reads
-use Rattle.card.proofs.check.row.Reads as row-reads
 
--- src/judge.rt:57:17
+-- src/judge.rt:46:17
 plan-good-requires : tie.Need-plan-good-requires
 plan-good-requires c κs = search needs
 
--- src/judge.rt:57:9
+-- src/judge.rt:46:9
 row-requires : tie.Need-row-requires
 row-requires c κs = search needs
 
 enum-told : tie.Need-enum-told
 enum-told c = search needs
 
--- src/judge.rt:59:9
+-- src/judge.rt:48:9
 enum-told-2 : tie.Need-enum-told-2
 enum-told-2 c = search needs
 
--- src/judge.rt:59:9
+-- src/judge.rt:48:9
 returns : tie.Need-returns
 unfolding rowsFrom placeTable
 returns c =
@@ -40,11 +31,11 @@ returns c =
     let good = c .before .before .before .plan-good in
     stops _ _ b (good .result) (ap not (sym (good .ensures))) (c .before .before .row .result) (c .before .before .row .ensures) _ (c .enum-told2 .given .1)
 
--- src/judge.rt:61:5
+-- src/judge.rt:50:5
 from-sets-requires : tie.Need-from-sets-requires
 from-sets-requires c κs = search needs
 
--- src/judge.rt:53:1
+-- src/judge.rt:42:1
 returns-2 : tie.Need-returns-2
 unfolding rowsFrom placeTable
 returns-2 c =

@@ -2,29 +2,21 @@ use Rattle.meaning.specs.Refusals.{placeTable}
 use Rattle.card.specs.Stair.{rowsFrom}
 use Rattle.card.proofs.Stair.{last-row, no-row}
 use mathlib.Core.Bool.{not}
-use mathlib.Core.Path.{_≡_, refl, sym, ap, _∙_}
-use mathlib.Core.List.{List, [], _∷_, _++_, append-nil, append-assoc}
-use Prim.Native.Nat.{ℕ, suc, _+_, _-_, _*_, _≤_, _<_}
-use native.Mathlib.Omega.{arith}
+use mathlib.Core.Path.{sym, ap}
 use borrow.Author.Needs.{needs}
 use denote.Ref.{now}
-use lib.ListN.{length, getD, set, take, drop, replicate}
 use Rattle.place.proofs.judge.from_sets.Statement.{statement}
 use Rattle.place.proofs.judge.from_sets.Tie as tie
-use Rattle.place.proofs.judge.from_sets.Reads as reads
-use Rattle.place.proofs.judge.from_sets.Lts as lts
-use Rattle.place.proofs.judge.sets_good.Reads as sets-good-reads
-use Rattle.card.proofs.check.row.Reads as row-reads
 
--- src/judge.rt:42:9
+-- src/judge.rt:30:9
 sets-good-requires : tie.Need-sets-good-requires
 sets-good-requires c κs = search needs
 
--- src/judge.rt:42:5
+-- src/judge.rt:30:5
 row-requires : tie.Need-row-requires
 row-requires c κs = search needs
 
--- src/judge.rt:38:1
+-- src/judge.rt:26:1
 returns : tie.Need-returns
 unfolding rowsFrom placeTable
 returns c =

@@ -1,18 +1,10 @@
 use Rattle.meaning.specs.Configurations.{empty, configurationOf}
 use Rattle.meaning.specs.Card.{part}
-use mathlib.Core.Path.{_≡_, refl, sym, ap, _∙_}
-use mathlib.Core.List.{List, [], _∷_, _++_, append-nil, append-assoc}
-use Prim.Native.Nat.{ℕ, suc, _+_, _-_, _*_, _≤_, _<_}
 use native.Mathlib.Omega.{arith}
 use borrow.Author.Needs.{needs}
-use denote.Ref.{now}
-use lib.ListN.{length, getD, set, take, drop, replicate}
+use lib.ListN.{length, replicate}
 use Rattle.place.proofs.restore.empty_mind.Statement.{statement}
 use Rattle.place.proofs.restore.empty_mind.Tie as tie
-use Rattle.place.proofs.restore.empty_mind.Reads as reads
-use Rattle.place.proofs.restore.empty_mind.Lts as lts
-use Rattle.moves.proofs.configuration.size.Reads as size-reads
-use Rattle.plans.proofs.fill.Reads as fill-reads
 
 -- src/restore.rt:44:9
 size-requires : tie.Need-size-requires

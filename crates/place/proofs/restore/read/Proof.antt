@@ -2,43 +2,35 @@ use Rattle.meaning.specs.Configurations.{padded, configurationOf}
 use Rattle.meaning.specs.Place.{placed}
 use Rattle.meaning.specs.Card.{byte, numberAt, part}
 use lib.Seq.{take-all}
-use lib.ListN.{length-drop}
-use mathlib.Core.Path.{_≡_, refl, sym, ap, _∙_}
-use mathlib.Core.List.{List, [], _∷_, _++_, append-nil, append-assoc}
-use Prim.Native.Nat.{ℕ, suc, _+_, _-_, _*_, _≤_, _<_}
+use lib.ListN.{length-drop, length, drop}
+use mathlib.Core.Path.{_≡_, sym, ap, _∙_}
 use native.Mathlib.Omega.{arith}
 use borrow.Author.Needs.{needs}
 use denote.Ref.{now}
-use lib.ListN.{length, getD, set, take, drop, replicate}
 use Rattle.place.proofs.restore.read.Statement.{statement}
 use Rattle.place.proofs.restore.read.Tie as tie
-use Rattle.place.proofs.restore.read.Reads as reads
-use Rattle.place.proofs.restore.read.Lts as lts
-use Rattle.card.proofs.readers.number_at.Reads as number-at-reads
-use Rattle.card.proofs.readers.set_at.Reads as set-at-reads
-use Rattle.plans.proofs.fill.Reads as fill-reads
 
--- src/restore.rt:26:9
+-- src/restore.rt:27:9
 number-at-requires : tie.Need-number-at-requires
 number-at-requires c κs = search needs
 
--- src/restore.rt:27:9
+-- src/restore.rt:28:9
 set-at-requires : tie.Need-set-at-requires
 set-at-requires c κs = search needs
 
--- src/restore.rt:28:9
+-- src/restore.rt:29:9
 set-at-requires-2 : tie.Need-set-at-requires-2
 set-at-requires-2 c κs = search needs
 
--- src/restore.rt:29:5
+-- src/restore.rt:30:5
 fill-requires : tie.Need-fill-requires
 fill-requires c κs = search needs
 
--- src/restore.rt:30:17
+-- src/restore.rt:31:17
 shared-slice-read-phase : tie.Need-shared-slice-read-phase
 shared-slice-read-phase c = search needs
 
--- src/restore.rt:22:1
+-- src/restore.rt:23:1
 returns : tie.Need-returns
 unfolding configurationOf placed part
 returns c =

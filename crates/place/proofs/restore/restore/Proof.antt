@@ -1,21 +1,12 @@
 use Rattle.meaning.specs.declared.Answer.the-variants.{Done}
 use Rattle.meaning.specs.Calls.{reply}
 use Rattle.place.proofs.Laws.{few-atoms, sized, restores-good, restores-refused}
-use mathlib.Core.Path.{_≡_, refl, sym, ap, _∙_}
-use mathlib.Core.List.{List, [], _∷_, _++_, append-nil, append-assoc}
-use Prim.Native.Nat.{ℕ, suc, _+_, _-_, _*_, _≤_, _<_}
-use native.Mathlib.Omega.{arith}
+use mathlib.Core.Path.{_≡_, sym, ap, _∙_}
 use borrow.Author.Needs.{needs}
 use denote.Ref.{now}
-use lib.ListN.{length, getD, set, take, drop, replicate}
+use lib.ListN.{length}
 use Rattle.place.proofs.restore.restore.Statement.{statement}
 use Rattle.place.proofs.restore.restore.Tie as tie
-use Rattle.place.proofs.restore.restore.Reads as reads
-use Rattle.place.proofs.restore.restore.Lts as lts
-use Rattle.moves.proofs.configuration.size.Reads as size-reads
-use Rattle.place.proofs.judge.judge_place.Reads as judge-place-reads
-use Rattle.place.proofs.restore.empty_mind.Reads as empty-mind-reads
-use Rattle.place.proofs.restore.read.Reads as read-reads
 
 -- src/restore.rt:59:9
 size-requires : tie.Need-size-requires

@@ -1,17 +1,14 @@
-use lib.ListN.{length-set}
+use lib.ListN.{length-set, length, getD, set}
 use native.Mathlib.Numerals.{add-one}
 use lib.Seq.{paste, paste-zero, paste-suc}
 use mathlib.Core.Path.{_≡_, refl, sym, ap, _∙_}
-use mathlib.Core.List.{List, [], _∷_, _++_, append-nil, append-assoc}
-use Prim.Native.Nat.{ℕ, suc, _+_, _-_, _*_, _≤_, _<_}
+use mathlib.Core.List.{List}
+use Prim.Native.Nat.{ℕ, _+_, _-_, _≤_}
 use native.Mathlib.Omega.{arith}
 use borrow.Author.Needs.{needs}
 use denote.Ref.{now}
-use lib.ListN.{length, getD, set, take, drop, replicate}
 use Rattle.place.proofs.save.copy.Statement.{statement}
 use Rattle.place.proofs.save.copy.Tie as tie
-use Rattle.place.proofs.save.copy.Reads as reads
-use Rattle.place.proofs.save.copy.Lts as lts
 
 abbrev Inv-loop : tie.InvT-loop
 Inv-loop out₀ at src n i₀ out i = (i ≤ n) × (length out ≡ length out₀) × (out ≡ paste out₀ at src i)
@@ -19,31 +16,31 @@ Inv-loop out₀ at src n i₀ out i = (i ≤ n) × (length out ≡ length out₀
 abbrev μ-loop : tie.MeasureT-loop
 μ-loop out₀ at src n i₀ out i = n - i
 
--- src/save.rt:49:5
+-- src/save.rt:50:5
 loop-holds : tie.Need-loop-holds Inv-loop μ-loop
 loop-holds c = (omega arith, refl, paste-zero (now (c .args .out)) (c .args .at) (now (c .args .src)))
 
--- src/save.rt:50:23
+-- src/save.rt:51:23
 shared-slice-read-out : tie.Need-shared-slice-read-out Inv-loop μ-loop
 shared-slice-read-out c = search needs
 
--- src/save.rt:50:13
+-- src/save.rt:51:13
 add-out : tie.Need-add-out Inv-loop μ-loop
 add-out c = search needs
 
--- src/save.rt:50:9
+-- src/save.rt:51:9
 slice-write-out : tie.Need-slice-write-out Inv-loop μ-loop
 slice-write-out c = search needs
 
--- src/save.rt:51:9
+-- src/save.rt:52:9
 add-i : tie.Need-add-i Inv-loop μ-loop
 add-i c = search needs
 
--- src/save.rt:49:5
+-- src/save.rt:50:5
 loop-less : tie.Need-loop-less Inv-loop μ-loop
 loop-less c = search needs
 
--- src/save.rt:49:5
+-- src/save.rt:50:5
 loop-again : tie.Need-loop-again Inv-loop μ-loop
 loop-again c =
     let a = c .before .before .before .args in
@@ -54,11 +51,11 @@ loop-again c =
       ap (λ (x : List ℕ). set x (a .at + l .i) v) (l .inv .2) ∙ paste-suc (now (a .out)) (a .at) (now (a .src)) (l .i) 0 (omega arith) (omega arith) ∙ ap (paste (now (a .out)) (a .at) (now (a .src))) (sym (add-one (l .i))),
     )
 
--- src/save.rt:44:1
+-- src/save.rt:45:1
 same-length : tie.Need-same-length Inv-loop μ-loop
 same-length c = search needs
 
--- src/save.rt:44:1
+-- src/save.rt:45:1
 returns : tie.Need-returns Inv-loop μ-loop
 returns c =
     let a = c .before .before .args in

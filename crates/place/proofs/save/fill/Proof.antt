@@ -1,19 +1,13 @@
 use Rattle.meaning.specs.Place.{placeHeader}
-use Rattle.moves.specs.Minds.{configurationIn}
+use Rattle.choices.specs.Minds.{configurationIn}
 use Rattle.place.proofs.Written.{place-written}
-use mathlib.Core.Path.{_≡_, refl, sym, ap, _∙_}
-use mathlib.Core.List.{List, [], _∷_, _++_, append-nil, append-assoc}
-use Prim.Native.Nat.{ℕ, suc, _+_, _-_, _*_, _≤_, _<_}
+use mathlib.Core.Path.{_≡_, ap}
 use native.Mathlib.Omega.{arith}
 use borrow.Author.Needs.{needs}
 use denote.Ref.{now}
-use lib.ListN.{length, getD, set, take, drop, replicate}
+use lib.ListN.{length}
 use Rattle.place.proofs.save.fill.Statement.{statement}
 use Rattle.place.proofs.save.fill.Tie as tie
-use Rattle.place.proofs.save.fill.Reads as reads
-use Rattle.place.proofs.save.fill.Lts as lts
-use Rattle.place.proofs.save.copy.Reads as copy-reads
-use Rattle.place.proofs.save.head.Reads as head-reads
 
 -- the sets of the configuration are as long as their types say
 lb : (c : tie.Start) → length (c .args .m .beliefs) ≡ 16

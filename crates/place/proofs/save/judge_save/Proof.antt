@@ -1,24 +1,15 @@
 use Rattle.card.proofs.Stair.{row-done}
 use Rattle.meaning.proofs.Configurations.{good}
-use Rattle.card.specs.Stair.{rowAnswer}
 use Rattle.meaning.specs.Refusals.{configurationGood}
 use Rattle.meaning.specs.declared.Refusal.{Refusal}
 use Rattle.place.proofs.Laws.{refused-first, passed-first}
 use Rattle.place.specs.PlaceRows.{savedFrom}
-use Rattle.moves.specs.Minds.{configurationIn}
-use mathlib.Core.Path.{_≡_, refl, sym, ap, _∙_}
-use mathlib.Core.List.{List, [], _∷_, _++_, append-nil, append-assoc}
-use Prim.Native.Nat.{ℕ, suc, _+_, _-_, _*_, _≤_, _<_}
-use native.Mathlib.Omega.{arith}
+use Rattle.choices.specs.Minds.{configurationIn}
+use mathlib.Core.Path.{sym, _∙_}
 use borrow.Author.Needs.{needs}
 use denote.Ref.{now}
-use lib.ListN.{length, getD, set, take, drop, replicate}
 use Rattle.place.proofs.save.judge_save.Statement.{statement}
 use Rattle.place.proofs.save.judge_save.Tie as tie
-use Rattle.place.proofs.save.judge_save.Reads as reads
-use Rattle.place.proofs.save.judge_save.Lts as lts
-use Rattle.card.proofs.check.row.Reads as row-reads
-use Rattle.moves.proofs.configuration.judge_mind.Reads as judge-mind-reads
 
 -- src/save.rt:76:9
 judge-mind-requires : tie.Need-judge-mind-requires

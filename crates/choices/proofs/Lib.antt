@@ -1,0 +1,4 @@
+pub mod Truths
+pub mod Enabledness
+pub mod Choices
+pub mod Zeros

@@ -1,0 +1,89 @@
+-- What a node is marked with is the truth of its condition (Definition 8).
+use mathlib.Core.Path.{_≡_, refl, ap, ap₂, _∙_, sym}
+use mathlib.Core.Bool.{Bool, true, false, not, _&&_, _||_}
+use mathlib.Core.List.{List}
+use Prim.Native.Nat.{ℕ, zero, suc, _≤_, _<_}
+use native.Mathlib.Nat.{not-suc-le-zero}
+use native.Mathlib.Omega.{arith}
+use lib.ListN.{getD}
+use Rattle.paper.specs.Atoms.{Atoms}
+use Rattle.paper.specs.Language.{Letter, 𝐁, 𝐆, Query, ⊤, Config}
+use Rattle.paper.specs.Transitions.{_⊨_}
+use Rattle.paper.proofs.Relation.{false≢true}
+use Rattle.meaning.specs.declared.Layout.{Layout}
+use Rattle.meaning.specs.Card.{Bytes, queryOf, conditions, condition}
+use Rattle.meaning.specs.Refusals.{nodesGood, containsOf, containing}
+use Rattle.meaning.proofs.Nodes.{node-rule, made-of, contains-at, condition-at}
+use Rattle.layout.specs.Laid.{kindOf, aOf, bOf}
+use Rattle.card.specs.GoodCard.{GoodCondition}
+use Rattle.choices.specs.Truth.{truthOf, truths}
+
+truth-children : (σ γ : Atoms) (k a b : ℕ) (t t′ : ℕ → Bool) → (3 ≤ k → t a ≡ t′ a) → (4 ≤ k → t b ≡ t′ b) → truthOf k a b σ γ t ≡ truthOf k a b σ γ t′
+truth-children σ γ zero a b t t′ f s = refl
+truth-children σ γ (suc zero) a b t t′ f s = refl
+truth-children σ γ (suc (suc zero)) a b t t′ f s = refl
+truth-children σ γ (suc (suc (suc zero))) a b t t′ f s = ap not (f (omega arith))
+truth-children σ γ (suc (suc (suc (suc zero)))) a b t t′ f s = ap₂ _&&_ (f (omega arith)) (s (omega arith))
+truth-children σ γ (suc (suc (suc (suc (suc k))))) a b t t′ f s = ap₂ _||_ (f (omega arith)) (s (omega arith))
+
+module _ (l : Layout) (b : Bytes) (good : nodesGood l b ≡ true) (σ γ : Atoms) where
+  truth-at : (i : ℕ) → i < l .nodes .count → getD (truths l b σ γ) i false ≡ truthOf (kindOf l b i) (aOf l b i) (bOf l b i) σ γ (λ j. getD (truths l b σ γ) j false)
+  unfolding truths
+  truth-at i h = made-of l b good i h (λ k a b t. truthOf k a b σ γ t) false (truth-children σ γ)
+
+  -- a turn of the pass: what is marked at node i by marks that are right below it
+  pub truth-next : (i : ℕ) → i < l .nodes .count → (marks : List Bool) → ((j : ℕ) → j < i → getD marks j false ≡ getD (truths l b σ γ) j false)
+      → truthOf (kindOf l b i) (aOf l b i) (bOf l b i) σ γ (λ j. getD marks j false) ≡ getD (truths l b σ γ) i false
+  truth-next i h marks same =
+      let r = node-rule l b good i h in
+      truth-children σ γ (kindOf l b i) (aOf l b i) (bOf l b i) (λ j. getD marks j false) (λ j. getD (truths l b σ γ) j false)
+      (λ k. same (aOf l b i) (r .first k)) (λ k. same (bOf l b i) (r .second k))
+      ∙ sym (truth-at i h)
+
+-- ---- the truth of a condition of the right kind
+
+-- the kind of the atoms that a query of a letter may not contain
+abbrev pub other : Letter → ℕ
+other 𝐁 = 2
+other 𝐆 = 1
+
+or-false : (a b : Bool) → a || b ≡ false → (a ≡ false) × (b ≡ false)
+or-false true b e = absurd (false≢true (sym e))
+or-false false b e = (refl, e)
+
+-- one node: its truth is that of its query, if this holds of its children and no atom is of the other kind
+node-truth : (L : Letter) (c : Config) (k a b : ℕ) → k ≤ 5 → (t : ℕ → Bool) (q : ℕ → Query L) (contains : ℕ → Bool)
+    → containsOf (other L) k a b contains ≡ false
+    → (3 ≤ k → contains a ≡ false → t a ≡ (c ⊨ q a)) → (4 ≤ k → contains b ≡ false → t b ≡ (c ⊨ q b))
+    → truthOf k a b (c .σ) (c .γ) t ≡ (c ⊨ queryOf k a b q)
+unfolding _⊨_
+node-truth L c zero a b h t q n e f s = refl
+node-truth 𝐁 c (suc zero) a b h t q n e f s = refl
+node-truth 𝐆 c (suc zero) a b h t q n e f s = absurd (false≢true (sym e))
+node-truth 𝐁 c (suc (suc zero)) a b h t q n e f s = absurd (false≢true (sym e))
+node-truth 𝐆 c (suc (suc zero)) a b h t q n e f s = refl
+node-truth L c (suc (suc (suc zero))) a b h t q n e f s = ap not (f (omega arith) e)
+node-truth L c (suc (suc (suc (suc zero)))) a b h t q n e f s =
+    let (x, y) = or-false (n a) (n b) e in
+    ap₂ _&&_ (f (omega arith) x) (s (omega arith) y)
+node-truth L c (suc (suc (suc (suc (suc zero))))) a b h t q n e f s =
+    let (x, y) = or-false (n a) (n b) e in
+    ap₂ _||_ (f (omega arith) x) (s (omega arith) y)
+node-truth L c (suc (suc (suc (suc (suc (suc k)))))) a b h t q n e f s = absurd (omega arith)
+
+module _ (l : Layout) (b : Bytes) (good : nodesGood l b ≡ true) (L : Letter) (c : Config) where
+  -- by the nodes below m
+  below : (m n : ℕ) → n < m → n < l .nodes .count → getD (containing (other L) l b) n false ≡ false
+      → getD (truths l b (c .σ) (c .γ)) n false ≡ (c ⊨ condition (conditions L l b) n)
+  below zero n h k e = absurd (not-suc-le-zero h)
+  below (suc m) n h k e =
+      let r = node-rule l b good n k in
+      truth-at l b good (c .σ) (c .γ) n k
+      ∙ node-truth L c (kindOf l b n) (aOf l b n) (bOf l b n) (r .kinds) (λ j. getD (truths l b (c .σ) (c .γ)) j false) (λ j. getD (conditions L l b) j ⊤) (λ j. getD (containing (other L) l b) j false)
+      (sym (contains-at l b good n k (other L)) ∙ e)
+      (λ x y. (let z = r .first x in below m (aOf l b n) (omega arith) (omega arith) y))
+      (λ x y. (let z = r .second x in below m (bOf l b n) (omega arith) (omega arith) y))
+      ∙ ap (λ φ. c ⊨ φ) (sym (condition-at l b good n k L))
+
+  pub condition-truth : (n : ℕ) → GoodCondition l b (other L) n → getD (truths l b (c .σ) (c .γ)) n false ≡ (c ⊨ condition (conditions L l b) n)
+  condition-truth n g = below (suc n) n (omega arith) (g .known) (g .kind)

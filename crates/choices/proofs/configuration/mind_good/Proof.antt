@@ -1,0 +1,53 @@
+use Rattle.choices.proofs.Zeros.{regrouped}
+use Rattle.meaning.specs.Refusals.{configurationGood, actionsGood, setGood, all}
+use lib.Dec.{leb, eqb}
+use borrow.Author.Tests.{lt-leb, le-leb}
+use mathlib.Core.Bool.{true, false, and-assoc}
+use mathlib.Core.Path.{_≡_}
+use Prim.Native.Nat.{_-_}
+use native.Mathlib.Omega.{arith}
+use borrow.Author.Needs.{needs}
+use denote.Ref.{now}
+use lib.ListN.{length, take, drop}
+use Rattle.choices.proofs.configuration.mind_good.Statement.{statement}
+use Rattle.choices.proofs.configuration.mind_good.Tie as tie
+
+-- src/configuration.rt:55:9
+size-requires : tie.Need-size-requires
+size-requires c κs = search needs
+
+-- src/configuration.rt:58:9
+returns : tie.Need-returns
+unfolding configurationGood
+returns c =
+    let a = c .before .before .before .args in
+    let d = now (a .plan) in
+    let r : length d ≡ 1024 = search needs in
+    let e : leb (a .m .length) 1024 ≡ false = lt-leb (a .m .length) 1024 (omega arith) in
+    (rw e, r)
+
+-- src/configuration.rt:62:9
+plan-good-requires : tie.Need-plan-good-requires
+plan-good-requires c κs = search needs
+
+-- src/configuration.rt:63:9
+both-known-requires : tie.Need-both-known-requires
+both-known-requires c κs = search needs
+
+-- src/configuration.rt:51:1
+returns-2 : tie.Need-returns-2
+unfolding configurationGood
+returns-2 c =
+    let a = c .before .before .before .before .before .before .before .before .args in
+    let d = now (a .plan) in
+    let r : length d ≡ 1024 = search needs in
+    let n = a .l .atoms in
+    let B = setGood n (a .m .beliefs) in
+    let G = setGood n (a .m .goals) in
+    let e : leb (a .m .length) 1024 ≡ true = le-leb (a .m .length) 1024 (omega arith) in
+    (rw (e, c .before .before .plan-good .ensures, c .before .both-known .ensures, and-assoc B G (leb (a .m .phase) 2), regrouped (actionsGood (a .l .actions) (take (a .m .length) d)) (all (λ x. eqb x 0) (drop (a .m .length) d)) B G (leb (a .m .phase) 2)), r)
+
+pub mind-good-spec : {M : Type 1} → statement M
+mind-good-spec =
+    tie.close
+    (tie.spec size-requires returns plan-good-requires both-known-requires returns-2)

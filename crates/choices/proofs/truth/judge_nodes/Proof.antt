@@ -1,0 +1,72 @@
+use Rattle.choices.proofs.Truths.{truth-next}
+use Rattle.choices.specs.Truth.{truths}
+use Rattle.sets.proofs.Loops.{below-turn}
+use lib.ListN.{length-set}
+use mathlib.Core.Bool.{false}
+use mathlib.Core.Path.{_≡_, _∙_}
+use Prim.Native.Nat.{ℕ, _-_, _≤_, _<_}
+use native.Mathlib.Omega.{arith}
+use borrow.Author.Needs.{needs}
+use denote.Ref.{now}
+use lib.ListN.{length, getD}
+use Rattle.choices.proofs.truth.judge_nodes.Statement.{statement}
+use Rattle.choices.proofs.truth.judge_nodes.Tie as tie
+
+abbrev Inv-loop : tie.InvT-loop
+Inv-loop card l beliefs goals marks₀ n i₀ marks i = (i ≤ n) × (length marks ≡ 256) × ((j : ℕ) → j < i → getD marks j false ≡ getD (truths l card beliefs goals) j false)
+
+abbrev μ-loop : tie.MeasureT-loop
+μ-loop card l beliefs goals marks₀ n i₀ marks i = n - i
+
+-- src/truth.rt:57:5
+loop-holds : tie.Need-loop-holds Inv-loop μ-loop
+loop-holds c = (omega arith, c .before .before .pre .1, λ j h. absurd (omega arith))
+
+-- src/truth.rt:58:13
+truth-at-requires : tie.Need-truth-at-requires Inv-loop μ-loop
+truth-at-requires c κs = search needs
+
+-- src/truth.rt:59:9
+element-write-marks : tie.Need-element-write-marks Inv-loop μ-loop
+element-write-marks c = search needs
+
+-- src/truth.rt:60:9
+add-i : tie.Need-add-i Inv-loop μ-loop
+add-i c = search needs
+
+-- src/truth.rt:57:5
+loop-less : tie.Need-loop-less Inv-loop μ-loop
+loop-less c = search needs
+
+-- src/truth.rt:57:5
+loop-again : tie.Need-loop-again Inv-loop μ-loop
+loop-again c =
+    let a = c .before .before .before .before .before .before .args in
+    let p = c .before .before .before .before .before .before .pre .0 in
+    let l = c .before .before .before .loop in
+    let b = now (a .card) in
+    let k : l .i < a .l .nodes .count = omega arith in
+    let r = l .inv .1 in (
+      omega arith,
+      simp length-set (l .inv .1),
+      below-turn (λ j. getD (truths (a .l) b (a .beliefs) (a .goals)) j false) (l .marks) (l .i) (c .truth-at .result) false (let q = p .laid .nodes in omega arith) (l .inv .2)
+          (c .truth-at .ensures ∙ truth-next (a .l) b (p .nodes) (a .beliefs) (a .goals) (l .i) k (l .marks) (l .inv .2)),
+    )
+
+-- src/truth.rt:44:1
+returns : tie.Need-returns Inv-loop μ-loop
+returns c = (λ n h. c .before .loop .inv .2 n (omega arith), c .before .loop .inv .1)
+
+pub judge-nodes-spec : {M : Type 1} → statement M
+judge-nodes-spec =
+    tie.close
+    (tie.spec
+    Inv-loop
+    μ-loop
+    loop-holds
+    truth-at-requires
+    element-write-marks
+    add-i
+    loop-less
+    loop-again
+    returns)

@@ -1,0 +1,3 @@
+pub mod Truth
+pub mod Minds
+pub mod Choosing

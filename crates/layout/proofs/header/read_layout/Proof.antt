@@ -1,0 +1,66 @@
+use Rattle.meaning.specs.Card.{layout}
+use borrow.Author.Needs.{needs}
+use Rattle.layout.proofs.header.read_layout.Statement.{statement}
+use Rattle.layout.proofs.header.read_layout.Tie as tie
+
+-- src/header.rt:41:16
+number-at-requires : tie.Need-number-at-requires
+number-at-requires c κs = search needs
+
+-- src/header.rt:42:18
+number-at-requires-2 : tie.Need-number-at-requires-2
+number-at-requires-2 c κs = search needs
+
+-- src/header.rt:43:16
+read-section-requires : tie.Need-read-section-requires
+read-section-requires c κs = search needs
+
+-- src/header.rt:44:25
+read-section-requires-2 : tie.Need-read-section-requires-2
+read-section-requires-2 c κs = search needs
+
+-- src/header.rt:45:21
+read-section-requires-3 : tie.Need-read-section-requires-3
+read-section-requires-3 c κs = search needs
+
+-- src/header.rt:46:20
+read-section-requires-4 : tie.Need-read-section-requires-4
+read-section-requires-4 c κs = search needs
+
+-- src/header.rt:47:15
+read-section-requires-5 : tie.Need-read-section-requires-5
+read-section-requires-5 c κs = search needs
+
+-- src/header.rt:48:18
+read-span-requires : tie.Need-read-span-requires
+read-span-requires c κs = search needs
+
+-- src/header.rt:36:1
+returns : tie.Need-returns
+unfolding layout
+returns c =
+    let a = c .before .before .before .before .before .before .before .number-at .ensures in
+    let b = c .before .before .before .before .before .before .number-at2 .ensures in
+    let d = c .before .before .before .before .before .read-section .ensures in
+    let e = c .before .before .before .before .read-section2 .ensures in
+    let f = c .before .before .before .read-section3 .ensures in
+    let g = c .before .before .read-section4 .ensures in
+    let h = c .before .read-section5 .ensures in
+    let k = c .read-span .ensures in (
+      λ i. record { atoms = a .0 i; actions = b .0 i; nodes = d .0 i; specifications = e .0 i; selections = f .0 i; revisions = g .0 i; pool = h .0 i; initial = k .0 i },
+      record { atoms = a .1; actions = b .1; nodes = d .1; specifications = e .1; selections = f .1; revisions = g .1; pool = h .1; initial = k .1 },
+    )
+
+pub read-layout-spec : {M : Type 1} → statement M
+read-layout-spec =
+    tie.close
+    (tie.spec
+    number-at-requires
+    number-at-requires-2
+    read-section-requires
+    read-section-requires-2
+    read-section-requires-3
+    read-section-requires-4
+    read-section-requires-5
+    read-span-requires
+    returns)

@@ -1,0 +1,26 @@
+use borrow.Author.Needs.{needs}
+use lib.ListN.{length}
+use Rattle.layout.proofs.header.read_span.Statement.{statement}
+use Rattle.layout.proofs.header.read_span.Tie as tie
+
+-- src/header.rt:30:16
+number-at-requires : tie.Need-number-at-requires
+number-at-requires c κs = search needs
+
+-- src/header.rt:31:33
+add-number-at : tie.Need-add-number-at
+add-number-at c = search needs
+
+-- src/header.rt:31:17
+number-at-requires-2 : tie.Need-number-at-requires-2
+number-at-requires-2 c κs = search needs
+
+-- src/header.rt:25:1
+returns : tie.Need-returns
+returns c =
+    let n = c .before .number-at .ensures in
+    let m = c .number-at2 .ensures in
+    (λ i. record { start = n .0 i; length = m .0 i }, record { start = n .1; length = m .1 })
+
+pub read-span-spec : {M : Type 1} → statement M
+read-span-spec = tie.close (tie.spec number-at-requires add-number-at number-at-requires-2 returns)

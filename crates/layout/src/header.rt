@@ -1,0 +1,92 @@
+// A card's header: its layout by name, and rows 3 and 4 of the refusal table over it.
+ghost use mathlib.Core.Path.{_≡_};
+ghost use Prim.Native.Nat.{_+_, _*_, _≤_};
+ghost use lib.ListN.{length};
+ghost use Rattle.meaning.specs.Card.{section, span, layout};
+ghost use Rattle.meaning.specs.Refusals.{within, countsGood, offsetsGood};
+ghost use Rattle.layout.specs.Laid.{NarrowSection, NarrowSpan, Narrow};
+use crate::readers::number_at;
+use meaning::Layout;
+use meaning::Section;
+use meaning::Span;
+
+// A section's count and offset.
+fn read_section(card: &[u8], at: usize) -> Section
+    requires { ⌜ at + 4 ≤ length (now card) ⌝ }
+    ensures { λ r. ⌜ (r ≡ section (now (card .entry)) at) × NarrowSection r ⌝ }
+{
+    Section {
+        count: number_at(card, at),
+        offset: number_at(card, at + 2),
+    }
+}
+
+// A plan's start and length.
+pub fn read_span(card: &[u8], at: usize) -> Span
+    requires { ⌜ at + 4 ≤ length (now card) ⌝ }
+    ensures { λ r. ⌜ (r ≡ span (now (card .entry)) at) × NarrowSpan r ⌝ }
+{
+    Span {
+        start: number_at(card, at),
+        length: number_at(card, at + 2),
+    }
+}
+
+// What the header says.
+pub fn read_layout(card: &[u8]) -> Layout
+    requires { ⌜ 64 ≤ length (now card) ⌝ }
+    ensures { λ r. ⌜ (r ≡ layout (now (card .entry))) × Narrow r ⌝ }
+{
+    Layout {
+        atoms: number_at(card, 4),
+        actions: number_at(card, 6),
+        nodes: read_section(card, 8),
+        specifications: read_section(card, 12),
+        selections: read_section(card, 16),
+        revisions: read_section(card, 20),
+        pool: read_section(card, 24),
+        initial: read_span(card, 28),
+    }
+}
+
+// Whether n is from low to high.
+pub fn in_range(low: usize, high: usize, n: usize) -> bool
+    ensures { λ r. ⌜ r ≡ within low high n ⌝ }
+{
+    (low <= n) & (n <= high)
+}
+
+// Row 3: every count is in its range.
+pub fn counts_good(l: Layout) -> bool
+    ensures { λ r. ⌜ r ≡ countsGood l ⌝ }
+{
+    let nodes = l.nodes;
+    let specifications = l.specifications;
+    let selections = l.selections;
+    let revisions = l.revisions;
+    let pool = l.pool;
+    in_range(1, 128, l.atoms)
+        & (in_range(1, 256, l.actions)
+            & (in_range(1, 256, nodes.count)
+                & ((specifications.count <= 256)
+                    & ((selections.count <= 256)
+                        & ((revisions.count <= 256) & (pool.count <= 8192))))))
+}
+
+// Row 4: every offset, and the length n of the whole, is the required one.
+pub fn offsets_good(l: Layout, n: usize) -> bool
+    requires { ⌜ Narrow l ⌝ }
+    ensures { λ r. ⌜ r ≡ offsetsGood l n ⌝ }
+{
+    let nodes = l.nodes;
+    let specifications = l.specifications;
+    let selections = l.selections;
+    let revisions = l.revisions;
+    let pool = l.pool;
+    (nodes.offset == 64 + 2 * l.actions)
+        & ((specifications.offset == nodes.offset + 4 * nodes.count)
+            & ((selections.offset == specifications.offset + 36 * specifications.count)
+                & ((revisions.offset == selections.offset + 8 * selections.count)
+                    & ((pool.offset == revisions.offset + 12 * revisions.count)
+                        & (n == pool.offset + pool.count)))))
+}

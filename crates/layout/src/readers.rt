@@ -1,0 +1,65 @@
+// Readers of bytes, a card's or a place's: a number, a set or a plan from a place on.
+ghost use mathlib.Core.Path.{_≡_};
+ghost use mathlib.Core.List.{[]};
+ghost use Prim.Native.Nat.{_+_, _*_, _≤_};
+ghost use lib.Dec.{ltb};
+ghost use lib.ListN.{length};
+ghost use Rattle.meaning.specs.Card.{numberAt, part};
+ghost use Rattle.meaning.specs.Configurations.{padded};
+
+// Two bytes, low byte first.
+fn two_bytes(low: u8, high: u8) -> usize
+    ensures { λ r. ⌜ (r ≡ low + 256 * high) × (r ≤ 65535) ⌝ }
+{
+    (low as usize) + 256 * (high as usize)
+}
+
+// The number at a place.
+pub fn number_at(bytes: &[u8], at: usize) -> usize
+    requires { ⌜ at + 2 ≤ length (now bytes) ⌝ }
+    ensures { λ r. ⌜ (r ≡ numberAt (now (bytes .entry)) at) × (r ≤ 65535) ⌝ }
+{
+    two_bytes(bytes[at], bytes[at + 1])
+}
+
+// Whether a byte is below a number.
+pub fn byte_below(x: u8, n: usize) -> bool
+    ensures { λ r. ⌜ r ≡ ltb x n ⌝ }
+{
+    (x as usize) < n
+}
+
+// The set at a place.
+pub fn set_at(bytes: &[u8], at: usize) -> [u8; 16]
+    requires { ⌜ at + 16 ≤ length (now bytes) ⌝ }
+    ensures { λ r. ⌜ r ≡ part (now (bytes .entry)) at 16 ⌝ }
+{
+    let mut r = [0u8; 16];
+    let mut i: usize = 0;
+    while i < 16 {
+        r[i] = bytes[at + i];
+        i += 1;
+    }
+    r
+}
+
+// No action.
+pub fn no_plan() -> [u8; 1024]
+    ensures { λ r. ⌜ r ≡ padded [] ⌝ }
+{
+    [0u8; 1024]
+}
+
+// A plan of n bytes from a place on, with zeros after its end.
+pub fn plan_at(bytes: &[u8], at: usize, n: usize) -> [u8; 1024]
+    requires { ⌜ (at + n ≤ length (now bytes)) × (n ≤ 1024) ⌝ }
+    ensures { λ r. ⌜ r ≡ padded (part (now (bytes .entry)) at n) ⌝ }
+{
+    let mut plan = no_plan();
+    let mut i: usize = 0;
+    while i < n {
+        plan[i] = bytes[at + i];
+        i += 1;
+    }
+    plan
+}

@@ -1,0 +1,25 @@
+use Rattle.meaning.specs.Refusals.{setGood}
+use Rattle.sets.proofs.KnownAtoms.{good-∪}
+use mathlib.Core.Path.{ap, _∙_}
+use Prim.Native.Nat.{_-_}
+use native.Mathlib.Omega.{arith}
+use borrow.Author.Needs.{needs}
+use Rattle.sets.proofs.both_known.Statement.{statement}
+use Rattle.sets.proofs.both_known.Tie as tie
+
+-- src/lib.rt:112:11
+union-requires : tie.Need-union-requires
+union-requires c κs = search needs
+
+-- src/lib.rt:112:5
+known-requires : tie.Need-known-requires
+known-requires c κs = search needs
+
+-- src/lib.rt:108:1
+returns : tie.Need-returns
+returns c =
+    let a = c .before .before .args in
+    c .known .ensures ∙ ap (setGood (a .atoms)) (c .before .union .ensures) ∙ good-∪ (a .atoms) (a .a) (a .b) (omega arith)
+
+pub both-known-spec : {M : Type 1} → statement M
+both-known-spec = tie.close (tie.spec union-requires known-requires returns)

@@ -1,0 +1,60 @@
+-- Weights, one action after the other and one part of a card after the other.
+use mathlib.Core.Path.{_≡_, ap, _∙_, sym, subst}
+use mathlib.Core.List.{List, [], _∷_, _++_, map}
+use Prim.Native.Nat.{ℕ, zero, suc, _+_, _*_, _≤_, _<_}
+use native.Mathlib.Nat.{zero-add}
+use native.Mathlib.Numerals.{add-one}
+use native.Mathlib.Decide.{decLt}
+use native.Mathlib.Omega.{arith}
+use lib.ListN.{length, getD, take, drop, drop-of-length-le, List·getD-eq-default}
+use lib.Seq.{drop-cons, take-add, drop-drop}
+use Rattle.house.specs.Weight.{weigh}
+use Rattle.house.specs.Order.{numbers}
+use Rattle.house.proofs.Numbers.{length-made, made-at}
+use Rattle.house.proofs.Weight.{weigh-append}
+use Rattle.meaning.specs.declared.Layout.{Layout}
+use Rattle.meaning.specs.Card.{Bytes, part, layout, weightAt, weights, weight}
+use Rattle.card.specs.GoodCard.{GoodCard}
+
+pub weight-known : (b : Bytes) (a : ℕ) → a < layout b .actions → weight b a ≡ weightAt b a
+unfolding weight weights
+weight-known b a h = made-at (weightAt b) 0 (layout b .actions) a 1 h ∙ ap (weightAt b) (zero-add a)
+
+pub weigh-next : (w : ℕ → ℕ) (π : List ℕ) (i : ℕ) → i < length π → weigh w (drop i π) ≡ w (getD π i 0) + weigh w (drop (i + 1) π)
+unfolding weigh
+weigh-next w π i h = rw (add-one, drop-cons π i 0 h)
+
+pub weigh-done : (w : ℕ → ℕ) (π : List ℕ) (i : ℕ) → length π ≤ i → weigh w (drop i π) ≡ 0
+unfolding weigh
+weigh-done w π i h = rw (drop-of-length-le π h)
+
+-- m actions and the n behind them weigh together what both weigh
+pub weigh-part : (w : ℕ → ℕ) (b : Bytes) (at m n : ℕ) → weigh w (part b at (m + n)) ≡ weigh w (part b at m) + weigh w (part b (at + m) n)
+unfolding part
+weigh-part w b at m n =
+    ap (weigh w) (take-add m n (drop at b) ∙ ap (λ x. take m (drop at b) ++ take n x) (drop-drop m at b))
+    ∙ weigh-append w (take m (drop at b)) (take n (drop (at + m) b))
+
+pub weigh-no-part : (w : ℕ → ℕ) (b : Bytes) (at n : ℕ) → n ≡ 0 → weigh w (part b at n) ≡ 0
+unfolding part weigh
+weigh-no-part w b at n e = ap (λ k. weigh w (part b at k)) e
+
+-- of actions that weigh at most 1,024 each, n weigh at most 1,024 times n
+weigh-most : (w : ℕ → ℕ) → ((a : ℕ) → w a ≤ 1024) → (n : ℕ) (π : List ℕ) → weigh w (take n π) ≤ 1024 * n
+unfolding weigh
+weigh-most w most zero π = omega arith
+weigh-most w most (suc n) [] = omega arith
+weigh-most w most (suc n) (a ∷ π) = let h = weigh-most w most n π in omega (arith, most a)
+
+weight-most : (l : Layout) (b : Bytes) → GoodCard l b → (a : ℕ) → weight b a ≤ 1024
+unfolding weight weights
+weight-most l b g a = elim (decLt a (layout b .actions)) [
+  | yes h ↦ rw (weight-known b a h) (g .weights a (subst (λ (x : Layout). a < x .actions) (sym (g .laid .says)) h) .most)
+  | no h ↦
+      let past : length (map (weightAt b) (numbers 0 (layout b .actions))) ≤ a = rw (length-made (weightAt b) 0 (layout b .actions)) (omega arith) in
+      rw (List·getD-eq-default (map (weightAt b) (numbers 0 (layout b .actions))) 1 past) (omega arith)
+]
+
+pub part-most : (l : Layout) (b : Bytes) → GoodCard l b → (at n : ℕ) → weigh (weight b) (part b at n) ≤ 1024 * n
+unfolding part
+part-most l b g at n = weigh-most (weight b) (weight-most l b g) n (drop at b)

@@ -1,0 +1,53 @@
+use Rattle.verdict.proofs.Offenders.{verdict-light, verdict-heavy}
+use Rattle.meaning.specs.Card.{weight, plan, agentFor, agent, layout, initialPlan}
+use Rattle.meaning.specs.declared.Layout.{Layout}
+use Rattle.house.specs.Weight.{weigh, light, lowers, firstOffender}
+use Rattle.house.specs.declared.Verdict.{Verdict}
+use Rattle.house.specs.declared.Offender.{Offender}
+use Rattle.paper.specs.Language.{Agent}
+use mathlib.Core.Path.{_≡_, sym, ap, _∙_}
+use Prim.Native.Nat.{_≤_, _<_}
+use native.Mathlib.Omega.{arith}
+use borrow.Author.Needs.{needs}
+use denote.Ref.{now}
+use Rattle.verdict.proofs.grade.from_initial.Statement.{statement}
+use Rattle.verdict.proofs.grade.from_initial.Tie as tie
+
+-- src/grade.rt:87:8
+plan-weight-requires : tie.Need-plan-weight-requires
+plan-weight-requires c κs = search needs
+
+-- src/grade.rt:88:9
+from-selections-requires : tie.Need-from-selections-requires
+from-selections-requires c κs = search needs
+
+-- src/grade.rt:82:1
+returns : tie.Need-returns
+unfolding agent initialPlan
+returns c =
+    let a = c .before .before .before .before .before .args in
+    let b = now (a .card) in
+    let w = weight b in
+    let says : a .l ≡ layout b = c .before .before .before .before .before .pre .0 .laid .says in
+    let π : plan (a .l) b (a .l .initial) ≡ initialPlan b = ap (λ (x : Layout). plan x b (x .initial)) says in
+    let e : weigh w (initialPlan b) ≤ 1024 = rw (← π, ← c .before .before .plan-weight .ensures) (omega arith) in
+    let A : agentFor (a .l) b ≡ agent b = ap (λ (x : Layout). agentFor x b) says in
+    c .from-selections .ensures
+    ∙ ap (λ (x : Agent). firstOffender (λ r. light w (r .π)) Offender.Selection 0 (x .PS) (firstOffender (lowers w) Offender.Revision 0 (x .PR) Verdict.Bounded)) A
+    ∙ sym (verdict-light w (agent b) (initialPlan b) e)
+
+-- src/grade.rt:82:1
+returns-2 : tie.Need-returns-2
+unfolding agent initialPlan
+returns-2 c =
+    let a = c .before .before .before .before .args in
+    let b = now (a .card) in
+    let w = weight b in
+    let says : a .l ≡ layout b = c .before .before .before .before .pre .0 .laid .says in
+    let π : plan (a .l) b (a .l .initial) ≡ initialPlan b = ap (λ (x : Layout). plan x b (x .initial)) says in
+    let e : 1024 < weigh w (initialPlan b) = rw (← π, ← c .before .plan-weight .ensures) (omega arith) in
+    sym (verdict-heavy w (agent b) (initialPlan b) e)
+
+pub from-initial-spec : {M : Type 1} → statement M
+from-initial-spec =
+    tie.close (tie.spec plan-weight-requires from-selections-requires returns returns-2)

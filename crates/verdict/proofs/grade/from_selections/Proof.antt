@@ -1,0 +1,82 @@
+use Rattle.verdict.proofs.Offenders.{Left, left-start, left-turn, left-bad, left-none}
+use Rattle.meaning.specs.Card.{weight, conditions, selectionAt, entryAt, agentOf, agentFor}
+use Rattle.house.specs.Weight.{light, lowers, firstOffender}
+use Rattle.house.specs.declared.Verdict.{Verdict}
+use Rattle.house.specs.declared.Offender.{Offender}
+use Rattle.paper.specs.Language.{𝐁, 𝐆}
+use borrow.Author.Tests.{not-true, not-false}
+use mathlib.Core.Path.{sym, _∙_}
+use Prim.Native.Nat.{_-_, _≤_}
+use native.Mathlib.Omega.{arith}
+use borrow.Author.Needs.{needs}
+use denote.Ref.{now}
+use Rattle.verdict.proofs.grade.from_selections.Statement.{statement}
+use Rattle.verdict.proofs.grade.from_selections.Tie as tie
+
+abbrev Inv-loop : tie.InvT-loop
+Inv-loop card l sums n i₀ i = (i ≤ n) × Left (λ x. light (weight card) (x .π)) Offender.Selection (λ j. selectionAt (conditions 𝐁 l card) (conditions 𝐆 l card) l card (entryAt 8 (l .selections) j)) n (firstOffender (lowers (weight card)) Offender.Revision 0 (agentFor l card .PR) Verdict.Bounded) i
+
+abbrev μ-loop : tie.MeasureT-loop
+μ-loop card l sums n i₀ i = n - i
+
+-- src/grade.rt:72:5
+loop-holds : tie.Need-loop-holds Inv-loop μ-loop
+loop-holds c = (omega arith, left-start _ _ _ _ _)
+
+-- src/grade.rt:73:13
+selection-light-requires : tie.Need-selection-light-requires Inv-loop μ-loop
+selection-light-requires c κs = search needs
+
+-- src/grade.rt:74:13
+returns : tie.Need-returns Inv-loop μ-loop
+unfolding agentFor agentOf selectionAt
+returns c =
+    let a = c .before .before .before .before .before .before .args in
+    let l = c .before .before .before .loop in
+    let b = now (a .card) in
+    left-bad (λ x. light (weight b) (x .π)) Offender.Selection (λ j. selectionAt (conditions 𝐁 (a .l) b) (conditions 𝐆 (a .l) b) (a .l) b (entryAt 8 (a .l .selections) j)) (a .l .selections .count) (firstOffender (lowers (weight b)) Offender.Revision 0 (agentFor (a .l) b .PR) Verdict.Bounded) (l .i) (omega arith) (sym (c .before .selection-light .ensures) ∙ not-true _ (c .if1 .taken)) (l .inv .1)
+
+-- src/grade.rt:76:9
+add-i : tie.Need-add-i Inv-loop μ-loop
+add-i c = search needs
+
+-- src/grade.rt:72:5
+loop-less : tie.Need-loop-less Inv-loop μ-loop
+loop-less c = search needs
+
+-- src/grade.rt:72:5
+loop-again : tie.Need-loop-again Inv-loop μ-loop
+unfolding agentFor agentOf selectionAt
+loop-again c =
+    let a = c .before .before .before .before .before .before .args in
+    let l = c .before .before .before .loop in
+    let b = now (a .card) in
+    (omega arith, left-turn (λ x. light (weight b) (x .π)) Offender.Selection (λ j. selectionAt (conditions 𝐁 (a .l) b) (conditions 𝐆 (a .l) b) (a .l) b (entryAt 8 (a .l .selections) j)) (a .l .selections .count) (firstOffender (lowers (weight b)) Offender.Revision 0 (agentFor (a .l) b .PR) Verdict.Bounded) (l .i) (omega arith) (sym (c .before .selection-light .ensures) ∙ not-false _ (c .if1 .left)) (l .inv .1))
+
+-- src/grade.rt:78:5
+from-revisions-requires : tie.Need-from-revisions-requires Inv-loop μ-loop
+from-revisions-requires c κs = search needs
+
+-- src/grade.rt:65:1
+returns-2 : tie.Need-returns-2 Inv-loop μ-loop
+unfolding agentFor agentOf selectionAt
+returns-2 c =
+    let a = c .before .before .before .before .before .args in
+    let l = c .before .before .loop in
+    let b = now (a .card) in
+    c .from-revisions .ensures ∙ left-none (λ x. light (weight b) (x .π)) Offender.Selection (λ j. selectionAt (conditions 𝐁 (a .l) b) (conditions 𝐆 (a .l) b) (a .l) b (entryAt 8 (a .l .selections) j)) (a .l .selections .count) (firstOffender (lowers (weight b)) Offender.Revision 0 (agentFor (a .l) b .PR) Verdict.Bounded) (l .i) (omega arith) (l .inv .1)
+
+pub from-selections-spec : {M : Type 1} → statement M
+from-selections-spec =
+    tie.close
+    (tie.spec
+    Inv-loop
+    μ-loop
+    loop-holds
+    selection-light-requires
+    returns
+    add-i
+    loop-less
+    loop-again
+    from-revisions-requires
+    returns-2)

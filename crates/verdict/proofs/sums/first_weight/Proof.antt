@@ -1,0 +1,77 @@
+use Rattle.meaning.specs.Card.{part, weight}
+use Rattle.house.specs.Weight.{weigh}
+use Rattle.verdict.proofs.Weights.{weigh-part, part-most}
+use mathlib.Core.Path.{_≡_, ap}
+use Prim.Native.Nat.{_+_, _*_, _/_, _%_}
+use native.Mathlib.Omega.{arith}
+use borrow.Author.Needs.{needs}
+use denote.Ref.{now}
+use Rattle.verdict.proofs.sums.first_weight.Statement.{statement}
+use Rattle.verdict.proofs.sums.first_weight.Tie as tie
+
+-- src/sums.rt:68:37
+mul-part-weight : tie.Need-mul-part-weight
+mul-part-weight c = search needs
+
+-- src/sums.rt:68:9
+part-weight-requires : tie.Need-part-weight-requires
+part-weight-requires c κs = search needs
+
+-- src/sums.rt:69:6
+mul-result : tie.Need-mul-result
+mul-result c = search needs
+
+-- src/sums.rt:69:6
+element-copy-out-result : tie.Need-element-copy-out-result
+element-copy-out-result c = search needs
+
+-- src/sums.rt:69:6
+cast-result : tie.Need-cast-result
+cast-result c =
+    let a = c .before .before .before .args in
+    let p = c .before .before .before .pre in
+    let b = now (a .card) in
+    let e = p .1 (a .n / 16) (omega arith) in
+    let m = part-most (a .l) b (p .0) (a .l .pool .offset) (16 * (a .n / 16)) in
+    omega arith
+
+-- src/sums.rt:69:5
+add-result : tie.Need-add-result
+add-result c =
+    let a = c .before .before .before .args in
+    let p = c .before .before .before .pre in
+    let b = now (a .card) in
+    let at = a .l .pool .offset in
+    let k = a .n / 16 in
+    let e = p .1 k (omega arith) in
+    let m = part-most (a .l) b (p .0) at (16 * k) in
+    let f = c .before .part-weight .ensures in
+    let n = part-most (a .l) b (p .0) (at + 16 * k) (a .n % 16) in
+    omega arith
+
+-- src/sums.rt:63:1
+returns : tie.Need-returns
+returns c =
+    let a = c .before .before .before .args in
+    let p = c .before .before .before .pre in
+    let b = now (a .card) in
+    let at = a .l .pool .offset in
+    let k = a .n / 16 in
+    let e = p .1 k (omega arith) in
+    let f = c .before .part-weight .ensures in
+    let s = weigh-part (weight b) b at (16 * k) (a .n % 16) in
+    let n : 16 * k + a .n % 16 ≡ a .n = omega arith in
+    let t : weigh (weight b) (part b at (16 * k + a .n % 16)) ≡ weigh (weight b) (part b at (a .n)) = ap (λ x. weigh (weight b) (part b at x)) n in
+    omega arith
+
+pub first-weight-spec : {M : Type 1} → statement M
+first-weight-spec =
+    tie.close
+    (tie.spec
+    mul-part-weight
+    part-weight-requires
+    mul-result
+    element-copy-out-result
+    cast-result
+    add-result
+    returns)

@@ -1,0 +1,109 @@
+use Rattle.verdict.proofs.Weights.{weigh-next, weigh-done}
+use Rattle.meaning.proofs.Parts.{length-part, part-at}
+use Rattle.meaning.specs.Card.{part, weight}
+use Rattle.house.specs.Weight.{weigh}
+use mathlib.Core.Path.{_≡_, sym, ap, _∙_}
+use Prim.Native.Nat.{_+_, _-_, _*_, _≤_, _<_}
+use native.Mathlib.Omega.{arith}
+use borrow.Author.Needs.{needs}
+use denote.Ref.{now}
+use lib.ListN.{length, getD, drop}
+use Rattle.verdict.proofs.sums.part_weight.Statement.{statement}
+use Rattle.verdict.proofs.sums.part_weight.Tie as tie
+
+abbrev Inv-loop : tie.InvT-loop
+Inv-loop card l from n at total₀ i₀ total i = (i ≤ n) × (total ≤ 1024 * i) × (total + weigh (weight card) (drop i (part card at n)) ≡ weigh (weight card) (part card at n))
+
+abbrev μ-loop : tie.MeasureT-loop
+μ-loop card l from n at total₀ i₀ total i = n - i
+
+-- src/sums.rt:27:14
+add-at : tie.Need-add-at Inv-loop μ-loop
+add-at c = search needs
+
+-- src/sums.rt:30:5
+loop-holds : tie.Need-loop-holds Inv-loop μ-loop
+loop-holds c = (omega arith, omega arith, omega arith)
+
+-- src/sums.rt:31:42
+add-weight-of : tie.Need-add-weight-of Inv-loop μ-loop
+add-weight-of c = search needs
+
+-- src/sums.rt:31:37
+shared-slice-read-weight-of : tie.Need-shared-slice-read-weight-of Inv-loop μ-loop
+shared-slice-read-weight-of c = search needs
+
+-- src/sums.rt:31:18
+weight-of-requires : tie.Need-weight-of-requires Inv-loop μ-loop
+weight-of-requires c κs =
+    let a = c .before .before .before .before .before .before .args in
+    let l = c .before .before .loop in
+    let p = c .before .before .before .before .before .before .pre in
+    let b = now (a .card) in
+    let g = p .1 in
+    let k : a .from + l .i < a .l .pool .count = omega arith in
+    let e : a .l .pool .offset + (a .from + l .i) ≡ a .l .pool .offset + a .from + l .i = omega arith in
+    (p .0, rw e at (p .0 .pool (a .from + l .i) k))
+
+-- src/sums.rt:31:9
+add-total : tie.Need-add-total Inv-loop μ-loop
+add-total c = search needs
+
+-- src/sums.rt:32:9
+add-i : tie.Need-add-i Inv-loop μ-loop
+add-i c = search needs
+
+-- src/sums.rt:30:5
+loop-less : tie.Need-loop-less Inv-loop μ-loop
+loop-less c = search needs
+
+-- src/sums.rt:30:5
+loop-again : tie.Need-loop-again Inv-loop μ-loop
+loop-again c =
+    let a = c .before .before .before .before .before .before .before .args in
+    let l = c .before .before .before .loop in
+    let b = now (a .card) in
+    let at = a .l .pool .offset + a .from in
+    let π = part b at (a .n) in
+    let p = c .before .before .before .before .before .before .before .pre in
+    let d = p .0 .laid in
+    let g = p .1 in
+    let n : length π ≡ a .n = length-part b at (a .n) (omega arith) in
+    let e : c .weight-of .result ≡ weight b (getD π (l .i) 0) = c .weight-of .ensures .0 ∙ ap (weight b) (sym (part-at b at (a .n) (l .i) (omega arith))) in
+    let s = weigh-next (weight b) π (l .i) (omega arith) in
+    let u = l .inv .2 in
+    let m = c .weight-of .ensures .1 in
+    (omega arith, omega arith, omega arith)
+
+-- src/sums.rt:22:1
+returns : tie.Need-returns Inv-loop μ-loop
+returns c =
+    let a = c .before .before .before .before .before .args in
+    let l = c .before .loop in
+    let b = now (a .card) in
+    let at = a .l .pool .offset + a .from in
+    let π = part b at (a .n) in
+    let p = c .before .before .before .before .before .pre in
+    let d = p .0 .laid in
+    let g = p .1 in
+    let n : length π ≡ a .n = length-part b at (a .n) (omega arith) in
+    let s = weigh-done (weight b) π (l .i) (omega arith) in
+    let u = l .inv .2 in
+    omega arith
+
+pub part-weight-spec : {M : Type 1} → statement M
+part-weight-spec =
+    tie.close
+    (tie.spec
+    Inv-loop
+    μ-loop
+    add-at
+    loop-holds
+    add-weight-of
+    shared-slice-read-weight-of
+    weight-of-requires
+    add-total
+    add-i
+    loop-less
+    loop-again
+    returns)

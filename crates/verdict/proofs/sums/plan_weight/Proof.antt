@@ -1,0 +1,46 @@
+use Rattle.meaning.specs.Card.{plan, weight}
+use Rattle.verdict.proofs.Weights.{weigh-part}
+use native.Mathlib.Omega.{arith}
+use borrow.Author.Needs.{needs}
+use denote.Ref.{now}
+use lib.ListN.{length}
+use Rattle.verdict.proofs.sums.plan_weight.Statement.{statement}
+use Rattle.verdict.proofs.sums.plan_weight.Tie as tie
+
+-- src/sums.rt:77:9
+first-weight-requires : tie.Need-first-weight-requires
+first-weight-requires c κs = search needs
+
+-- src/sums.rt:78:45
+add-first-weight : tie.Need-add-first-weight
+add-first-weight c = search needs
+
+-- src/sums.rt:78:9
+first-weight-requires-2 : tie.Need-first-weight-requires-2
+first-weight-requires-2 c κs = search needs
+
+-- src/sums.rt:79:5
+sub-result : tie.Need-sub-result
+sub-result c =
+    let a = c .before .before .before .before .args in
+    let b = now (a .card) in
+    let e = weigh-part (weight b) b (a .l .pool .offset) (a .s .start) (a .s .length) in
+    let f = c .before .before .first-weight .ensures in
+    let g = c .first-weight2 .ensures in
+    omega arith
+
+-- src/sums.rt:73:1
+returns : tie.Need-returns
+unfolding plan
+returns c =
+    let a = c .before .before .before .before .args in
+    let b = now (a .card) in
+    let e = weigh-part (weight b) b (a .l .pool .offset) (a .s .start) (a .s .length) in
+    let f = c .before .before .first-weight .ensures in
+    let g = c .first-weight2 .ensures in
+    omega arith
+
+pub plan-weight-spec : {M : Type 1} → statement M
+plan-weight-spec =
+    tie.close
+    (tie.spec first-weight-requires add-first-weight first-weight-requires-2 sub-result returns)

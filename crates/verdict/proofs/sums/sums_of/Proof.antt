@@ -1,0 +1,127 @@
+use lib.ListN.{length-set, length-replicate, getD-replicate, length, getD}
+use Rattle.meaning.specs.Card.{part, weight}
+use Rattle.house.specs.Weight.{weigh}
+use Rattle.sets.proofs.Loops.{below-turn}
+use Rattle.verdict.proofs.Weights.{weigh-part, weigh-no-part, part-most}
+use mathlib.Core.Path.{_≡_, refl, sym, ap, _∙_}
+use Prim.Native.Nat.{ℕ, _+_, _-_, _*_, _≤_, _<_}
+use native.Mathlib.Omega.{arith}
+use borrow.Author.Needs.{needs}
+use denote.Ref.{now}
+use Rattle.verdict.proofs.sums.sums_of.Statement.{statement}
+use Rattle.verdict.proofs.sums.sums_of.Tie as tie
+
+abbrev Inv-loop : tie.InvT-loop
+Inv-loop card l n sums₀ total₀ k₀ sums total k = (k ≤ n) × (length sums ≡ 513) × (total ≡ weigh (weight card) (part card (l .pool .offset) (16 * k))) × ((j : ℕ) → j < k + 1 → getD sums j 0 ≡ weigh (weight card) (part card (l .pool .offset) (16 * j)))
+
+abbrev μ-loop : tie.MeasureT-loop
+μ-loop card l n sums₀ total₀ k₀ sums total k = n - k
+
+-- src/sums.rt:51:20
+no-sums-requires : tie.Need-no-sums-requires Inv-loop μ-loop
+no-sums-requires c κs = search needs
+
+-- src/sums.rt:54:5
+loop-holds : tie.Need-loop-holds Inv-loop μ-loop
+loop-holds c =
+    let a = c .before .before .before .before .args in
+    let b = now (a .card) in
+    let e = c .no-sums .ensures in
+    (omega arith, rw e (length-replicate {A = ℕ} 513 0), sym (weigh-no-part (weight b) b (a .l .pool .offset) 0 refl), λ j h. rw e (getD-replicate {A = ℕ} 513 j 0 0 (omega arith) ∙ sym (weigh-no-part (weight b) b (a .l .pool .offset) (16 * j) (omega arith))))
+
+-- src/sums.rt:55:39
+mul-part-weight : tie.Need-mul-part-weight Inv-loop μ-loop
+mul-part-weight c = search needs
+
+-- src/sums.rt:55:18
+part-weight-requires : tie.Need-part-weight-requires Inv-loop μ-loop
+part-weight-requires c κs = search needs
+
+-- src/sums.rt:55:9
+add-total : tie.Need-add-total Inv-loop μ-loop
+add-total c =
+    let a = c .before .before .before .before .before .before .before .args in
+    let p = c .before .before .before .before .before .before .before .pre in
+    let l = c .before .before .loop in
+    let b = now (a .card) in
+    let at = a .l .pool .offset in
+    let e = l .inv .2 in
+    let m = part-most (a .l) b p at (16 * l .k) in
+    let f = c .part-weight .ensures in
+    let n = part-most (a .l) b p (at + 16 * l .k) 16 in
+    omega arith
+
+-- src/sums.rt:56:9
+add-k : tie.Need-add-k Inv-loop μ-loop
+add-k c = search needs
+
+-- src/sums.rt:57:19
+cast-sums : tie.Need-cast-sums Inv-loop μ-loop
+cast-sums c =
+    let a = c .before .before .before .before .before .before .before .args in
+    let p = c .before .before .before .before .before .before .before .pre in
+    let l = c .before .before .loop in
+    let b = now (a .card) in
+    let at = a .l .pool .offset in
+    let e = l .inv .2 in
+    let m = part-most (a .l) b p at (16 * l .k) in
+    let f = c .part-weight .ensures in
+    let n = part-most (a .l) b p (at + 16 * l .k) 16 in
+    omega arith
+
+-- src/sums.rt:57:9
+mul-sums : tie.Need-mul-sums Inv-loop μ-loop
+mul-sums c = search needs
+
+-- src/sums.rt:57:9
+array-write-sums : tie.Need-array-write-sums Inv-loop μ-loop
+array-write-sums c = search needs
+
+-- src/sums.rt:54:5
+loop-less : tie.Need-loop-less Inv-loop μ-loop
+loop-less c = search needs
+
+-- src/sums.rt:54:5
+loop-again : tie.Need-loop-again Inv-loop μ-loop
+loop-again c =
+    let a = c .before .before .before .before .before .before .before .args in
+    let p = c .before .before .before .before .before .before .before .pre in
+    let l = c .before .before .loop in
+    let b = now (a .card) in
+    let at = a .l .pool .offset in
+    let e = l .inv .2 in
+    let f = c .part-weight .ensures in
+    let s = weigh-part (weight b) b at (16 * l .k) 16 in
+    let n : 16 * l .k + 16 ≡ 16 * (l .k + 1) = omega arith in
+    let t : weigh (weight b) (part b at (16 * l .k + 16)) ≡ weigh (weight b) (part b at (16 * (l .k + 1))) = ap (λ x. weigh (weight b) (part b at x)) n in
+    let u : l .total + c .part-weight .result ≡ weigh (weight b) (part b at (16 * (l .k + 1))) = omega arith in (
+      omega arith,
+      simp length-set (l .inv .1),
+      u,
+      below-turn (λ j. weigh (weight b) (part b at (16 * j))) (l .sums) (l .k + 1) (l .total + c .part-weight .result) 0 (let r = l .inv .1 in let d = p .laid .pool in omega arith) (l .inv .3) u,
+    )
+
+-- src/sums.rt:45:1
+returns : tie.Need-returns Inv-loop μ-loop
+returns c =
+    let l = c .before .loop in
+    λ k h. l .inv .3 k (omega arith)
+
+pub sums-of-spec : {M : Type 1} → statement M
+sums-of-spec =
+    tie.close
+    (tie.spec
+    Inv-loop
+    μ-loop
+    no-sums-requires
+    loop-holds
+    mul-part-weight
+    part-weight-requires
+    add-total
+    add-k
+    cast-sums
+    mul-sums
+    array-write-sums
+    loop-less
+    loop-again
+    returns)
