@@ -67,17 +67,15 @@ pub extern "C" fn rigtemple_load_parts(
 ) -> u16
     ensures { λ r. ⌜ replied (loads (now (card .entry))) r (whole (now (beliefs .exit)) (now (goals .exit)) (now (plan .exit)) (now (length .exit)) (now (phase .exit))) ⌝ }
 {
-    let r = guide::load(card);
-    let b = r.configuration.beliefs;
-    let g = r.configuration.goals;
-    let p = r.configuration.plan;
-    *beliefs = b;
-    *goals = g;
-    *plan = p;
-    *length = r.configuration.length;
-    *phase = r.configuration.phase;
-    let a = r.answer;
-    answer_number(a)
+    let v = check(card);
+    let Checked::Good(l) = v else {
+        let none = empty_mind(plan);
+        put(none, beliefs, goals, length, phase);
+        return answer_number(answer_of(v));
+    };
+    let m = place::load::load(card, l, plan);
+    put(m, beliefs, goals, length, phase);
+    0
 }
 
 // The configuration after the chosen move; as it came in, in a refusal.

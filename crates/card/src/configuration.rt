@@ -1,8 +1,15 @@
 // The empty configuration, which answers a refusal.
 ghost use mathlib.Core.Path.{_≡_};
-ghost use Rattle.meaning.specs.Configurations.{empty};
-use layout::readers::no_plan;
+ghost use mathlib.Core.List.{[]};
+ghost use Rattle.meaning.specs.Configurations.{padded, empty};
 use meaning::Configuration;
+
+// No action.
+fn no_plan() -> [u8; 1024]
+    ensures { λ r. ⌜ r ≡ padded [] ⌝ }
+{
+    [0u8; 1024]
+}
 
 // "the empty one (no atoms, empty plan, phase 0)"
 pub fn empty_configuration() -> Configuration

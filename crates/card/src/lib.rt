@@ -1,7 +1,6 @@
-// The card: checked and loaded. Whatever its bytes, the answer is document 01's.
+// The card: checked. Whatever its bytes, the answer is document 01's.
 pub mod check;
 pub mod configuration;
 pub mod contents;
-pub mod load;
 pub mod nodes;
 mod rules;

@@ -9,6 +9,7 @@ use card::configuration::empty_configuration;
 use choices::configuration::mind_of;
 use choices::mind::Mind;
 use house::Ending;
+use meaning::Answer;
 use meaning::Checked;
 use meaning::Configuration;
 use meaning::Graded;
@@ -23,11 +24,41 @@ pub fn check(card: &[u8]) -> Checked
     card::check::check(card)
 }
 
+// A configuration of a mind and a plan's bytes.
+fn whole(m: Mind, plan: [u8; 1024]) -> Configuration
+    requires { ⌜ m .length ≤ 65535 ⌝ }
+    ensures { λ r. ⌜ r ≡ configurationIn m plan ⌝ }
+{
+    let b = m.beliefs;
+    let g = m.goals;
+    Configuration {
+        beliefs: b,
+        goals: g,
+        plan: plan,
+        length: m.length as u16,
+        phase: m.phase,
+    }
+}
+
 // The configuration that a card starts with.
 pub fn load(card: &[u8]) -> Reply
     ensures { λ r. ⌜ Loads (now (card .entry)) r ⌝ }
 {
-    card::load::load(card)
+    let v = card::check::check(card);
+    let Checked::Good(l) = v else {
+        let none = empty_configuration();
+        return Reply {
+            answer: answer_of(v),
+            configuration: none,
+        };
+    };
+    let mut plan = [0u8; 1024];
+    let m = place::load::load(card, l, &mut plan);
+    let c = whole(m, plan);
+    Reply {
+        answer: Answer::Done,
+        configuration: c,
+    }
 }
 
 // Bounded, or open with the first offender.
@@ -56,22 +87,6 @@ pub fn list(card: &[u8], c: Configuration, out: &mut [u16]) -> Written
         answer: a,
         count: t.count,
         configuration: c,
-    }
-}
-
-// A configuration of a mind and a plan's bytes.
-fn whole(m: Mind, plan: [u8; 1024]) -> Configuration
-    requires { ⌜ m .length ≤ 65535 ⌝ }
-    ensures { λ r. ⌜ r ≡ configurationIn m plan ⌝ }
-{
-    let b = m.beliefs;
-    let g = m.goals;
-    Configuration {
-        beliefs: b,
-        goals: g,
-        plan: plan,
-        length: m.length as u16,
-        phase: m.phase,
     }
 }
 

@@ -1,11 +1,9 @@
-// Readers of bytes, a card's or a place's: a number, a set or a plan from a place on.
+// Readers of bytes, a card's or a place's: a number or a set from a place on.
 ghost use mathlib.Core.Path.{_≡_};
-ghost use mathlib.Core.List.{[]};
 ghost use Prim.Native.Nat.{_+_, _*_, _≤_};
 ghost use lib.Dec.{ltb};
 ghost use lib.ListN.{length};
 ghost use Rattle.meaning.specs.Card.{numberAt, part};
-ghost use Rattle.meaning.specs.Configurations.{padded};
 
 // Two bytes, low byte first.
 fn two_bytes(low: u8, high: u8) -> usize
@@ -41,25 +39,4 @@ pub fn set_at(bytes: &[u8], at: usize) -> [u8; 16]
         i += 1;
     }
     r
-}
-
-// No action.
-pub fn no_plan() -> [u8; 1024]
-    ensures { λ r. ⌜ r ≡ padded [] ⌝ }
-{
-    [0u8; 1024]
-}
-
-// A plan of n bytes from a place on, with zeros after its end.
-pub fn plan_at(bytes: &[u8], at: usize, n: usize) -> [u8; 1024]
-    requires { ⌜ (at + n ≤ length (now bytes)) × (n ≤ 1024) ⌝ }
-    ensures { λ r. ⌜ r ≡ padded (part (now (bytes .entry)) at n) ⌝ }
-{
-    let mut plan = no_plan();
-    let mut i: usize = 0;
-    while i < n {
-        plan[i] = bytes[at + i];
-        i += 1;
-    }
-    plan
 }

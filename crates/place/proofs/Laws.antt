@@ -26,7 +26,7 @@ use Rattle.meaning.proofs.Calls.{written-done, written-refused}
 use Rattle.card.specs.Stair.{rowAnswer}
 use Rattle.card.proofs.Stair.{row-done, last-row, no-row}
 use Rattle.card.proofs.GoodCard.{good-card}
-use Rattle.place.specs.PlaceRows.{Sized, savedFrom}
+use Rattle.place.specs.Rows.{Sized, savedFrom}
 
 pub few-atoms : (b : Bytes) (l : Layout) → cardAnswer b ≡ Done → l ≡ layout b → l .atoms ≤ 128
 few-atoms b l ok q = good-card l b ok q .laid .atoms

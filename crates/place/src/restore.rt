@@ -9,7 +9,7 @@ ghost use Rattle.meaning.specs.Place.{placed};
 ghost use Rattle.meaning.specs.Refusals.{cardAnswer};
 ghost use Rattle.meaning.specs.Calls.{reply, restores};
 ghost use Rattle.choices.specs.Minds.{configurationIn};
-ghost use Rattle.place.specs.PlaceRows.{Sized};
+ghost use Rattle.place.specs.Rows.{Sized};
 use crate::judge::judge_place;
 use choices::configuration::size;
 use choices::mind::Mind;

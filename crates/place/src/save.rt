@@ -11,7 +11,7 @@ ghost use Rattle.meaning.specs.Place.{placeHeader, place};
 ghost use Rattle.meaning.specs.Refusals.{cardAnswer};
 ghost use Rattle.meaning.specs.Calls.{written, saves, saveLeaves};
 ghost use Rattle.choices.specs.Minds.{configurationIn};
-ghost use Rattle.place.specs.PlaceRows.{savedFrom};
+ghost use Rattle.place.specs.Rows.{savedFrom};
 use card::check::row;
 use choices::configuration::judge_mind;
 use choices::mind::Mind;

@@ -3,7 +3,7 @@ use Rattle.meaning.proofs.Configurations.{good}
 use Rattle.meaning.specs.Refusals.{configurationGood}
 use Rattle.meaning.specs.declared.Refusal.{Refusal}
 use Rattle.place.proofs.Laws.{refused-first, passed-first}
-use Rattle.place.specs.PlaceRows.{savedFrom}
+use Rattle.place.specs.Rows.{savedFrom}
 use Rattle.choices.specs.Minds.{configurationIn}
 use mathlib.Core.Path.{sym, _∙_}
 use borrow.Author.Needs.{needs}

@@ -1,34 +1,35 @@
 use Rattle.meaning.specs.declared.Answer.the-variants.{Done}
-use Rattle.card.proofs.GoodCard.{good-card}
-use Rattle.meaning.proofs.Calls.{good-judged, refused-judged, loads-good, loads-refused}
+use Rattle.meaning.proofs.Calls.{good-judged, refused-judged, loads-refused}
 use Rattle.card.specs.Stair.{answerOf}
+use Rattle.meaning.specs.Calls.{reply}
 use mathlib.Core.Path.{sym, ap, _∙_}
+use Prim.Native.Nat.{_-_}
 use borrow.Author.Needs.{needs}
 use denote.Ref.{now}
-use Rattle.card.proofs.load.load.Statement.{statement}
-use Rattle.card.proofs.load.load.Tie as tie
+use Rattle.guide.proofs.load.Statement.{statement}
+use Rattle.guide.proofs.load.Tie as tie
 
--- src/load.rt:42:9
+-- src/lib.rt:47:9
 check-requires : tie.Need-check-requires
 check-requires c κs = search needs
 
--- src/load.rt:43:23
+-- src/lib.rt:48:23
 enum-known-v : tie.Need-enum-known-v
 enum-known-v c = search needs
 
--- src/load.rt:44:13
+-- src/lib.rt:49:13
 enum-told : tie.Need-enum-told
 enum-told c = search needs
 
--- src/load.rt:44:13
+-- src/lib.rt:49:13
 empty-configuration-requires : tie.Need-empty-configuration-requires
 empty-configuration-requires c κs = search needs
 
--- src/load.rt:46:21
+-- src/lib.rt:51:21
 answer-of-requires : tie.Need-answer-of-requires
 answer-of-requires c κs = search needs
 
--- src/load.rt:45:9
+-- src/lib.rt:50:9
 returns : tie.Need-returns
 returns c =
     let b = now (c .before .before .before .before .before .before .args .card) in
@@ -37,20 +38,19 @@ returns c =
     (λ i. record { answer = (c .answer-of .ensures ∙ ap answerOf told) i; configuration = c .before .empty-configuration .ensures i })
     ∙ sym (loads-refused b _ e)
 
--- src/load.rt:50:9
-first-configuration-requires : tie.Need-first-configuration-requires
-first-configuration-requires c κs =
-    let b = now (c .before .before .before .before .before .args .card) in
-    let j = good-judged b _ (sym (c .before .before .before .check .ensures) ∙ c .before .v .given .1) in
-    good-card _ b (j .0) (j .1)
-
--- src/load.rt:39:1
-returns-2 : tie.Need-returns-2
-returns-2 c =
+-- src/lib.rt:56:9
+load-requires : tie.Need-load-requires
+load-requires c κs =
     let b = now (c .before .before .before .before .before .before .args .card) in
-    let j = good-judged b _ (sym (c .before .before .before .before .check .ensures) ∙ c .before .before .v .given .1) in
-    (λ i. record { answer = Done; configuration = c .first-configuration .ensures i })
-    ∙ sym (loads-good b (j .0))
+    good-judged b _ (sym (c .before .before .before .before .check .ensures) ∙ c .before .before .v .given .1)
+
+-- src/lib.rt:57:9
+whole-requires : tie.Need-whole-requires
+whole-requires c κs = search needs
+
+-- src/lib.rt:44:1
+returns-2 : tie.Need-returns-2
+returns-2 c = ap (reply Done) (c .whole .ensures) ∙ c .before .load .ensures .0
 
 pub load-spec : {M : Type 1} → statement M
 load-spec =
@@ -62,5 +62,6 @@ load-spec =
     empty-configuration-requires
     answer-of-requires
     returns
-    first-configuration-requires
+    load-requires
+    whole-requires
     returns-2)

@@ -1,9 +1,8 @@
 use Rattle.meaning.specs.Configurations.{padded}
 use mathlib.Core.Path.{refl}
-use Rattle.layout.proofs.readers.no_plan.Statement.{statement}
-use Rattle.layout.proofs.readers.no_plan.Tie as tie
+use Rattle.card.proofs.configuration.no_plan.Statement.{statement}
+use Rattle.card.proofs.configuration.no_plan.Tie as tie
 
--- src/readers.rt:47:1
 returns : tie.Need-returns
 unfolding padded
 returns c = refl
