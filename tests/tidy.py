@@ -3,12 +3,13 @@
 
     python3 tests/tidy.py            a line for each thing that is not kept
     python3 tests/tidy.py --lines    the same, and how many things of each sort were looked at
-    python3 tests/tidy.py --mend     takes out of the `use` lines what is not used
+    python3 tests/tidy.py --mend     takes out of the `use` lines what is not used, and the remarks that name a line of code
 
 A function says what it answers (`ensures`), but for those of a program, which only its `main` can reach; the eight calls of the guide
 and those for C have no `requires`; nothing is declared that a checker would have to believe (a foreign function); a function has at
-most 40 lines and a comment line at most 132 characters; each name that is brought is used; a must-fail edit names the sentence that
-it breaks and changes a line that stands once; every crate stands in crates.txt and in README.md.
+most 40 lines and a comment line at most 132 characters; no remark in a proof names a line of code, which may move; each name that is
+brought is used; a must-fail edit names the sentence that it breaks and changes a line that stands once; every crate stands in
+crates.txt and in README.md.
 """
 
 import glob
@@ -21,6 +22,7 @@ MOST_LINES, MOST_CHARACTERS = 40, 132
 # The crates whose public functions are the calls of an app.
 CALLS = ("guide", "board")
 FUNCTION = re.compile(r'(pub )?(?:extern "C" )?fn (\w+)')
+LINE_NAMED = re.compile(r"-- src/\w+\.rt:\d+:\d+$")
 BROUGHT = re.compile(r"(?:ghost )?use (\S+?)(?:\.\{([^}]*)\})?( as \S+)?;?$")
 
 
@@ -80,7 +82,7 @@ def used(name, rest):
     sign = name.strip("_").split("_")[0]
     if re.fullmatch(r"\w[\w′₀-₉-]*", sign):
         return re.search(r"(?<![\w′-])" + re.escape(sign) + r"(?![\w′-])", rest) is not None
-    return sign in rest
+    return sign == "[]" and "[]" in rest or re.search(r"(?<![^\s({])" + re.escape(sign) + r"(?![^\s)};,])", rest) is not None
 
 
 def texts():
@@ -92,7 +94,9 @@ def texts():
 
 
 def mended(line, rest):
-    """A `use` line without the names that are not used, or nothing."""
+    """A line without the names that are not used, if it is a `use` line; nothing if nothing is left, or if it names a line of code."""
+    if LINE_NAMED.match(line):
+        return None
     brought = names_brought(line)
     kept = [name for name in brought if used(name, rest)]
     if kept == brought:
@@ -105,7 +109,7 @@ def mended(line, rest):
 
 
 def mend():
-    """Takes out of the `use` lines what is not used."""
+    """Takes out what is not used and the remarks that name a line of code."""
     for path, lines, rest in texts():
         after = [line for line in (mended(line, rest) for line in lines) if line is not None]
         if after != lines:
@@ -120,6 +124,7 @@ def text_kept():
             where = "%s:%d" % (path, at)
             if re.match(r"\s*(--|//)", line):
                 yield where, "has at most %d characters" % MOST_CHARACTERS, len(line) <= MOST_CHARACTERS
+                yield where, "names no line of code", not LINE_NAMED.match(line)
             for name in names_brought(line):
                 yield where, "uses %s" % name, used(name, rest)
 

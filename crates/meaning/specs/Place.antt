@@ -1,6 +1,6 @@
 -- The place (01, "The place").
 use mathlib.Core.List.{[], _∷_, _++_}
-use Prim.Native.Nat.{ℕ, _+_, _/_, _%_}
+use Prim.Native.Nat.{ℕ, _/_, _%_}
 use lib.ListN.{length, drop}
 use Rattle.paper.specs.Language.{⟨_/_/_⟩}
 use Rattle.house.specs.Order.{State}

@@ -1,28 +1,22 @@
 use Rattle.meaning.specs.Refusals.{answerNumber}
 use mathlib.Core.Path.{sym, ap, _∙_}
-use Prim.Native.Nat.{_-_}
 use borrow.Author.Needs.{needs}
 use Rattle.answers.proofs.answer_number.Statement.{statement}
 use Rattle.answers.proofs.answer_number.Tie as tie
 
--- src/lib.rt:39:25
 enum-told : tie.Need-enum-told
 enum-told c = search needs
 
--- src/lib.rt:40:25
 enum-known-a : tie.Need-enum-known-a
 enum-known-a c = search needs
 
--- src/lib.rt:40:31
 refusal-number-requires : tie.Need-refusal-number-requires
 refusal-number-requires c κs = search needs
 
--- src/lib.rt:35:1
 returns : tie.Need-returns
 unfolding answerNumber
 returns c = rw (c .enum-told .given .1)
 
--- src/lib.rt:35:1
 returns-2 : tie.Need-returns-2
 unfolding answerNumber
 returns-2 c = c .refusal-number .ensures ∙ sym (ap answerNumber (c .before .before .a .given .1))

@@ -1,32 +1,25 @@
 use Rattle.meaning.specs.Numbers.{offenderNumber}
-use Prim.Native.Nat.{_-_}
 use borrow.Author.Needs.{needs}
 use Rattle.answers.proofs.offender_number.Statement.{statement}
 use Rattle.answers.proofs.offender_number.Tie as tie
 
--- src/lib.rt:72:34
 enum-told : tie.Need-enum-told
 enum-told c = search needs
 
--- src/lib.rt:73:35
 enum-told-2 : tie.Need-enum-told-2
 enum-told-2 c = search needs
 
--- src/lib.rt:74:34
 enum-told-3 : tie.Need-enum-told-3
 enum-told-3 c = search needs
 
--- src/lib.rt:68:1
 returns : tie.Need-returns
 unfolding offenderNumber
 returns c = rw (c .enum-told .given .1)
 
--- src/lib.rt:68:1
 returns-2 : tie.Need-returns-2
 unfolding offenderNumber
 returns-2 c = rw (c .enum-told2 .given .1)
 
--- src/lib.rt:68:1
 returns-3 : tie.Need-returns-3
 unfolding offenderNumber
 returns-3 c = rw (c .enum-told3 .given .1)

@@ -1,28 +1,22 @@
 use Rattle.meaning.specs.Numbers.{verdictOffender}
 use mathlib.Core.Path.{sym, ap, _∙_}
-use Prim.Native.Nat.{_-_}
 use borrow.Author.Needs.{needs}
 use Rattle.answers.proofs.verdict_offender.Statement.{statement}
 use Rattle.answers.proofs.verdict_offender.Tie as tie
 
--- src/lib.rt:83:29
 enum-told : tie.Need-enum-told
 enum-told c = search needs
 
--- src/lib.rt:84:23
 enum-known-v : tie.Need-enum-known-v
 enum-known-v c = search needs
 
--- src/lib.rt:84:29
 offender-number-requires : tie.Need-offender-number-requires
 offender-number-requires c κs = search needs
 
--- src/lib.rt:79:1
 returns : tie.Need-returns
 unfolding verdictOffender
 returns c = rw (c .enum-told .given .1)
 
--- src/lib.rt:79:1
 returns-2 : tie.Need-returns-2
 unfolding verdictOffender
 returns-2 c = c .offender-number .ensures ∙ sym (ap verdictOffender (c .before .before .v .given .1))

@@ -2,30 +2,25 @@ use Rattle.house.specs.declared.Verdict.{Verdict}
 use mathlib.Core.Path.{subst}
 use Rattle.meaning.specs.Numbers.{verdictRule}
 use mathlib.Core.Path.{sym, ap, _∙_}
-use Prim.Native.Nat.{_-_, _<_}
+use Prim.Native.Nat.{_<_}
 use borrow.Author.Needs.{needs}
 use Rattle.answers.proofs.verdict_rule.Statement.{statement}
 use Rattle.answers.proofs.verdict_rule.Tie as tie
 
--- src/lib.rt:104:29
 enum-told : tie.Need-enum-told
 enum-told c = search needs
 
--- src/lib.rt:105:23
 enum-known-v : tie.Need-enum-known-v
 enum-known-v c = search needs
 
--- src/lib.rt:105:29
 offender-rule-requires : tie.Need-offender-rule-requires
 unfolding verdictRule
 offender-rule-requires c κs = subst (λ (x : Verdict). verdictRule x < 65536) (c .before .v .given .1) (c .before .before .before .pre)
 
--- src/lib.rt:100:1
 returns : tie.Need-returns
 unfolding verdictRule
 returns c = rw (c .enum-told .given .1)
 
--- src/lib.rt:100:1
 returns-2 : tie.Need-returns-2
 unfolding verdictRule
 returns-2 c = c .offender-rule .ensures ∙ sym (ap verdictRule (c .before .before .v .given .1))

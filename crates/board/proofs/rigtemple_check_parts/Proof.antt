@@ -1,32 +1,25 @@
 use Rattle.demands.specs.Demands.{checkedNumber}
 use mathlib.Core.Path.{sym, ap, _∙_}
-use Prim.Native.Nat.{_-_}
 use borrow.Author.Needs.{needs}
 use Rattle.board.proofs.rigtemple_check_parts.Statement.{statement}
 use Rattle.board.proofs.rigtemple_check_parts.Tie as tie
 
--- src/lib.rt:60:9
 check-requires : tie.Need-check-requires
 check-requires c κs = search needs
 
--- src/lib.rt:62:29
 enum-told : tie.Need-enum-told
 enum-told c = search needs
 
--- src/lib.rt:63:26
 enum-known-v : tie.Need-enum-known-v
 enum-known-v c = search needs
 
--- src/lib.rt:63:32
 refusal-number-requires : tie.Need-refusal-number-requires
 refusal-number-requires c κs = search needs
 
--- src/lib.rt:56:1
 returns : tie.Need-returns
 unfolding checkedNumber
 returns c = rw (sym (c .before .before .check .ensures), c .enum-told .given .1)
 
--- src/lib.rt:56:1
 returns-2 : tie.Need-returns-2
 unfolding checkedNumber
 returns-2 c = c .refusal-number .ensures ∙ sym (ap checkedNumber (sym (c .before .before .before .before .check .ensures) ∙ c .before .before .v .given .1))

@@ -4,33 +4,27 @@ use Rattle.meaning.specs.Numbers.{verdictNumber, verdictOffender, verdictRule}
 use Rattle.meaning.specs.Refusals.{answerNumber}
 use Rattle.meaning.specs.declared.Graded.{Graded}
 use mathlib.Core.Path.{sym, ap, _∙_}
-use Prim.Native.Nat.{_-_, _<_}
+use Prim.Native.Nat.{_<_}
 use borrow.Author.Needs.{needs}
 use denote.Ref.{now}
 use Rattle.board.proofs.rigtemple_grade_parts.Statement.{statement}
 use Rattle.board.proofs.rigtemple_grade_parts.Tie as tie
 
--- src/lib.rt:311:9
 grade-requires : tie.Need-grade-requires
 grade-requires c κs = search needs
 
--- src/lib.rt:313:16
 verdict-number-requires : tie.Need-verdict-number-requires
 verdict-number-requires c κs = search needs
 
--- src/lib.rt:314:17
 verdict-offender-requires : tie.Need-verdict-offender-requires
 verdict-offender-requires c κs = search needs
 
--- src/lib.rt:315:15
 verdict-rule-requires : tie.Need-verdict-rule-requires
 verdict-rule-requires c κs = subst (λ (x : Graded). verdictRule (x .verdict) < 65536) (sym (c .before .before .grade .ensures)) (grades-narrow (now (c .before .before .before .before .args .card)))
 
--- src/lib.rt:317:5
 answer-number-requires : tie.Need-answer-number-requires
 answer-number-requires c κs = search needs
 
--- src/lib.rt:302:1
 returns : tie.Need-returns
 returns c =
     let e = c .before .before .before .before .grade .ensures in (

@@ -15,27 +15,21 @@ use lib.ListN.{length}
 use Rattle.board.proofs.rigtemple_list_parts.Statement.{statement}
 use Rattle.board.proofs.rigtemple_list_parts.Tie as tie
 
--- src/lib.rt:185:9
 check-requires : tie.Need-check-requires
 check-requires c κs = search needs
 
--- src/lib.rt:186:23
 enum-known-v : tie.Need-enum-known-v
 enum-known-v c = search needs
 
--- src/lib.rt:187:9
 enum-told : tie.Need-enum-told
 enum-told c = search needs
 
--- src/lib.rt:188:30
 answer-of-requires : tie.Need-answer-of-requires
 answer-of-requires c κs = search needs
 
--- src/lib.rt:188:9
 answer-number-requires : tie.Need-answer-number-requires
 answer-number-requires c κs = search needs
 
--- src/lib.rt:188:9
 returns : tie.Need-returns
 returns c =
     let a = c .before .before .before .before .before .before .before .args in
@@ -47,23 +41,18 @@ returns c =
     let r = lists-refused b d (now (a .list)) _ (card-first b _ e d) in
     (c .answer-number .ensures ∙ ap answerNumber (s ∙ sym (ap (λ (x : Written). x .answer) (r .0))), sym (ap (λ (x : Written). x .count) (r .0)), sym (r .1))
 
--- src/lib.rt:190:9
 mind-requires : tie.Need-mind-requires
 mind-requires c κs = search needs
 
--- src/lib.rt:191:9
 list-requires : tie.Need-list-requires
 list-requires c κs = good-judged (now (c .before .before .before .before .before .before .before .before .args .card)) _ (sym (c .before .before .before .before .before .check .ensures) ∙ c .before .before .before .v .given .1)
 
--- src/lib.rt:194:5
 answer-number-requires-2 : tie.Need-answer-number-requires-2
 answer-number-requires-2 c κs = search needs
 
--- src/lib.rt:172:1
 same-length : tie.Need-same-length
 same-length c = search needs
 
--- src/lib.rt:172:1
 returns-2 : tie.Need-returns-2
 returns-2 c =
     let a = c .before .before .before .before .before .before .before .before .before .before .before .before .args in

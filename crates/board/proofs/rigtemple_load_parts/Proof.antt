@@ -4,41 +4,32 @@ use Rattle.meaning.specs.Refusals.{answerNumber}
 use Rattle.meaning.specs.declared.Reply.{Reply}
 use Rattle.board.proofs.Parts.{in-parts}
 use mathlib.Core.Path.{sym, ap, _∙_}
-use Prim.Native.Nat.{_-_}
 use borrow.Author.Needs.{needs}
 use denote.Ref.{now}
 use Rattle.board.proofs.rigtemple_load_parts.Statement.{statement}
 use Rattle.board.proofs.rigtemple_load_parts.Tie as tie
 
--- src/lib.rt:70:9
 check-requires : tie.Need-check-requires
 check-requires c κs = search needs
 
--- src/lib.rt:71:23
 enum-known-v : tie.Need-enum-known-v
 enum-known-v c = search needs
 
--- src/lib.rt:72:31
 enum-told : tie.Need-enum-told
 enum-told c = search needs
 
--- src/lib.rt:72:13
 empty-mind-requires : tie.Need-empty-mind-requires
 empty-mind-requires c κs = search needs
 
--- src/lib.rt:73:9
 put-requires : tie.Need-put-requires
 put-requires c κs = search needs
 
--- src/lib.rt:74:30
 answer-of-requires : tie.Need-answer-of-requires
 answer-of-requires c κs = search needs
 
--- src/lib.rt:74:9
 answer-number-requires : tie.Need-answer-number-requires
 answer-number-requires c κs = search needs
 
--- src/lib.rt:74:9
 returns : tie.Need-returns
 returns c =
     let b = now (c .before .before .before .before .before .before .before .before .before .before .before .before .before .args .card) in
@@ -52,15 +43,12 @@ returns c =
       sym (in-parts (m .result) _ _ (m .last .0) _ _ (sym (u .0)) (sym (u .1)) (sym (u .2)) (sym (u .3))) ∙ m .ensures .0 ∙ sym (ap (λ (x : Reply). x .configuration) r),
     )
 
--- src/lib.rt:76:9
 load-requires : tie.Need-load-requires
 load-requires c κs = good-judged (now (c .before .before .before .before .before .before .args .card)) _ (sym (c .before .before .before .before .check .ensures) ∙ c .before .before .v .given .1)
 
--- src/lib.rt:77:5
 put-requires-2 : tie.Need-put-requires-2
 put-requires-2 c κs = search needs
 
--- src/lib.rt:59:1
 returns-2 : tie.Need-returns-2
 unfolding answerNumber
 returns-2 c =

@@ -12,35 +12,27 @@ use denote.Ref.{now}
 use Rattle.board.proofs.rigtemple_restore_parts.Statement.{statement}
 use Rattle.board.proofs.rigtemple_restore_parts.Tie as tie
 
--- src/lib.rt:158:9
 check-requires : tie.Need-check-requires
 check-requires c κs = search needs
 
--- src/lib.rt:159:23
 enum-known-v : tie.Need-enum-known-v
 enum-known-v c = search needs
 
--- src/lib.rt:160:31
 enum-told : tie.Need-enum-told
 enum-told c = search needs
 
--- src/lib.rt:160:13
 empty-mind-requires : tie.Need-empty-mind-requires
 empty-mind-requires c κs = search needs
 
--- src/lib.rt:161:9
 put-requires : tie.Need-put-requires
 put-requires c κs = let h = c .before .before .before .before .empty-mind .ensures .1 in omega arith
 
--- src/lib.rt:162:30
 answer-of-requires : tie.Need-answer-of-requires
 answer-of-requires c κs = search needs
 
--- src/lib.rt:162:9
 answer-number-requires : tie.Need-answer-number-requires
 answer-number-requires c κs = search needs
 
--- src/lib.rt:162:9
 returns : tie.Need-returns
 returns c =
     let a = c .before .before .before .before .before .before .before .before .before .before .before .before .before .before .args in
@@ -55,19 +47,15 @@ returns c =
       sym (in-parts (m .result) _ _ (m .last .0) _ _ (sym (u .0)) (sym (u .1)) (sym (u .2)) (sym (u .3))) ∙ m .ensures .0 ∙ sym (ap (λ (x : Reply). x .configuration) r),
     )
 
--- src/lib.rt:164:9
 restore-requires : tie.Need-restore-requires
 restore-requires c κs = good-judged (now (c .before .before .before .before .before .before .before .args .card)) _ (sym (c .before .before .before .before .check .ensures) ∙ c .before .before .v .given .1)
 
--- src/lib.rt:166:5
 put-requires-2 : tie.Need-put-requires-2
 put-requires-2 c κs = let h = c .before .before .before .before .before .restore .ensures .1 in omega arith
 
--- src/lib.rt:168:5
 answer-number-requires-2 : tie.Need-answer-number-requires-2
 answer-number-requires-2 c κs = search needs
 
--- src/lib.rt:146:1
 returns-2 : tie.Need-returns-2
 returns-2 c =
     let t = c .before .before .before .before .before .before .before .restore in

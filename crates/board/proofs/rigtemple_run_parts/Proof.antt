@@ -20,31 +20,24 @@ use lib.ListN.{length}
 use Rattle.board.proofs.rigtemple_run_parts.Statement.{statement}
 use Rattle.board.proofs.rigtemple_run_parts.Tie as tie
 
--- src/lib.rt:128:9
 check-requires : tie.Need-check-requires
 check-requires c κs = search needs
 
--- src/lib.rt:129:23
 enum-known-v : tie.Need-enum-known-v
 enum-known-v c = search needs
 
--- src/lib.rt:130:9
 enum-told : tie.Need-enum-told
 enum-told c = search needs
 
--- src/lib.rt:131:19
 ending-number-requires : tie.Need-ending-number-requires
 ending-number-requires c κs = search needs
 
--- src/lib.rt:132:30
 answer-of-requires : tie.Need-answer-of-requires
 answer-of-requires c κs = search needs
 
--- src/lib.rt:132:9
 answer-number-requires : tie.Need-answer-number-requires
 answer-number-requires c κs = search needs
 
--- src/lib.rt:132:9
 returns : tie.Need-returns
 returns c =
     let a = c .before .before .before .before .before .before .before .args in
@@ -60,27 +53,21 @@ returns c =
       c .before .before .ending-number .ensures ∙ ap (λ (x : Ran). endingNumber (x .ending)) (sym r),
     )
 
--- src/lib.rt:134:9
 mind-requires : tie.Need-mind-requires
 mind-requires c κs = search needs
 
--- src/lib.rt:135:9
 run-requires : tie.Need-run-requires
 run-requires c κs = good-judged (now (c .before .before .before .before .before .before .before .before .before .before .before .args .card)) _ (sym (c .before .before .before .before .before .before .before .before .before .check .ensures) ∙ c .before .before .before .before .before .before .before .v .given .1)
 
--- src/lib.rt:137:5
 put-requires : tie.Need-put-requires
 put-requires c κs = ⊎-elim (λ h. omega arith) (λ e. subst (λ (x : Mind). x .length ≤ 65535) (sym e) (c .before .before .before .before .before .before .before .mind .ensures .4)) (c .before .before .before .before .before .run .ensures .1)
 
--- src/lib.rt:140:15
 ending-number-requires-2 : tie.Need-ending-number-requires-2
 ending-number-requires-2 c κs = search needs
 
--- src/lib.rt:142:5
 answer-number-requires-2 : tie.Need-answer-number-requires-2
 answer-number-requires-2 c κs = search needs
 
--- src/lib.rt:114:1
 returns-2 : tie.Need-returns-2
 returns-2 c =
     let a = c .before .before .before .before .before .before .before .before .before .before .before .before .before .before .before .before .before .before .before .before .args in

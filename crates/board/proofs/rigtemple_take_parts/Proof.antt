@@ -19,27 +19,21 @@ use lib.ListN.{length, take}
 use Rattle.board.proofs.rigtemple_take_parts.Statement.{statement}
 use Rattle.board.proofs.rigtemple_take_parts.Tie as tie
 
--- src/lib.rt:101:9
 check-requires : tie.Need-check-requires
 check-requires c κs = search needs
 
--- src/lib.rt:102:23
 enum-known-v : tie.Need-enum-known-v
 enum-known-v c = search needs
 
--- src/lib.rt:103:30
 enum-told : tie.Need-enum-told
 enum-told c = search needs
 
--- src/lib.rt:103:30
 answer-of-requires : tie.Need-answer-of-requires
 answer-of-requires c κs = search needs
 
--- src/lib.rt:103:9
 answer-number-requires : tie.Need-answer-number-requires
 answer-number-requires c κs = search needs
 
--- src/lib.rt:103:9
 returns : tie.Need-returns
 returns c =
     let a = c .before .before .before .before .before .before .args in
@@ -51,23 +45,18 @@ returns c =
     let r = takes-refused b d (a .choice) _ (card-first b _ e d) in
     (c .answer-number .ensures ∙ ap answerNumber (s ∙ sym (ap (λ (x : Reply). x .answer) r)), sym (ap (λ (x : Reply). x .configuration) r))
 
--- src/lib.rt:105:9
 mind-requires : tie.Need-mind-requires
 mind-requires c κs = search needs
 
--- src/lib.rt:106:9
 take-requires : tie.Need-take-requires
 take-requires c κs = good-judged (now (c .before .before .before .before .before .before .before .before .before .before .before .args .card)) _ (sym (c .before .before .before .before .before .before .before .before .before .check .ensures) ∙ c .before .before .before .before .before .before .before .v .given .1)
 
--- src/lib.rt:108:5
 put-requires : tie.Need-put-requires
 put-requires c κs = ⊎-elim (λ h. omega arith) (λ e. subst (λ (x : Mind). x .length ≤ 65535) (sym e) (c .before .before .before .before .before .before .before .mind .ensures .4)) (c .before .before .before .before .before .take .ensures .1)
 
--- src/lib.rt:110:5
 answer-number-requires-2 : tie.Need-answer-number-requires-2
 answer-number-requires-2 c κs = search needs
 
--- src/lib.rt:89:1
 returns-2 : tie.Need-returns-2
 returns-2 c =
     let a = c .before .before .before .before .before .before .before .before .before .before .before .before .before .before .before .before .before .before .before .args in

@@ -11,75 +11,57 @@ Inv-loop list bytes₀ i₀ bytes i = (i ≤ length list) × (length bytes ≡ 2
 abbrev μ-loop : tie.MeasureT-loop
 μ-loop list bytes₀ i₀ bytes i = length list - i
 
--- src/main.rt:205:21
 lent-bytes-requires : tie.Need-lent-bytes-requires Inv-loop μ-loop
 lent-bytes-requires c κs = search needs
 
--- src/main.rt:207:9
 returns : tie.Need-returns Inv-loop μ-loop
 returns c = search needs
 
--- src/main.rt:210:5
 loop-holds : tie.Need-loop-holds Inv-loop μ-loop
 loop-holds c = search needs
 
--- src/main.rt:211:28
 mul-low : tie.Need-mul-low Inv-loop μ-loop
 mul-low c = search needs
 
--- src/main.rt:211:28
 shared-slice-read-low : tie.Need-shared-slice-read-low Inv-loop μ-loop
 shared-slice-read-low c = search needs
 
--- src/main.rt:211:24
 low-requires : tie.Need-low-requires Inv-loop μ-loop
 low-requires c κs = search needs
 
--- src/main.rt:211:15
 mul-bytes : tie.Need-mul-bytes Inv-loop μ-loop
 mul-bytes c = search needs
 
--- src/main.rt:211:9
 array-write-bytes : tie.Need-array-write-bytes Inv-loop μ-loop
 array-write-bytes c = search needs
 
--- src/main.rt:212:33
 mul-high : tie.Need-mul-high Inv-loop μ-loop
 mul-high c = search needs
 
--- src/main.rt:212:33
 shared-slice-read-high : tie.Need-shared-slice-read-high Inv-loop μ-loop
 shared-slice-read-high c = search needs
 
--- src/main.rt:212:28
 high-requires : tie.Need-high-requires Inv-loop μ-loop
 high-requires c κs = search needs
 
--- src/main.rt:212:15
 mul-bytes-2 : tie.Need-mul-bytes-2 Inv-loop μ-loop
 mul-bytes-2 c = search needs
 
--- src/main.rt:212:15
 add-bytes : tie.Need-add-bytes Inv-loop μ-loop
 add-bytes c = search needs
 
--- src/main.rt:212:9
 array-write-bytes-2 : tie.Need-array-write-bytes-2 Inv-loop μ-loop
 array-write-bytes-2 c = search needs
 
--- src/main.rt:213:9
 add-i : tie.Need-add-i Inv-loop μ-loop
 add-i c = search needs
 
--- src/main.rt:210:5
 loop-less : tie.Need-loop-less Inv-loop μ-loop
 loop-less c = search needs
 
--- src/main.rt:210:5
 loop-again : tie.Need-loop-again Inv-loop μ-loop
 loop-again c = search needs
 
--- src/main.rt:202:1
 returns-2 : tie.Need-returns-2 Inv-loop μ-loop
 returns-2 c = search needs
 

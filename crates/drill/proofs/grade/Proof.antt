@@ -3,56 +3,45 @@ use mathlib.Core.Path.{subst}
 use Rattle.meaning.specs.Numbers.{verdictRule}
 use Rattle.meaning.specs.declared.Graded.{Graded}
 use mathlib.Core.Path.{sym}
-use Prim.Native.Nat.{_-_, _<_}
+use Prim.Native.Nat.{_<_}
 use borrow.Author.Needs.{needs}
 use denote.Ref.{now}
 use Rattle.drill.proofs.grade.Statement.{statement}
 use Rattle.drill.proofs.grade.Tie as tie
 
--- src/main.rt:182:9
 grade-requires : tie.Need-grade-requires
 grade-requires c κs = search needs
 
--- src/main.rt:185:9
 verdict-rule-requires : tie.Need-verdict-rule-requires
 verdict-rule-requires c κs = subst (λ (x : Graded). verdictRule (x .verdict) < 65536) (sym (c .grade .ensures)) (grades-narrow (now (c .before .before .args .card)))
 
--- src/main.rt:186:10
 answer-number-requires : tie.Need-answer-number-requires
 answer-number-requires c κs = search needs
 
--- src/main.rt:186:5
 tell-requires : tie.Need-tell-requires
 tell-requires c κs = search needs
 
 enum-told : tie.Need-enum-told
 enum-told c = search needs
 
--- src/main.rt:188:9
 enum-told-2 : tie.Need-enum-told-2
 enum-told-2 c = search needs
 
--- src/main.rt:188:9
 tell-verdict-requires : tie.Need-tell-verdict-requires
 tell-verdict-requires c κs = search needs
 
--- src/main.rt:189:9
 returns : tie.Need-returns
 returns c = search needs
 
--- src/main.rt:191:18
 verdict-number-requires : tie.Need-verdict-number-requires
 verdict-number-requires c κs = search needs
 
--- src/main.rt:191:37
 verdict-offender-requires : tie.Need-verdict-offender-requires
 verdict-offender-requires c κs = search needs
 
--- src/main.rt:191:5
 tell-verdict-requires-2 : tie.Need-tell-verdict-requires-2
 tell-verdict-requires-2 c κs = search needs
 
--- src/main.rt:181:1
 returns-2 : tie.Need-returns-2
 returns-2 c = search needs
 

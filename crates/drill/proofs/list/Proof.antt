@@ -1,64 +1,51 @@
 use lib.Seq.{length-take-le}
 use mathlib.Core.Path.{sym}
-use Prim.Native.Nat.{_-_, _≤_}
+use Prim.Native.Nat.{_≤_}
 use native.Mathlib.Omega.{arith}
 use borrow.Author.Needs.{needs}
 use lib.ListN.{length}
 use Rattle.drill.proofs.list.Statement.{statement}
 use Rattle.drill.proofs.list.Tie as tie
 
--- src/calls.rt:78:9
 next-image-requires : tie.Need-next-image-requires
 next-image-requires c κs = search needs
 
--- src/calls.rt:80:9
 returns : tie.Need-returns
 returns c = search needs
 
--- src/calls.rt:83:9
 next-number-requires : tie.Need-next-number-requires
 next-number-requires c κs = search needs
 
--- src/calls.rt:84:20
 enum-known-size : tie.Need-enum-known-size
 enum-known-size c = search needs
 
--- src/calls.rt:85:9
 enum-told : tie.Need-enum-told
 enum-told c = search needs
 
--- src/calls.rt:85:9
 returns-2 : tie.Need-returns-2
 returns-2 c = search needs
 
--- src/calls.rt:88:9
 returns-3 : tie.Need-returns-3
 returns-3 c = search needs
 
--- src/calls.rt:90:19
 lent-list-requires : tie.Need-lent-list-requires
 lent-list-requires c κs = search needs
 
--- src/calls.rt:91:35
 cast-out : tie.Need-cast-out
 cast-out c = search needs
 
--- src/calls.rt:91:24
 array-borrow-prefix-out : tie.Need-array-borrow-prefix-out
 array-borrow-prefix-out c = search needs
 
--- src/calls.rt:91:24
 slice-aggregate-list-into : tie.Need-slice-aggregate-list-into
 slice-aggregate-list-into c =
     let e = c .before .lent-list .ensures in
     let h : c .before .before .before .before .size .given .0 .0 ≤ length (c .before .lent-list .result) = omega arith in
     sym (length-take-le _ _ h)
 
--- src/calls.rt:91:5
 list-into-requires : tie.Need-list-into-requires
 list-into-requires c κs = search needs
 
--- src/calls.rt:77:1
 returns-4 : tie.Need-returns-4
 returns-4 c = search needs
 

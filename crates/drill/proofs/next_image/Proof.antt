@@ -7,82 +7,63 @@ use lib.ListN.{length}
 use Rattle.drill.proofs.next_image.Statement.{statement}
 use Rattle.drill.proofs.next_image.Tie as tie
 
--- src/ask.rt:64:20
 no-plan-requires : tie.Need-no-plan-requires
 no-plan-requires c κs = search needs
 
--- src/ask.rt:66:32
 slice-aggregate-read-full : tie.Need-slice-aggregate-read-full
 slice-aggregate-read-full c = search needs
 
--- src/ask.rt:66:9
 read-full-requires : tie.Need-read-full-requires
 read-full-requires c κs = search needs
 
--- src/ask.rt:67:20
 array-read-joined : tie.Need-array-read-joined
 array-read-joined c = search needs
 
--- src/ask.rt:67:30
 array-read-joined-2 : tie.Need-array-read-joined-2
 array-read-joined-2 c = search needs
 
--- src/ask.rt:67:9
 joined-requires : tie.Need-joined-requires
 joined-requires c κs = search needs
 
--- src/ask.rt:69:39
 cast-plan : tie.Need-cast-plan
 cast-plan c = search needs
 
--- src/ask.rt:69:27
 array-borrow-prefix-plan : tie.Need-array-borrow-prefix-plan
 array-borrow-prefix-plan c = search needs
 
--- src/ask.rt:69:27
 slice-aggregate-fill : tie.Need-slice-aggregate-fill
 slice-aggregate-fill c =
     let e = c .before .before .before .before .before .before .no-plan .ensures in
     let h : c .before .before .joined .result ≤ length (c .before .before .before .before .before .before .no-plan .result) = omega arith in
     sym (length-take-le _ _ h)
 
--- src/ask.rt:69:13
 fill-requires : tie.Need-fill-requires
 fill-requires c κs = search needs
 
--- src/ask.rt:72:26
 slice-aggregate-set-at : tie.Need-slice-aggregate-set-at
 slice-aggregate-set-at c = search needs
 
--- src/ask.rt:72:9
 set-at-requires : tie.Need-set-at-requires
 set-at-requires c κs = search needs
 
--- src/ask.rt:73:24
 slice-aggregate-set-at-2 : tie.Need-slice-aggregate-set-at-2
 slice-aggregate-set-at-2 c = search needs
 
--- src/ask.rt:73:9
 set-at-requires-2 : tie.Need-set-at-requires-2
 set-at-requires-2 c κs = search needs
 
--- src/ask.rt:80:28
 array-read-joined-3 : tie.Need-array-read-joined-3
 array-read-joined-3 c = search needs
 
--- src/ask.rt:80:38
 array-read-joined-4 : tie.Need-array-read-joined-4
 array-read-joined-4 c = search needs
 
--- src/ask.rt:80:21
 joined-requires-2 : tie.Need-joined-requires-2
 joined-requires-2 c κs = search needs
 
--- src/ask.rt:81:20
 array-read-t34 : tie.Need-array-read-t34
 array-read-t34 c = search needs
 
--- src/ask.rt:62:1
 returns : tie.Need-returns
 returns c = search needs
 

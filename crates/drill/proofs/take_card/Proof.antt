@@ -1,6 +1,6 @@
 use lib.Seq.{length-take-le}
 use mathlib.Core.Path.{sym}
-use Prim.Native.Nat.{_-_, _≤_}
+use Prim.Native.Nat.{_≤_}
 use native.Mathlib.Omega.{arith}
 use borrow.Author.Needs.{needs}
 use denote.Ref.{now}
@@ -8,61 +8,47 @@ use lib.ListN.{length}
 use Rattle.drill.proofs.take_card.Statement.{statement}
 use Rattle.drill.proofs.take_card.Tie as tie
 
--- src/main.rt:17:9
 next-number-requires : tie.Need-next-number-requires
 next-number-requires c κs = search needs
 
--- src/main.rt:18:20
 enum-known-size : tie.Need-enum-known-size
 enum-known-size c = search needs
 
--- src/main.rt:19:9
 enum-told : tie.Need-enum-told
 enum-told c = search needs
 
--- src/main.rt:19:9
 returns : tie.Need-returns
 returns c = search needs
 
--- src/main.rt:21:21
 cast-if1 : tie.Need-cast-if1
 cast-if1 c = search needs
 
--- src/main.rt:22:9
 returns-2 : tie.Need-returns-2
 returns-2 c = search needs
 
--- src/main.rt:24:31
 cast-fill : tie.Need-cast-fill
 cast-fill c = search needs
 
--- src/main.rt:24:19
 slice-relend-prefix-fill : tie.Need-slice-relend-prefix-fill
 slice-relend-prefix-fill c = search needs
 
--- src/main.rt:24:19
 slice-aggregate-fill : tie.Need-slice-aggregate-fill
 slice-aggregate-fill c =
     let h : c .before .before .before .size .given .0 .0 ≤ length (now (c .before .before .before .before .before .before .before .args .card)) = omega arith in
     sym (length-take-le _ _ h)
 
--- src/main.rt:24:9
 fill-requires : tie.Need-fill-requires
 fill-requires c κs = search needs
 
--- src/main.rt:25:9
 same-length : tie.Need-same-length
 same-length c = search needs
 
--- src/main.rt:25:9
 returns-3 : tie.Need-returns-3
 returns-3 c = search needs
 
--- src/main.rt:16:1
 same-length-2 : tie.Need-same-length-2
 same-length-2 c = search needs
 
--- src/main.rt:16:1
 returns-4 : tie.Need-returns-4
 returns-4 c = search needs
 

@@ -1,6 +1,6 @@
 use lib.Seq.{length-take-le}
 use mathlib.Core.Path.{sym}
-use Prim.Native.Nat.{_-_, _≤_}
+use Prim.Native.Nat.{_≤_}
 use native.Mathlib.Omega.{arith}
 use borrow.Author.Needs.{needs}
 use denote.Ref.{now}
@@ -8,22 +8,18 @@ use lib.ListN.{length}
 use Rattle.drill.proofs.tell_first.Statement.{statement}
 use Rattle.drill.proofs.tell_first.Tie as tie
 
--- src/main.rt:136:26
 slice-aggregate-write-all : tie.Need-slice-aggregate-write-all
 slice-aggregate-write-all c =
     let a = c .before .before .before .args in
     let h : a .m ≤ length (now (a .bytes)) = omega arith in
     sym (length-take-le _ _ h)
 
--- src/main.rt:136:9
 write-all-requires : tie.Need-write-all-requires
 write-all-requires c κs = search needs
 
--- src/main.rt:134:1
 returns : tie.Need-returns
 returns c = search needs
 
--- src/main.rt:134:1
 returns-2 : tie.Need-returns-2
 returns-2 c = search needs
 

@@ -1,6 +1,6 @@
 use lib.Seq.{length-take-le}
 use mathlib.Core.Path.{sym}
-use Prim.Native.Nat.{_-_, _≤_}
+use Prim.Native.Nat.{_≤_}
 use native.Mathlib.Omega.{arith}
 use borrow.Author.Needs.{needs}
 use denote.Ref.{now}
@@ -8,66 +8,51 @@ use lib.ListN.{length}
 use Rattle.drill.proofs.turn.Statement.{statement}
 use Rattle.drill.proofs.turn.Tie as tie
 
--- src/main.rt:47:9
 next-byte-requires : tie.Need-next-byte-requires
 next-byte-requires c κs = search needs
 
--- src/main.rt:48:18
 enum-known-asked : tie.Need-enum-known-asked
 enum-known-asked c = search needs
 
--- src/main.rt:49:9
 enum-told : tie.Need-enum-told
 enum-told c = search needs
 
--- src/main.rt:49:9
 returns : tie.Need-returns
 returns c = search needs
 
--- src/main.rt:52:9
 take-card-requires : tie.Need-take-card-requires
 take-card-requires c κs = search needs
 
--- src/main.rt:52:9
 same-length : tie.Need-same-length
 same-length c = search needs
 
--- src/main.rt:52:9
 returns-2 : tie.Need-returns-2
 returns-2 c = search needs
 
--- src/main.rt:55:9
 returns-3 : tie.Need-returns-3
 returns-3 c = search needs
 
--- src/main.rt:57:16
 slice-reshare-prefix-answer : tie.Need-slice-reshare-prefix-answer
 slice-reshare-prefix-answer c = search needs
 
--- src/main.rt:57:16
 slice-aggregate-answer : tie.Need-slice-aggregate-answer
 slice-aggregate-answer c =
     let a = c .before .before .before .before .before .before .before .before .args in
     let h : a .n ≤ length (now (a .card)) = omega arith in
     sym (length-take-le _ _ h)
 
--- src/main.rt:57:9
 answer-requires : tie.Need-answer-requires
 answer-requires c κs = search needs
 
--- src/main.rt:58:9
 same-length-2 : tie.Need-same-length-2
 same-length-2 c = search needs
 
--- src/main.rt:58:9
 returns-4 : tie.Need-returns-4
 returns-4 c = search needs
 
--- src/main.rt:46:1
 same-length-3 : tie.Need-same-length-3
 same-length-3 c = search needs
 
--- src/main.rt:46:1
 returns-5 : tie.Need-returns-5
 returns-5 c = search needs
 

@@ -9,27 +9,21 @@ use denote.Ref.{now}
 use Rattle.guide.proofs.restore.Statement.{statement}
 use Rattle.guide.proofs.restore.Tie as tie
 
--- src/lib.rt:155:9
 check-requires : tie.Need-check-requires
 check-requires c κs = search needs
 
--- src/lib.rt:156:23
 enum-known-v : tie.Need-enum-known-v
 enum-known-v c = search needs
 
--- src/lib.rt:157:13
 enum-told : tie.Need-enum-told
 enum-told c = search needs
 
--- src/lib.rt:157:13
 empty-configuration-requires : tie.Need-empty-configuration-requires
 empty-configuration-requires c κs = search needs
 
--- src/lib.rt:159:21
 answer-of-requires : tie.Need-answer-of-requires
 answer-of-requires c κs = search needs
 
--- src/lib.rt:158:9
 returns : tie.Need-returns
 returns c =
     let a = c .before .before .before .before .before .before .before .args in
@@ -39,17 +33,14 @@ returns c =
     (λ i. record { answer = (c .answer-of .ensures ∙ ap answerOf told) i; configuration = c .before .empty-configuration .ensures i })
     ∙ sym (restores-refused b (now (a .p)) _ (card-first-of-place b _ e (now (a .p))))
 
--- src/lib.rt:164:9
 restore-requires : tie.Need-restore-requires
 restore-requires c κs =
     let b = now (c .before .before .before .before .before .before .before .args .card) in
     good-judged b _ (sym (c .before .before .before .before .check .ensures) ∙ c .before .before .v .given .1)
 
--- src/lib.rt:167:9
 whole-requires : tie.Need-whole-requires
 whole-requires c κs = search needs
 
--- src/lib.rt:152:1
 returns-2 : tie.Need-returns-2
 returns-2 c =
     let t = c .before .before .restore in

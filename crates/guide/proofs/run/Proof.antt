@@ -18,23 +18,18 @@ use lib.ListN.{length}
 use Rattle.guide.proofs.run.Statement.{statement}
 use Rattle.guide.proofs.run.Tie as tie
 
--- src/lib.rt:105:9
 check-requires : tie.Need-check-requires
 check-requires c κs = search needs
 
--- src/lib.rt:106:23
 enum-known-v : tie.Need-enum-known-v
 enum-known-v c = search needs
 
--- src/lib.rt:108:21
 enum-told : tie.Need-enum-told
 enum-told c = search needs
 
--- src/lib.rt:108:21
 answer-of-requires : tie.Need-answer-of-requires
 answer-of-requires c κs = search needs
 
--- src/lib.rt:107:9
 returns : tie.Need-returns
 returns c =
     let a = c .before .before .before .before .before .args in
@@ -44,24 +39,20 @@ returns c =
     (λ i. record { answer = (c .answer-of .ensures ∙ ap answerOf told) i; count = 0; ending = Ending.Spent; configuration = a .c })
     ∙ sym (runs-refused b (a .c) (a .budget) _ (card-first b _ e (a .c)))
 
--- src/lib.rt:114:9
 mind-of-requires : tie.Need-mind-of-requires
 mind-of-requires c κs = search needs
 
--- src/lib.rt:116:9
 run-requires : tie.Need-run-requires
 run-requires c κs =
     let b = now (c .before .before .before .before .before .before .before .before .args .card) in
     good-judged b _ (sym (c .before .before .before .before .before .before .check .ensures) ∙ c .before .before .before .before .v .given .1)
 
--- src/lib.rt:120:9
 whole-requires : tie.Need-whole-requires
 whole-requires c κs =
     let t = c .before .run in
     let m = c .before .before .before .before .mind-of in
     ⊎-elim (λ h. omega arith) (λ e. subst (λ (x : Mind). x .length ≤ 65535) (sym e) (m .ensures .2)) (t .ensures .1)
 
--- src/lib.rt:102:1
 returns-2 : tie.Need-returns-2
 returns-2 c =
     let a = c .before .before .before .before .before .before .before .before .before .before .before .args in

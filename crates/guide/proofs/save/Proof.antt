@@ -12,23 +12,18 @@ use denote.Ref.{now}
 use Rattle.guide.proofs.save.Statement.{statement}
 use Rattle.guide.proofs.save.Tie as tie
 
--- src/lib.rt:133:9
 check-requires : tie.Need-check-requires
 check-requires c κs = search needs
 
--- src/lib.rt:134:23
 enum-known-v : tie.Need-enum-known-v
 enum-known-v c = search needs
 
--- src/lib.rt:136:21
 enum-told : tie.Need-enum-told
 enum-told c = search needs
 
--- src/lib.rt:136:21
 answer-of-requires : tie.Need-answer-of-requires
 answer-of-requires c κs = search needs
 
--- src/lib.rt:135:9
 returns : tie.Need-returns
 returns c =
     let a = c .before .before .before .before .before .before .args in
@@ -38,21 +33,17 @@ returns c =
     let r = saves-refused b (a .t2) (now (a .out)) _ (card-first b _ e (a .t2)) in
     ((λ i. record { answer = (c .answer-of .ensures ∙ ap answerOf told) i; count = 0; configuration = a .t2 }) ∙ sym (r .0), sym (r .1))
 
--- src/lib.rt:141:9
 mind-of-requires : tie.Need-mind-of-requires
 mind-of-requires c κs = search needs
 
--- src/lib.rt:142:9
 save-requires : tie.Need-save-requires
 save-requires c κs =
     let b = now (c .before .before .before .before .before .before .before .before .before .before .args .card) in
     good-judged b _ (sym (c .before .before .before .before .before .before .before .check .ensures) ∙ c .before .before .before .before .before .v .given .1)
 
--- src/lib.rt:130:1
 same-length : tie.Need-same-length
 same-length c = search needs
 
--- src/lib.rt:130:1
 returns-2 : tie.Need-returns-2
 returns-2 c =
     let a = c .before .before .before .before .before .before .before .before .before .before .before .before .before .args in

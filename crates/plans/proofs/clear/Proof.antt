@@ -18,7 +18,6 @@ Inv-loop s₀ from to i₀ s i = (from ≤ i) × (i ≤ to) × (s ≡ paste s₀
 abbrev μ-loop : tie.MeasureT-loop
 μ-loop s₀ from to i₀ s i = to - i
 
--- src/lib.rt:51:5
 loop-holds : tie.Need-loop-holds Inv-loop μ-loop
 loop-holds c =
     let a = c .args in
@@ -27,19 +26,15 @@ loop-holds c =
     let z : List ℕ = replicate (a .to - a .from) 0 in
     (omega arith, omega arith, paste-zero d (a .from) z ∙ ap (paste d (a .from) z) e)
 
--- src/lib.rt:52:9
 element-write-s : tie.Need-element-write-s Inv-loop μ-loop
 element-write-s c = search needs
 
--- src/lib.rt:53:9
 add-i : tie.Need-add-i Inv-loop μ-loop
 add-i c = search needs
 
--- src/lib.rt:51:5
 loop-less : tie.Need-loop-less Inv-loop μ-loop
 loop-less c = search needs
 
--- src/lib.rt:51:5
 loop-again : tie.Need-loop-again Inv-loop μ-loop
 loop-again c =
     let a = c .before .before .args in
@@ -50,7 +45,6 @@ loop-again c =
       ap (λ (x : List ℕ). set x (l .i) 0) (l .inv .2) ∙ clear-more (now (a .s)) (a .from) (a .to) (l .i) (omega arith) (omega arith) (omega arith),
     )
 
--- src/lib.rt:46:1
 returns : tie.Need-returns Inv-loop μ-loop
 returns c =
     let a = c .before .before .args in

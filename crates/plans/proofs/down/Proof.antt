@@ -16,35 +16,27 @@ Inv-loop s₀ to from n i₀ s i = (i ≤ n) × (s ≡ paste s₀ to (drop from 
 abbrev μ-loop : tie.MeasureT-loop
 μ-loop s₀ to from n i₀ s i = n - i
 
--- src/lib.rt:15:5
 loop-holds : tie.Need-loop-holds Inv-loop μ-loop
 loop-holds c = (omega arith, paste-zero (now (c .args .s)) (c .args .to) (drop (c .args .from) (now (c .args .s))))
 
--- src/lib.rt:16:23
 add-s : tie.Need-add-s Inv-loop μ-loop
 add-s c = search needs
 
--- src/lib.rt:16:21
 element-copy-out-s : tie.Need-element-copy-out-s Inv-loop μ-loop
 element-copy-out-s c = search needs
 
--- src/lib.rt:16:11
 add-s-2 : tie.Need-add-s-2 Inv-loop μ-loop
 add-s-2 c = search needs
 
--- src/lib.rt:16:9
 element-write-s : tie.Need-element-write-s Inv-loop μ-loop
 element-write-s c = search needs
 
--- src/lib.rt:17:9
 add-i : tie.Need-add-i Inv-loop μ-loop
 add-i c = search needs
 
--- src/lib.rt:15:5
 loop-less : tie.Need-loop-less Inv-loop μ-loop
 loop-less c = search needs
 
--- src/lib.rt:15:5
 loop-again : tie.Need-loop-again Inv-loop μ-loop
 loop-again c =
     let a = c .before .before .before .args in
@@ -54,7 +46,6 @@ loop-again c =
       ap (λ (x : List ℕ). set x (a .to + l .i) (getD x (a .from + l .i) 0)) (l .inv .1) ∙ down-more (now (a .s)) (a .to) (a .from) (l .i) (omega arith) (omega arith),
     )
 
--- src/lib.rt:10:1
 returns : tie.Need-returns Inv-loop μ-loop
 returns c =
     let a = c .before .before .args in

@@ -1,16 +1,13 @@
 use Rattle.plans.proofs.Laws.{dropped}
 use mathlib.Core.Path.{_∙_}
-use Prim.Native.Nat.{_-_}
 use borrow.Author.Needs.{needs}
 use denote.Ref.{now}
 use Rattle.plans.proofs.drop_front.Statement.{statement}
 use Rattle.plans.proofs.drop_front.Tie as tie
 
--- src/lib.rt:76:5
 shift-requires : tie.Need-shift-requires
 shift-requires c κs = search needs
 
--- src/lib.rt:72:1
 returns : tie.Need-returns
 returns c =
     let a = c .before .before .args in

@@ -1,24 +1,20 @@
 use Rattle.plans.proofs.Laws.{length-put, filled}
 use mathlib.Core.Path.{_∙_}
-use Prim.Native.Nat.{_-_}
 use native.Mathlib.Omega.{arith}
 use borrow.Author.Needs.{needs}
 use denote.Ref.{now}
 use Rattle.plans.proofs.fill.Statement.{statement}
 use Rattle.plans.proofs.fill.Tie as tie
 
--- src/lib.rt:102:5
 put-requires : tie.Need-put-requires
 put-requires c κs = search needs
 
--- src/lib.rt:103:5
 clear-requires : tie.Need-clear-requires
 clear-requires c κs =
     let a = c .before .before .before .before .args in
     let p = c .before .before .before .before .pre in
     (p .0, omega arith, length-put (now (a .plan)) (now (a .bytes)) (a .start) (a .n) (p .1) (p .0) (p .2) (c .before .put .last .0) (c .before .put .ensures))
 
--- src/lib.rt:98:1
 returns : tie.Need-returns
 returns c =
     let a = c .before .before .before .before .before .args in

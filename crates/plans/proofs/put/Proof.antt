@@ -16,31 +16,24 @@ Inv-loop s₀ card start n i₀ s i = (i ≤ n) × (s ≡ paste s₀ 0 (drop sta
 abbrev μ-loop : tie.MeasureT-loop
 μ-loop s₀ card start n i₀ s i = n - i
 
--- src/lib.rt:39:5
 loop-holds : tie.Need-loop-holds Inv-loop μ-loop
 loop-holds c = (omega arith, paste-zero (now (c .args .s)) 0 (drop (c .args .start) (now (c .args .card))))
 
--- src/lib.rt:40:21
 add-s : tie.Need-add-s Inv-loop μ-loop
 add-s c = search needs
 
--- src/lib.rt:40:16
 shared-slice-read-s : tie.Need-shared-slice-read-s Inv-loop μ-loop
 shared-slice-read-s c = search needs
 
--- src/lib.rt:40:9
 element-write-s : tie.Need-element-write-s Inv-loop μ-loop
 element-write-s c = search needs
 
--- src/lib.rt:41:9
 add-i : tie.Need-add-i Inv-loop μ-loop
 add-i c = search needs
 
--- src/lib.rt:39:5
 loop-less : tie.Need-loop-less Inv-loop μ-loop
 loop-less c = search needs
 
--- src/lib.rt:39:5
 loop-again : tie.Need-loop-again Inv-loop μ-loop
 loop-again c =
     let a = c .before .before .before .args in
@@ -54,7 +47,6 @@ loop-again c =
           ∙ copy-more (now (a .s)) 0 (now (a .card)) (a .start) (l .i) (omega arith) (omega arith),
     )
 
--- src/lib.rt:34:1
 returns : tie.Need-returns Inv-loop μ-loop
 returns c =
     let a = c .before .before .args in

@@ -16,37 +16,29 @@ Inv-loop card at plan from n differing₀ i₀ differing i = (i ≤ n) × Kept (
 abbrev μ-loop : tie.MeasureT-loop
 μ-loop card at plan from n differing₀ i₀ differing i = n - i
 
--- src/lib.rt:107:5
 loop-holds : tie.Need-loop-holds Inv-loop μ-loop
 loop-holds c =
     let a = c .args in
     (omega arith, kept-start (λ j. eqb (getD (now (a .card)) (a .at + j) 0) (getD (now (a .plan)) (a .from + j) 0)) (a .n))
 
--- src/lib.rt:108:39
 add-differing : tie.Need-add-differing Inv-loop μ-loop
 add-differing c = search needs
 
--- src/lib.rt:108:34
 shared-slice-read-differing : tie.Need-shared-slice-read-differing Inv-loop μ-loop
 shared-slice-read-differing c = search needs
 
--- src/lib.rt:108:54
 add-differing-2 : tie.Need-add-differing-2 Inv-loop μ-loop
 add-differing-2 c = search needs
 
--- src/lib.rt:108:49
 element-copy-out-differing : tie.Need-element-copy-out-differing Inv-loop μ-loop
 element-copy-out-differing c = search needs
 
--- src/lib.rt:109:9
 add-i : tie.Need-add-i Inv-loop μ-loop
 add-i c = search needs
 
--- src/lib.rt:107:5
 loop-less : tie.Need-loop-less Inv-loop μ-loop
 loop-less c = search needs
 
--- src/lib.rt:107:5
 loop-again : tie.Need-loop-again Inv-loop μ-loop
 loop-again c =
     let a = c .before .before .before .before .args in
@@ -55,7 +47,6 @@ loop-again c =
     let k : Kept t (a .n) (eqb (l .differing) 0 && t (l .i)) (l .i + 1) = kept-turn t (a .n) (eqb (l .differing) 0) (l .i) (omega arith) (l .inv .1) in
     (omega arith, rw (← differing-more (l .differing) (getD (now (a .card)) (a .at + l .i) 0) (getD (now (a .plan)) (a .from + l .i) 0)) at k)
 
--- src/lib.rt:101:1
 returns : tie.Need-returns Inv-loop μ-loop
 returns c =
     let a = c .before .before .args in

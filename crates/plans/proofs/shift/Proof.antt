@@ -1,43 +1,36 @@
 use Rattle.plans.proofs.Laws.{length-zeroed, length-shift}
 use Rattle.plans.proofs.Laws.{shifted-up, shifted-down}
 use mathlib.Core.Path.{_∙_}
-use Prim.Native.Nat.{_-_}
 use native.Mathlib.Omega.{arith}
 use borrow.Author.Needs.{needs}
 use denote.Ref.{now}
 use Rattle.plans.proofs.shift.Statement.{statement}
 use Rattle.plans.proofs.shift.Tie as tie
 
--- src/lib.rt:62:16
 sub-tail : tie.Need-sub-tail
 sub-tail c = search needs
 
--- src/lib.rt:64:9
 down-requires : tie.Need-down-requires
 down-requires c κs =
     let a = c .before .before .args in
     let p = c .before .before .pre in
     (omega arith, omega arith, length-zeroed (now (a .plan)) (a .len) (p .1) (p .3))
 
--- src/lib.rt:65:21
 add-clear : tie.Need-add-clear
 add-clear c = search needs
 
--- src/lib.rt:65:9
 clear-requires : tie.Need-clear-requires
 clear-requires c κs =
     let a = c .before .before .before .before .args in
     let p = c .before .before .before .before .pre in
     (omega arith, omega arith, length-shift (now (a .plan)) (a .len) (a .hlen) (a .blen) (p .0) (p .1) (p .2) (p .3) (c .before .down .last .0) (c .before .down .ensures))
 
--- src/lib.rt:67:9
 up-requires : tie.Need-up-requires
 up-requires c κs =
     let a = c .before .before .args in
     let p = c .before .before .pre in
     (omega arith, omega arith, length-zeroed (now (a .plan)) (a .len) (p .1) (p .3))
 
--- src/lib.rt:58:1
 returns : tie.Need-returns
 returns c =
     let a = c .before .before .before .before .before .args in
@@ -45,7 +38,6 @@ returns c =
     c .clear .ensures
     ∙ shifted-down (now (a .plan)) (a .len) (a .hlen) (a .blen) (p .0) (p .1) (p .2) (p .3) (omega arith) (c .before .before .down .last .0) (c .before .before .down .ensures)
 
--- src/lib.rt:58:1
 returns-2 : tie.Need-returns-2
 returns-2 c =
     let a = c .before .before .before .args in

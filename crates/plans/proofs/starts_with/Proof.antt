@@ -19,7 +19,6 @@ Inv-loop card hstart hlen plan len last i₀ i = (i ≤ hlen) × Agree card plan
 abbrev μ-loop : tie.MeasureT-loop
 μ-loop card hstart hlen plan len last i₀ i = hlen - i
 
--- src/lib.rt:121:9
 returns : tie.Need-returns Inv-loop μ-loop
 returns c =
     let a = c .before .before .args in
@@ -29,15 +28,12 @@ returns c =
     let n : length π ≡ a .len = length-take-le (a .len) (now (a .plan)) (omega arith) in
     sym (too-long h π (omega arith))
 
--- src/lib.rt:123:8
 shared-slice-read-if2 : tie.Need-shared-slice-read-if2 Inv-loop μ-loop
 shared-slice-read-if2 c = search needs
 
--- src/lib.rt:123:24
 element-copy-out-if2 : tie.Need-element-copy-out-if2 Inv-loop μ-loop
 element-copy-out-if2 c = search needs
 
--- src/lib.rt:124:9
 returns-2 : tie.Need-returns-2 Inv-loop μ-loop
 returns-2 c =
     let a = c .before .before .before .before .before .args in
@@ -51,11 +47,9 @@ returns-2 c =
     let y : getD π 0 0 ≡ getD d 0 0 = getD-take (a .len) d 0 0 (omega arith) in
     sym (first-differs h π (omega arith) (omega arith) (rw (x, y) (ne-eqb _ _ (c .if2 .taken))))
 
--- src/lib.rt:127:9
 same-bytes-requires : tie.Need-same-bytes-requires Inv-loop μ-loop
 same-bytes-requires c κs = search needs
 
--- src/lib.rt:127:9
 returns-3 : tie.Need-returns-3 Inv-loop μ-loop
 returns-3 c =
     let a = c .before .before .before .before .before .before .before .args in
@@ -63,19 +57,15 @@ returns-3 c =
     let d = now (a .plan) in
     last-block b d (a .hstart) (a .hlen) (a .len) (omega arith) (omega arith) (omega arith) (a .hstart) 0 (a .hlen) 0 (omega arith) (omega arith) (omega arith) (λ j g. absurd (omega arith)) (c .same-bytes .result) (c .same-bytes .ensures)
 
--- src/lib.rt:131:5
 loop-holds : tie.Need-loop-holds Inv-loop μ-loop
 loop-holds c = (omega arith, λ j g. absurd (omega arith))
 
--- src/lib.rt:132:30
 add-same-bytes : tie.Need-add-same-bytes Inv-loop μ-loop
 add-same-bytes c = search needs
 
--- src/lib.rt:132:13
 same-bytes-requires-2 : tie.Need-same-bytes-requires-2 Inv-loop μ-loop
 same-bytes-requires-2 c κs = search needs
 
--- src/lib.rt:133:13
 returns-4 : tie.Need-returns-4 Inv-loop μ-loop
 returns-4 c =
     let a = c .before .before .before .before .before .before .before .before .before .before .args in
@@ -84,15 +74,12 @@ returns-4 c =
     let l = c .before .before .before .loop in
     block-differs b d (a .hstart) (a .hlen) (a .len) (omega arith) (omega arith) (omega arith) (a .hstart + l .i) (l .i) 64 refl (omega arith) (c .before .same-bytes2 .result) (c .before .same-bytes2 .ensures) (not-true _ (c .if4 .taken))
 
--- src/lib.rt:135:9
 add-i : tie.Need-add-i Inv-loop μ-loop
 add-i c = search needs
 
--- src/lib.rt:131:5
 loop-less : tie.Need-loop-less Inv-loop μ-loop
 loop-less c = search needs
 
--- src/lib.rt:131:5
 loop-again : tie.Need-loop-again Inv-loop μ-loop
 loop-again c =
     let a = c .before .before .before .before .before .before .before .before .before .before .args in
@@ -101,15 +88,12 @@ loop-again c =
     let l = c .before .before .before .loop in
     (omega arith, agree-more b d (a .hstart) (a .hlen) (a .len) (omega arith) (omega arith) (omega arith) (a .hstart + l .i) (l .i) 64 (l .i) refl (omega arith) (l .inv .1) (sym (c .before .same-bytes2 .ensures) ∙ not-false _ (c .if4 .left)))
 
--- src/lib.rt:137:22
 add-same-bytes-2 : tie.Need-add-same-bytes-2 Inv-loop μ-loop
 add-same-bytes-2 c = search needs
 
--- src/lib.rt:137:5
 same-bytes-requires-3 : tie.Need-same-bytes-requires-3 Inv-loop μ-loop
 same-bytes-requires-3 c κs = search needs
 
--- src/lib.rt:116:1
 returns-5 : tie.Need-returns-5 Inv-loop μ-loop
 returns-5 c =
     let a = c .before .before .before .before .before .before .before .before .before .args in

@@ -18,7 +18,6 @@ Inv-loop s₀ to from n i₀ s i = (i ≤ n) × (s ≡ paste s₀ (to + i) (drop
 abbrev μ-loop : tie.MeasureT-loop
 μ-loop s₀ to from n i₀ s i = i
 
--- src/lib.rt:27:5
 loop-holds : tie.Need-loop-holds Inv-loop μ-loop
 loop-holds c =
     let a = c .args in
@@ -26,31 +25,24 @@ loop-holds c =
     let e : 0 ≡ a .n - a .n = omega arith in
     (omega arith, paste-zero d (a .to + a .n) (drop (a .from + a .n) d) ∙ ap (paste d (a .to + a .n) (drop (a .from + a .n) d)) e)
 
--- src/lib.rt:28:9
 sub-i : tie.Need-sub-i Inv-loop μ-loop
 sub-i c = search needs
 
--- src/lib.rt:29:23
 add-s : tie.Need-add-s Inv-loop μ-loop
 add-s c = search needs
 
--- src/lib.rt:29:21
 element-copy-out-s : tie.Need-element-copy-out-s Inv-loop μ-loop
 element-copy-out-s c = search needs
 
--- src/lib.rt:29:11
 add-s-2 : tie.Need-add-s-2 Inv-loop μ-loop
 add-s-2 c = search needs
 
--- src/lib.rt:29:9
 element-write-s : tie.Need-element-write-s Inv-loop μ-loop
 element-write-s c = search needs
 
--- src/lib.rt:27:5
 loop-less : tie.Need-loop-less Inv-loop μ-loop
 loop-less c = search needs
 
--- src/lib.rt:27:5
 loop-again : tie.Need-loop-again Inv-loop μ-loop
 loop-again c =
     let a = c .before .before .before .args in
@@ -61,7 +53,6 @@ loop-again c =
           ∙ up-more (now (a .s)) (a .to) (a .from) (a .n) (l .i) (omega arith) (omega arith) (omega arith) (omega arith),
     )
 
--- src/lib.rt:22:1
 returns : tie.Need-returns Inv-loop μ-loop
 returns c =
     let a = c .before .before .args in

@@ -9,51 +9,39 @@ Inv-loop card kind codes n i₀ i = i ≤ 768
 abbrev μ-loop : tie.MeasureT-loop
 μ-loop card kind codes n i₀ i = 768 - i
 
--- src/main.rt:74:39
 slice-aggregate-list : tie.Need-slice-aggregate-list Inv-loop μ-loop
 slice-aggregate-list c = search needs
 
--- src/main.rt:74:9
 list-requires : tie.Need-list-requires Inv-loop μ-loop
 list-requires c κs = search needs
 
--- src/main.rt:75:13
 cast-n : tie.Need-cast-n Inv-loop μ-loop
 cast-n c = search needs
 
--- src/main.rt:77:5
 loop-holds : tie.Need-loop-holds Inv-loop μ-loop
 loop-holds c = search needs
 
--- src/main.rt:79:13
 returns : tie.Need-returns Inv-loop μ-loop
 returns c = search needs
 
--- src/main.rt:81:20
 mul-code : tie.Need-mul-code Inv-loop μ-loop
 mul-code c = search needs
 
--- src/main.rt:81:20
 array-read-code : tie.Need-array-read-code Inv-loop μ-loop
 array-read-code c = search needs
 
--- src/main.rt:83:13
 returns-2 : tie.Need-returns-2 Inv-loop μ-loop
 returns-2 c = search needs
 
--- src/main.rt:85:9
 add-i : tie.Need-add-i Inv-loop μ-loop
 add-i c = search needs
 
--- src/main.rt:77:5
 loop-less : tie.Need-loop-less Inv-loop μ-loop
 loop-less c = search needs
 
--- src/main.rt:77:5
 loop-again : tie.Need-loop-again Inv-loop μ-loop
 loop-again c = search needs
 
--- src/main.rt:72:1
 returns-3 : tie.Need-returns-3 Inv-loop μ-loop
 returns-3 c = search needs
 

@@ -9,66 +9,51 @@ Inv-loop card c₀ count₀ c count = count ≤ 1000
 abbrev μ-loop : tie.MeasureT-loop
 μ-loop card c₀ count₀ c count = 1000 - count
 
--- src/main.rt:110:5
 loop-holds : tie.Need-loop-holds Inv-loop μ-loop
 loop-holds c = search needs
 
--- src/main.rt:111:13
 run-requires : tie.Need-run-requires Inv-loop μ-loop
 run-requires c κs = search needs
 
 enum-told : tie.Need-enum-told Inv-loop μ-loop
 enum-told c = search needs
 
--- src/main.rt:114:13
 last-line-requires : tie.Need-last-line-requires Inv-loop μ-loop
 last-line-requires c κs = search needs
 
--- src/main.rt:115:13
 returns : tie.Need-returns Inv-loop μ-loop
 returns c = search needs
 
--- src/main.rt:118:22
 add-kind : tie.Need-add-kind Inv-loop μ-loop
 add-kind c = search needs
 
--- src/main.rt:118:20
 cast-kind : tie.Need-cast-kind Inv-loop μ-loop
 cast-kind c = search needs
 
--- src/main.rt:119:13
 lowest-requires : tie.Need-lowest-requires Inv-loop μ-loop
 lowest-requires c κs = search needs
 
--- src/main.rt:120:53
 cast-plan-weight : tie.Need-cast-plan-weight Inv-loop μ-loop
 cast-plan-weight c = search needs
 
--- src/main.rt:120:13
 plan-weight-requires : tie.Need-plan-weight-requires Inv-loop μ-loop
 plan-weight-requires c κs = search needs
 
--- src/main.rt:121:9
 add-count : tie.Need-add-count Inv-loop μ-loop
 add-count c = search needs
 
--- src/main.rt:122:9
 step-line-requires : tie.Need-step-line-requires Inv-loop μ-loop
 step-line-requires c κs = search needs
 
--- src/main.rt:110:5
 loop-less : tie.Need-loop-less Inv-loop μ-loop
 loop-less c = search needs
 
--- src/main.rt:110:5
 loop-again : tie.Need-loop-again Inv-loop μ-loop
 loop-again c = search needs
 
--- src/main.rt:125:5
 last-line-requires-2 : tie.Need-last-line-requires-2 Inv-loop μ-loop
 last-line-requires-2 c κs = search needs
 
--- src/main.rt:107:1
 returns-2 : tie.Need-returns-2 Inv-loop μ-loop
 returns-2 c = search needs
 

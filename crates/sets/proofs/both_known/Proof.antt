@@ -1,21 +1,17 @@
 use Rattle.meaning.specs.Refusals.{setGood}
 use Rattle.sets.proofs.KnownAtoms.{good-∪}
 use mathlib.Core.Path.{ap, _∙_}
-use Prim.Native.Nat.{_-_}
 use native.Mathlib.Omega.{arith}
 use borrow.Author.Needs.{needs}
 use Rattle.sets.proofs.both_known.Statement.{statement}
 use Rattle.sets.proofs.both_known.Tie as tie
 
--- src/lib.rt:112:11
 union-requires : tie.Need-union-requires
 union-requires c κs = search needs
 
--- src/lib.rt:112:5
 known-requires : tie.Need-known-requires
 known-requires c κs = search needs
 
--- src/lib.rt:108:1
 returns : tie.Need-returns
 returns c =
     let a = c .before .before .args in

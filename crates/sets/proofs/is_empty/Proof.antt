@@ -13,30 +13,24 @@ Inv-loop s empty₀ i₀ empty i = (i ≤ 16) × Found (λ x. eqb x 0) s empty i
 abbrev μ-loop : tie.MeasureT-loop
 μ-loop s empty₀ i₀ empty i = 16 - i
 
--- src/lib.rt:51:5
 loop-holds : tie.Need-loop-holds Inv-loop μ-loop
 loop-holds c = (omega arith, refl)
 
--- src/lib.rt:52:26
 array-read-empty : tie.Need-array-read-empty Inv-loop μ-loop
 array-read-empty c = search needs
 
--- src/lib.rt:53:9
 add-i : tie.Need-add-i Inv-loop μ-loop
 add-i c = search needs
 
--- src/lib.rt:51:5
 loop-less : tie.Need-loop-less Inv-loop μ-loop
 loop-less c = search needs
 
--- src/lib.rt:51:5
 loop-again : tie.Need-loop-again Inv-loop μ-loop
 loop-again c =
     let s = c .before .before .args .t1 in
     let l = c .before .loop in
     (omega arith, found-turn (λ x. eqb x 0) s (l .empty) (l .i) 0 (omega arith) (l .inv .1))
 
--- src/lib.rt:46:1
 returns : tie.Need-returns Inv-loop μ-loop
 returns c =
     let s = c .before .before .args .t1 in

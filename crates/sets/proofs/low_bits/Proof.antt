@@ -2,39 +2,30 @@ use Rattle.sets.proofs.Below.{from-eight, all-eight}
 use Rattle.sets.proofs.low_bits.Statement.{statement}
 use Rattle.sets.proofs.low_bits.Tie as tie
 
--- src/lib.rt:59:1
 returns : tie.Need-returns
 returns c = rw (c .match .keys1)
 
--- src/lib.rt:59:1
 returns-2 : tie.Need-returns-2
 returns-2 c = rw (c .match .keys2)
 
--- src/lib.rt:59:1
 returns-3 : tie.Need-returns-3
 returns-3 c = rw (c .match .keys3)
 
--- src/lib.rt:59:1
 returns-4 : tie.Need-returns-4
 returns-4 c = rw (c .match .keys4)
 
--- src/lib.rt:59:1
 returns-5 : tie.Need-returns-5
 returns-5 c = rw (c .match .keys5)
 
--- src/lib.rt:59:1
 returns-6 : tie.Need-returns-6
 returns-6 c = rw (c .match .keys6)
 
--- src/lib.rt:59:1
 returns-7 : tie.Need-returns-7
 returns-7 c = rw (c .match .keys7)
 
--- src/lib.rt:59:1
 returns-8 : tie.Need-returns-8
 returns-8 c = rw (c .match .keys8)
 
--- src/lib.rt:59:1
 returns-9 : tie.Need-returns-9
 returns-9 c =
     let n = c .before .args .n in

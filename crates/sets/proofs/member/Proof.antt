@@ -7,26 +7,21 @@ use borrow.Author.Needs.{needs}
 use Rattle.sets.proofs.member.Statement.{statement}
 use Rattle.sets.proofs.member.Tie as tie
 
--- src/lib.rt:12:13
 cast-i : tie.Need-cast-i
 cast-i c = search needs
 
--- src/lib.rt:14:9
 returns : tie.Need-returns
 unfolding bit _∈_
 returns c =
     let past : length (c .before .args .t1) ≤ c .before .args .k / 8 = omega arith in
     rw (List·getD-eq-default (c .before .args .t1) 0 past, zero-div)
 
--- src/lib.rt:16:6
 array-read-result : tie.Need-array-read-result
 array-read-result c = search needs
 
--- src/lib.rt:16:6
 shr-result : tie.Need-shr-result
 shr-result c = search needs
 
--- src/lib.rt:9:1
 returns-2 : tie.Need-returns-2
 unfolding bit _∈_
 returns-2 c = search needs

@@ -15,31 +15,24 @@ Inv-loop a b r₀ i₀ r i = (i ≤ 16) × (r ≡ filled (a ∪ b) a i)
 abbrev μ-loop : tie.MeasureT-loop
 μ-loop a b r₀ i₀ r i = 16 - i
 
--- src/lib.rt:25:5
 loop-holds : tie.Need-loop-holds Inv-loop μ-loop
 loop-holds c = (omega arith, refl)
 
--- src/lib.rt:26:16
 array-read-r : tie.Need-array-read-r Inv-loop μ-loop
 array-read-r c = search needs
 
--- src/lib.rt:26:23
 array-read-r-2 : tie.Need-array-read-r-2 Inv-loop μ-loop
 array-read-r-2 c = search needs
 
--- src/lib.rt:26:9
 array-write-r : tie.Need-array-write-r Inv-loop μ-loop
 array-write-r c = search needs
 
--- src/lib.rt:27:9
 add-i : tie.Need-add-i Inv-loop μ-loop
 add-i c = search needs
 
--- src/lib.rt:25:5
 loop-less : tie.Need-loop-less Inv-loop μ-loop
 loop-less c = search needs
 
--- src/lib.rt:25:5
 loop-again : tie.Need-loop-again Inv-loop μ-loop
 loop-again c =
     let a = c .before .before .args .t1 in
@@ -50,7 +43,6 @@ loop-again c =
     let same : length (a ∪ b) ≡ length a = length-∪ a b (la ∙ sym lb) in
     (omega arith, rw (l .inv .1) (filled-turn (a ∪ b) a same (l .i) 0 _ (omega arith) (sym (at-∪ a b (l .i)))))
 
--- src/lib.rt:20:1
 returns : tie.Need-returns Inv-loop μ-loop
 returns c =
     let a = c .before .before .args .t1 in

@@ -2,19 +2,15 @@ use borrow.Author.Needs.{needs}
 use Rattle.card.proofs.check.answer_of.Statement.{statement}
 use Rattle.card.proofs.check.answer_of.Tie as tie
 
--- src/check.rt:165:29
 enum-told : tie.Need-enum-told
 enum-told c = search needs
 
--- src/check.rt:166:26
 enum-known-v : tie.Need-enum-known-v
 enum-known-v c = search needs
 
--- src/check.rt:161:1
 returns : tie.Need-returns
 returns c = rw (c .enum-told .given .1)
 
--- src/check.rt:161:1
 returns-2 : tie.Need-returns-2
 returns-2 c = rw (c .before .v .given .1)
 

@@ -10,19 +10,15 @@ use denote.Ref.{now}
 use Rattle.card.proofs.check.check.Statement.{statement}
 use Rattle.card.proofs.check.check.Tie as tie
 
--- src/check.rt:153:9
 judge-card-requires : tie.Need-judge-card-requires
 judge-card-requires c κs = search needs
 
--- src/check.rt:154:25
 enum-known-a : tie.Need-enum-known-a
 enum-known-a c = search needs
 
--- src/check.rt:155:30
 enum-told : tie.Need-enum-told
 enum-told c = search needs
 
--- src/check.rt:155:30
 read-layout-requires : tie.Need-read-layout-requires
 unfolding cardShort
 read-layout-requires c κs =
@@ -30,14 +26,12 @@ read-layout-requires c κs =
     let e : cardAnswer b ≡ Done = sym (c .before .before .judge-card .ensures) ∙ c .enum-told .given .1 in
     ltb-false _ 64 (accepted b e .long-enough)
 
--- src/check.rt:155:9
 returns : tie.Need-returns
 returns c =
     let b = now (c .before .before .before .before .before .args .card) in
     let e : cardAnswer b ≡ Done = sym (c .before .before .before .judge-card .ensures) ∙ c .before .enum-told .given .1 in
     ap Checked.Good (c .read-layout .ensures .0) ∙ sym (checks-good b e)
 
--- src/check.rt:150:1
 returns-2 : tie.Need-returns-2
 returns-2 c =
     let b = now (c .before .before .before .before .before .args .card) in

@@ -9,22 +9,18 @@ use denote.Ref.{now}
 use Rattle.card.proofs.check.from_counts.Statement.{statement}
 use Rattle.card.proofs.check.from_counts.Tie as tie
 
--- src/check.rt:110:17
 counts-good-requires : tie.Need-counts-good-requires
 counts-good-requires c κs = search needs
 
--- src/check.rt:110:9
 row-requires : tie.Need-row-requires
 row-requires c κs = search needs
 
 enum-told : tie.Need-enum-told
 enum-told c = search needs
 
--- src/check.rt:112:9
 enum-told-2 : tie.Need-enum-told-2
 enum-told-2 c = search needs
 
--- src/check.rt:112:9
 returns : tie.Need-returns
 unfolding rowsFrom cardTable
 returns c =
@@ -32,13 +28,11 @@ returns c =
     let e : c .before .before .before .counts-good .result ≡ countsGood (layout b) = c .before .before .before .counts-good .ensures ∙ ap (λ l. countsGood l) (c .before .before .before .before .before .pre .0) in
     stops _ _ b (c .before .before .before .counts-good .result) (ap not (sym e)) (c .before .before .row .result) (c .before .before .row .ensures) _ (c .enum-told2 .given .1)
 
--- src/check.rt:114:5
 from-offsets-requires : tie.Need-from-offsets-requires
 from-offsets-requires c κs =
     let p = c .before .before .before .before .before .pre in
     (p .0, p .1, sym (c .before .before .before .counts-good .ensures) ∙ row-done _ _ (sym (c .before .before .row .ensures) ∙ c .enum-told .given .1))
 
--- src/check.rt:106:1
 returns-2 : tie.Need-returns-2
 unfolding rowsFrom cardTable
 returns-2 c =

@@ -7,37 +7,30 @@ use denote.Ref.{now}
 use Rattle.card.proofs.check.from_mark.Statement.{statement}
 use Rattle.card.proofs.check.from_mark.Tie as tie
 
--- src/check.rt:131:17
 marked-requires : tie.Need-marked-requires
 marked-requires c κs = search needs
 
--- src/check.rt:131:9
 row-requires : tie.Need-row-requires
 row-requires c κs = search needs
 
 enum-told : tie.Need-enum-told
 enum-told c = search needs
 
--- src/check.rt:133:9
 enum-told-2 : tie.Need-enum-told-2
 enum-told-2 c = search needs
 
--- src/check.rt:133:9
 returns : tie.Need-returns
 unfolding rowsFrom cardTable
 returns c =
     let b = now (c .before .before .before .before .before .args .card) in
     stops _ _ b (c .before .before .before .marked .result) (c .before .before .before .marked .ensures) (c .before .before .row .result) (c .before .before .row .ensures) _ (c .enum-told2 .given .1)
 
--- src/check.rt:135:23
 read-layout-requires : tie.Need-read-layout-requires
 read-layout-requires c κs = search needs
 
--- src/check.rt:135:5
 from-counts-requires : tie.Need-from-counts-requires
 from-counts-requires c κs = search needs
 
--- src/check.rt:127:1
 returns-2 : tie.Need-returns-2
 unfolding rowsFrom cardTable
 returns-2 c =

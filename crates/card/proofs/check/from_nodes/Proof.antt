@@ -9,22 +9,18 @@ use denote.Ref.{now}
 use Rattle.card.proofs.check.from_nodes.Statement.{statement}
 use Rattle.card.proofs.check.from_nodes.Tie as tie
 
--- src/check.rt:74:17
 nodes-good-requires : tie.Need-nodes-good-requires
 nodes-good-requires c κs = search needs
 
--- src/check.rt:74:9
 row-requires : tie.Need-row-requires
 row-requires c κs = search needs
 
 enum-told : tie.Need-enum-told
 enum-told c = search needs
 
--- src/check.rt:76:9
 enum-told-2 : tie.Need-enum-told-2
 enum-told-2 c = search needs
 
--- src/check.rt:76:9
 returns : tie.Need-returns
 unfolding rowsFrom cardTable
 returns c =
@@ -32,13 +28,11 @@ returns c =
     let e : c .before .before .before .nodes-good .result ≡ nodesGood (layout b) b = c .before .before .before .nodes-good .ensures ∙ ap (λ l. nodesGood l b) (c .before .before .before .before .before .pre .0 .says) in
     stops _ _ b (c .before .before .before .nodes-good .result) (ap not (sym e)) (c .before .before .row .result) (c .before .before .row .ensures) _ (c .enum-told2 .given .1)
 
--- src/check.rt:78:5
 from-rules-requires : tie.Need-from-rules-requires
 from-rules-requires c κs =
     let p = c .before .before .before .before .before .pre in
     (p .0, sym (c .before .before .before .nodes-good .ensures) ∙ row-done _ _ (sym (c .before .before .row .ensures) ∙ c .enum-told .given .1), p .1)
 
--- src/check.rt:70:1
 returns-2 : tie.Need-returns-2
 unfolding rowsFrom cardTable
 returns-2 c =

@@ -11,22 +11,18 @@ use lib.ListN.{length}
 use Rattle.card.proofs.check.from_offsets.Statement.{statement}
 use Rattle.card.proofs.check.from_offsets.Tie as tie
 
--- src/check.rt:98:17
 offsets-good-requires : tie.Need-offsets-good-requires
 offsets-good-requires c κs = search needs
 
--- src/check.rt:98:9
 row-requires : tie.Need-row-requires
 row-requires c κs = search needs
 
 enum-told : tie.Need-enum-told
 enum-told c = search needs
 
--- src/check.rt:100:9
 enum-told-2 : tie.Need-enum-told-2
 enum-told-2 c = search needs
 
--- src/check.rt:100:9
 returns : tie.Need-returns
 unfolding rowsFrom cardTable
 returns c =
@@ -34,14 +30,12 @@ returns c =
     let e : c .before .before .before .offsets-good .result ≡ offsetsGood (layout b) (length b) = c .before .before .before .offsets-good .ensures ∙ ap (λ l. offsetsGood l (length b)) (c .before .before .before .before .before .pre .0) in
     stops _ _ b (c .before .before .before .offsets-good .result) (ap not (sym e)) (c .before .before .row .result) (c .before .before .row .ensures) _ (c .enum-told2 .given .1)
 
--- src/check.rt:102:5
 from-weights-requires : tie.Need-from-weights-requires
 from-weights-requires c κs =
     let a = c .before .before .before .before .before .args in
     let p = c .before .before .before .before .before .pre in
     (laid (a .l) (now (a .card)) (p .0) (p .2) (sym (c .before .before .before .offsets-good .ensures) ∙ row-done _ _ (sym (c .before .before .row .ensures) ∙ c .enum-told .given .1)), p .1 .initial)
 
--- src/check.rt:94:1
 returns-2 : tie.Need-returns-2
 unfolding rowsFrom cardTable
 returns-2 c =

@@ -9,22 +9,18 @@ use denote.Ref.{now}
 use Rattle.card.proofs.check.from_pool.Statement.{statement}
 use Rattle.card.proofs.check.from_pool.Tie as tie
 
--- src/check.rt:50:17
 pool-good-requires : tie.Need-pool-good-requires
 pool-good-requires c κs = search needs
 
--- src/check.rt:50:9
 row-requires : tie.Need-row-requires
 row-requires c κs = search needs
 
 enum-told : tie.Need-enum-told
 enum-told c = search needs
 
--- src/check.rt:52:9
 enum-told-2 : tie.Need-enum-told-2
 enum-told-2 c = search needs
 
--- src/check.rt:52:9
 returns : tie.Need-returns
 unfolding rowsFrom cardTable
 returns c =
@@ -32,11 +28,9 @@ returns c =
     let e : c .before .before .before .pool-good .result ≡ actionsGood (layout b .actions) (pool (layout b) b) = c .before .before .before .pool-good .ensures ∙ ap (λ l. actionsGood (l .actions) (pool l b)) (c .before .before .before .before .before .pre .says) in
     stops _ _ b (c .before .before .before .pool-good .result) (ap not (sym e)) (c .before .before .row .result) (c .before .before .row .ensures) _ (c .enum-told2 .given .1)
 
--- src/check.rt:54:5
 from-sets-requires : tie.Need-from-sets-requires
 from-sets-requires c κs = search needs
 
--- src/check.rt:46:1
 returns-2 : tie.Need-returns-2
 unfolding rowsFrom cardTable
 returns-2 c =

@@ -9,22 +9,18 @@ use denote.Ref.{now}
 use Rattle.card.proofs.check.from_rules.Statement.{statement}
 use Rattle.card.proofs.check.from_rules.Tie as tie
 
--- src/check.rt:62:17
 rules-good-requires : tie.Need-rules-good-requires
 rules-good-requires c κs = search needs
 
--- src/check.rt:62:9
 row-requires : tie.Need-row-requires
 row-requires c κs = search needs
 
 enum-told : tie.Need-enum-told
 enum-told c = search needs
 
--- src/check.rt:64:9
 enum-told-2 : tie.Need-enum-told-2
 enum-told-2 c = search needs
 
--- src/check.rt:64:9
 returns : tie.Need-returns
 unfolding rowsFrom cardTable
 returns c =
@@ -32,11 +28,9 @@ returns c =
     let e : c .before .before .before .rules-good .result ≡ rulesGood (containing 1 (layout b) b) (containing 2 (layout b) b) (layout b) b = c .before .before .before .rules-good .ensures ∙ ap (λ l. rulesGood (containing 1 l b) (containing 2 l b) l b) (c .before .before .before .before .before .pre .0 .says) in
     stops _ _ b (c .before .before .before .rules-good .result) (ap not (sym e)) (c .before .before .row .result) (c .before .before .row .ensures) _ (c .enum-told2 .given .1)
 
--- src/check.rt:66:5
 from-pool-requires : tie.Need-from-pool-requires
 from-pool-requires c κs = search needs
 
--- src/check.rt:58:1
 returns-2 : tie.Need-returns-2
 unfolding rowsFrom cardTable
 returns-2 c =

@@ -9,15 +9,12 @@ use denote.Ref.{now}
 use Rattle.card.proofs.check.from_sets.Statement.{statement}
 use Rattle.card.proofs.check.from_sets.Tie as tie
 
--- src/check.rt:42:9
 sets-good-requires : tie.Need-sets-good-requires
 sets-good-requires c κs = search needs
 
--- src/check.rt:42:5
 row-requires : tie.Need-row-requires
 row-requires c κs = search needs
 
--- src/check.rt:38:1
 returns : tie.Need-returns
 unfolding rowsFrom cardTable
 returns c =

@@ -9,22 +9,18 @@ use denote.Ref.{now}
 use Rattle.card.proofs.check.from_weights.Statement.{statement}
 use Rattle.card.proofs.check.from_weights.Tie as tie
 
--- src/check.rt:86:17
 weights-good-requires : tie.Need-weights-good-requires
 weights-good-requires c κs = search needs
 
--- src/check.rt:86:9
 row-requires : tie.Need-row-requires
 row-requires c κs = search needs
 
 enum-told : tie.Need-enum-told
 enum-told c = search needs
 
--- src/check.rt:88:9
 enum-told-2 : tie.Need-enum-told-2
 enum-told-2 c = search needs
 
--- src/check.rt:88:9
 returns : tie.Need-returns
 unfolding rowsFrom cardTable
 returns c =
@@ -32,11 +28,9 @@ returns c =
     let e : c .before .before .before .weights-good .result ≡ weightsGood (layout b) b = c .before .before .before .weights-good .ensures ∙ ap (λ l. weightsGood l b) (c .before .before .before .before .before .pre .0 .says) in
     stops _ _ b (c .before .before .before .weights-good .result) (ap not (sym e)) (c .before .before .row .result) (c .before .before .row .ensures) _ (c .enum-told2 .given .1)
 
--- src/check.rt:90:5
 from-nodes-requires : tie.Need-from-nodes-requires
 from-nodes-requires c κs = search needs
 
--- src/check.rt:82:1
 returns-2 : tie.Need-returns-2
 unfolding rowsFrom cardTable
 returns-2 c =

@@ -10,30 +10,25 @@ use lib.ListN.{length}
 use Rattle.card.proofs.check.judge_card.Statement.{statement}
 use Rattle.card.proofs.check.judge_card.Tie as tie
 
--- src/check.rt:142:9
 row-requires : tie.Need-row-requires
 row-requires c κs = search needs
 
 enum-told : tie.Need-enum-told
 enum-told c = search needs
 
--- src/check.rt:144:9
 enum-told-2 : tie.Need-enum-told-2
 enum-told-2 c = search needs
 
--- src/check.rt:144:9
 returns : tie.Need-returns
 unfolding cardAnswer cardTable cardShort
 returns c =
     let b = now (c .before .before .before .before .args .card) in
     stops _ _ b (leb 64 (length b)) (ltb-not (length b) 64) (c .before .before .row .result) (c .before .before .row .ensures) _ (c .enum-told2 .given .1)
 
--- src/check.rt:146:5
 from-mark-requires : tie.Need-from-mark-requires
 from-mark-requires c κs =
     leb-true 64 _ (row-done _ _ (sym (c .before .before .row .ensures) ∙ c .enum-told .given .1))
 
--- src/check.rt:139:1
 returns-2 : tie.Need-returns-2
 unfolding cardAnswer rowsFrom cardTable cardShort
 returns-2 c =

@@ -3,19 +3,15 @@ use borrow.Author.Needs.{needs}
 use Rattle.card.proofs.check.marked.Statement.{statement}
 use Rattle.card.proofs.check.marked.Tie as tie
 
--- src/check.rt:122:9
 number-at-requires : tie.Need-number-at-requires
 number-at-requires c κs = search needs
 
--- src/check.rt:123:6
 shared-slice-read-result : tie.Need-shared-slice-read-result
 shared-slice-read-result c = search needs
 
--- src/check.rt:123:27
 shared-slice-read-result-2 : tie.Need-shared-slice-read-result-2
 shared-slice-read-result-2 c = search needs
 
--- src/check.rt:118:1
 returns : tie.Need-returns
 unfolding cardMark
 returns c = rw (c .before .before .number-at .ensures .0)

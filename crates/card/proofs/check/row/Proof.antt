@@ -1,11 +1,9 @@
 use Rattle.card.proofs.check.row.Statement.{statement}
 use Rattle.card.proofs.check.row.Tie as tie
 
--- src/check.rt:27:1
 returns : tie.Need-returns
 returns c = rw (c .if1 .taken)
 
--- src/check.rt:27:1
 returns-2 : tie.Need-returns-2
 returns-2 c = rw (c .if1 .left)
 

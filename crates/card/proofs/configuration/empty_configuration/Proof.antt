@@ -4,11 +4,9 @@ use lib.ListN.{length, replicate}
 use Rattle.card.proofs.configuration.empty_configuration.Statement.{statement}
 use Rattle.card.proofs.configuration.empty_configuration.Tie as tie
 
--- src/configuration.rt:11:9
 no-plan-requires : tie.Need-no-plan-requires
 no-plan-requires c κs = search needs
 
--- src/configuration.rt:8:1
 returns : tie.Need-returns
 unfolding empty configurationOf
 returns c = λ i. record { beliefs = replicate 16 0; goals = replicate 16 0; plan = c .no-plan .ensures i; length = 0; phase = 0 }

@@ -20,7 +20,6 @@ Inv-loop bytes from n actions last good₀ i₀ good i = (i ≤ n) × Found (λ 
 abbrev μ-loop : tie.MeasureT-loop
 μ-loop bytes from n actions last good₀ i₀ good i = n - i
 
--- src/contents.rt:47:9
 returns : tie.Need-returns Inv-loop μ-loop
 unfolding actionsGood
 returns c =
@@ -31,31 +30,24 @@ returns c =
     ∙ of-none p
     ∙ ap (λ k. all (λ x. ltb x k) p) (sym e)
 
--- src/contents.rt:49:9
 last-action-requires : tie.Need-last-action-requires Inv-loop μ-loop
 last-action-requires c κs = search needs
 
--- src/contents.rt:52:5
 loop-holds : tie.Need-loop-holds Inv-loop μ-loop
 loop-holds c = (omega arith, refl)
 
--- src/contents.rt:53:30
 add-good : tie.Need-add-good Inv-loop μ-loop
 add-good c = search needs
 
--- src/contents.rt:53:24
 shared-slice-read-good : tie.Need-shared-slice-read-good Inv-loop μ-loop
 shared-slice-read-good c = search needs
 
--- src/contents.rt:54:9
 add-i : tie.Need-add-i Inv-loop μ-loop
 add-i c = search needs
 
--- src/contents.rt:52:5
 loop-less : tie.Need-loop-less Inv-loop μ-loop
 loop-less c = search needs
 
--- src/contents.rt:52:5
 loop-again : tie.Need-loop-again Inv-loop μ-loop
 loop-again c =
     let a = c .before .before .before .before .before .before .args in
@@ -68,7 +60,6 @@ loop-again c =
     ap (leb x) (c .before .before .before .last-action .ensures) ∙ known-by-last x (a .actions) (omega arith) (omega (arith, c .shared-slice-known2 .given (a .from + l .i))) ∙ ap t (sym (part-at b (a .from) (a .n) (l .i) (omega arith))) in
     (omega arith, rw e (found-turn t p (l .good) (l .i) 0 (rw (length-part b (a .from) (a .n) (omega arith)) (omega arith)) (l .inv .1)))
 
--- src/contents.rt:42:1
 returns-2 : tie.Need-returns-2 Inv-loop μ-loop
 unfolding actionsGood
 returns-2 c =

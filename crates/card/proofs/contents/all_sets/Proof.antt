@@ -31,19 +31,15 @@ Inv-loop card n from all₀ i₀ all i = (i ≤ n) × (length all ≡ 16) × Ask
 abbrev μ-loop : tie.MeasureT-loop
 μ-loop card n from all₀ i₀ all i = n - i
 
--- src/contents.rt:76:31
 set-at-requires : tie.Need-set-at-requires Inv-loop μ-loop
 set-at-requires c κs = search needs
 
--- src/contents.rt:76:49
 set-at-requires-2 : tie.Need-set-at-requires-2 Inv-loop μ-loop
 set-at-requires-2 c κs = search needs
 
--- src/contents.rt:76:9
 union-requires : tie.Need-union-requires Inv-loop μ-loop
 union-requires c κs = search needs
 
--- src/contents.rt:78:5
 loop-holds : tie.Need-loop-holds Inv-loop μ-loop
 loop-holds c =
     let a = c .before .before .before .before .before .args in
@@ -63,47 +59,36 @@ loop-holds c =
           ∙ and-assoc (setGood k X) (setGood k Y) (every n (f k)),
     )
 
--- src/contents.rt:79:25
 mul-at : tie.Need-mul-at Inv-loop μ-loop
 mul-at c = search needs
 
--- src/contents.rt:79:18
 add-at : tie.Need-add-at Inv-loop μ-loop
 add-at c = search needs
 
--- src/contents.rt:80:45
 add-set-at : tie.Need-add-set-at Inv-loop μ-loop
 add-set-at c = search needs
 
--- src/contents.rt:80:32
 set-at-requires-3 : tie.Need-set-at-requires-3 Inv-loop μ-loop
 set-at-requires-3 c κs = search needs
 
--- src/contents.rt:80:67
 add-set-at-2 : tie.Need-add-set-at-2 Inv-loop μ-loop
 add-set-at-2 c = search needs
 
--- src/contents.rt:80:54
 set-at-requires-4 : tie.Need-set-at-requires-4 Inv-loop μ-loop
 set-at-requires-4 c κs = search needs
 
--- src/contents.rt:80:13
 union-requires-2 : tie.Need-union-requires-2 Inv-loop μ-loop
 union-requires-2 c κs = search needs
 
--- src/contents.rt:81:13
 union-requires-3 : tie.Need-union-requires-3 Inv-loop μ-loop
 union-requires-3 c κs = search needs
 
--- src/contents.rt:83:9
 add-i : tie.Need-add-i Inv-loop μ-loop
 add-i c = search needs
 
--- src/contents.rt:78:5
 loop-less : tie.Need-loop-less Inv-loop μ-loop
 loop-less c = search needs
 
--- src/contents.rt:78:5
 loop-again : tie.Need-loop-again Inv-loop μ-loop
 loop-again c =
     let a = c .before .before .before .before .before .before .before .before .before .before .before .args in
@@ -128,7 +113,6 @@ loop-again c =
           ∙ l .inv .2 k,
     )
 
--- src/contents.rt:69:1
 returns : tie.Need-returns Inv-loop μ-loop
 unfolding setsGood numbers
 returns c =

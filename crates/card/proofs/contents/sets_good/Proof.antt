@@ -3,15 +3,12 @@ use borrow.Author.Needs.{needs}
 use Rattle.card.proofs.contents.sets_good.Statement.{statement}
 use Rattle.card.proofs.contents.sets_good.Tie as tie
 
--- src/contents.rt:93:17
 all-sets-requires : tie.Need-all-sets-requires
 all-sets-requires c κs = search needs
 
--- src/contents.rt:93:5
 known-requires : tie.Need-known-requires
 known-requires c κs = search needs
 
--- src/contents.rt:89:1
 returns : tie.Need-returns
 returns c = c .known .ensures ∙ c .before .all-sets .ensures
 

@@ -16,35 +16,27 @@ Inv-loop card n good₀ a₀ good a = (a ≤ n) × Kept (λ a. within 1 1024 (we
 abbrev μ-loop : tie.MeasureT-loop
 μ-loop card n good₀ a₀ good a = n - a
 
--- src/contents.rt:22:5
 loop-holds : tie.Need-loop-holds Inv-loop μ-loop
 loop-holds c = (omega arith, kept-start _ _)
 
--- src/contents.rt:23:59
 mul-number-at : tie.Need-mul-number-at Inv-loop μ-loop
 mul-number-at c = search needs
 
--- src/contents.rt:23:54
 add-number-at : tie.Need-add-number-at Inv-loop μ-loop
 add-number-at c = search needs
 
--- src/contents.rt:23:38
 number-at-requires : tie.Need-number-at-requires Inv-loop μ-loop
 number-at-requires c κs = search needs
 
--- src/contents.rt:23:13
 in-range-requires : tie.Need-in-range-requires Inv-loop μ-loop
 in-range-requires c κs = search needs
 
--- src/contents.rt:25:9
 add-a : tie.Need-add-a Inv-loop μ-loop
 add-a c = search needs
 
--- src/contents.rt:22:5
 loop-less : tie.Need-loop-less Inv-loop μ-loop
 loop-less c = search needs
 
--- src/contents.rt:22:5
 loop-again : tie.Need-loop-again Inv-loop μ-loop
 loop-again c =
     let a = c .before .before .before .before .before .args in
@@ -54,7 +46,6 @@ loop-again c =
     let e : c .in-range .result ≡ t (l .a) = c .in-range .ensures ∙ ap (within 1 1024) (c .before .number-at .ensures .0) in
     (omega arith, rw e (kept-turn t (a .l .actions) (l .good) (l .a) (omega arith) (l .inv .1)))
 
--- src/contents.rt:15:1
 returns : tie.Need-returns Inv-loop μ-loop
 unfolding weightsGood
 returns c =

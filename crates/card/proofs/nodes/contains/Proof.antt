@@ -6,15 +6,12 @@ use lib.ListN.{getD}
 use Rattle.card.proofs.nodes.contains.Statement.{statement}
 use Rattle.card.proofs.nodes.contains.Tie as tie
 
--- src/nodes.rt:50:17
 element-copy-out-first : tie.Need-element-copy-out-first
 element-copy-out-first c = search needs
 
--- src/nodes.rt:51:18
 element-copy-out-second : tie.Need-element-copy-out-second
 element-copy-out-second c = search needs
 
--- src/nodes.rt:46:1
 returns : tie.Need-returns
 returns c =
     let a = c .before .before .args in

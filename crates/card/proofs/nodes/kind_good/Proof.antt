@@ -6,23 +6,18 @@ use native.Mathlib.Omega.{arith}
 use Rattle.card.proofs.nodes.kind_good.Statement.{statement}
 use Rattle.card.proofs.nodes.kind_good.Tie as tie
 
--- src/nodes.rt:12:1
 returns : tie.Need-returns
 returns c = rw (c .match .keys1)
 
--- src/nodes.rt:12:1
 returns-2 : tie.Need-returns-2
 returns-2 c = rw (c .match .keys2)
 
--- src/nodes.rt:12:1
 returns-3 : tie.Need-returns-3
 returns-3 c = ⊎-elim (λ e. rw e) (λ e. rw e) (either-of 1 (c .before .before .args .kind) (omega arith) (omega arith))
 
--- src/nodes.rt:12:1
 returns-4 : tie.Need-returns-4
 returns-4 c = ⊎-elim (λ e. rw e) (λ e. rw e) (either-of 4 (c .before .before .before .args .kind) (omega arith) (omega arith))
 
--- src/nodes.rt:12:1
 returns-5 : tie.Need-returns-5
 returns-5 c =
     let k = c .before .before .before .args .kind in

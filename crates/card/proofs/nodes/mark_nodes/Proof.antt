@@ -13,7 +13,6 @@ Inv-loop card l beliefs₀ goals₀ n i₀ beliefs goals i = (i ≤ n) × Marked
 abbrev μ-loop : tie.MeasureT-loop
 μ-loop card l beliefs₀ goals₀ n i₀ beliefs goals i = n - i
 
--- src/nodes.rt:87:5
 loop-holds : tie.Need-loop-holds Inv-loop μ-loop
 loop-holds c =
     let a = c .before .before .args in
@@ -21,31 +20,24 @@ loop-holds c =
     let b = now (a .card) in
     (omega arith, marked-start 1 (a .l) b _ (p .2), marked-start 2 (a .l) b _ (p .3))
 
--- src/nodes.rt:88:13
 contains-at-requires : tie.Need-contains-at-requires Inv-loop μ-loop
 contains-at-requires c κs = search needs
 
--- src/nodes.rt:89:13
 contains-at-requires-2 : tie.Need-contains-at-requires-2 Inv-loop μ-loop
 contains-at-requires-2 c κs = search needs
 
--- src/nodes.rt:90:9
 element-write-beliefs : tie.Need-element-write-beliefs Inv-loop μ-loop
 element-write-beliefs c = search needs
 
--- src/nodes.rt:91:9
 element-write-goals : tie.Need-element-write-goals Inv-loop μ-loop
 element-write-goals c = search needs
 
--- src/nodes.rt:92:9
 add-i : tie.Need-add-i Inv-loop μ-loop
 add-i c = search needs
 
--- src/nodes.rt:87:5
 loop-less : tie.Need-loop-less Inv-loop μ-loop
 loop-less c = search needs
 
--- src/nodes.rt:87:5
 loop-again : tie.Need-loop-again Inv-loop μ-loop
 loop-again c =
     let a = c .before .before .before .before .before .before .before .before .args in
@@ -59,7 +51,6 @@ loop-again c =
       marked-turn 2 (a .l) b (p .1) (l .goals) (l .i) _ k m (c .contains-at2 .ensures) (l .inv .2),
     )
 
--- src/nodes.rt:80:1
 returns : tie.Need-returns Inv-loop μ-loop
 returns c =
     let a = c .before .before .before .before .args in

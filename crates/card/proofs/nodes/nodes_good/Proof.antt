@@ -15,59 +15,45 @@ Inv-loop card n from atoms good₀ i₀ good i = (i ≤ n) × Kept (λ i. nodeGo
 abbrev μ-loop : tie.MeasureT-loop
 μ-loop card n from atoms good₀ i₀ good i = n - i
 
--- src/nodes.rt:35:5
 loop-holds : tie.Need-loop-holds Inv-loop μ-loop
 loop-holds c = (omega arith, kept-start _ _)
 
--- src/nodes.rt:36:25
 mul-at : tie.Need-mul-at Inv-loop μ-loop
 mul-at c = search needs
 
--- src/nodes.rt:36:18
 add-at : tie.Need-add-at Inv-loop μ-loop
 add-at c = search needs
 
--- src/nodes.rt:37:30
 shared-slice-read-kind-good : tie.Need-shared-slice-read-kind-good Inv-loop μ-loop
 shared-slice-read-kind-good c = search needs
 
--- src/nodes.rt:37:45
 add-kind-good : tie.Need-add-kind-good Inv-loop μ-loop
 add-kind-good c = search needs
 
--- src/nodes.rt:37:40
 shared-slice-read-kind-good-2 : tie.Need-shared-slice-read-kind-good-2 Inv-loop μ-loop
 shared-slice-read-kind-good-2 c = search needs
 
--- src/nodes.rt:37:59
 add-kind-good-2 : tie.Need-add-kind-good-2 Inv-loop μ-loop
 add-kind-good-2 c = search needs
 
--- src/nodes.rt:37:54
 shared-slice-read-kind-good-3 : tie.Need-shared-slice-read-kind-good-3 Inv-loop μ-loop
 shared-slice-read-kind-good-3 c = search needs
 
--- src/nodes.rt:37:13
 kind-good-requires : tie.Need-kind-good-requires Inv-loop μ-loop
 kind-good-requires c κs = search needs
 
--- src/nodes.rt:38:37
 add-good : tie.Need-add-good Inv-loop μ-loop
 add-good c = search needs
 
--- src/nodes.rt:38:32
 shared-slice-read-good : tie.Need-shared-slice-read-good Inv-loop μ-loop
 shared-slice-read-good c = search needs
 
--- src/nodes.rt:39:9
 add-i : tie.Need-add-i Inv-loop μ-loop
 add-i c = search needs
 
--- src/nodes.rt:35:5
 loop-less : tie.Need-loop-less Inv-loop μ-loop
 loop-less c = search needs
 
--- src/nodes.rt:35:5
 loop-again : tie.Need-loop-again Inv-loop μ-loop
 unfolding nodeAt
 loop-again c =
@@ -77,7 +63,6 @@ loop-again c =
     let t : ℕ → Bool = λ i. nodeGood (a .l .atoms) i (nodeAt b (a .l .nodes .offset + 4 * i)) in
     (omega arith, rw (c .before .kind-good .ensures) (kept-turn t (a .l .nodes .count) (l .good) (l .i) (omega arith) (l .inv .1)))
 
--- src/nodes.rt:25:1
 returns : tie.Need-returns Inv-loop μ-loop
 unfolding nodesGood
 returns c =

@@ -9,55 +9,42 @@ use lib.ListN.{getD}
 use Rattle.card.proofs.rules.revision_good.Statement.{statement}
 use Rattle.card.proofs.rules.revision_good.Tie as tie
 
--- src/rules.rt:72:40
 shared-slice-read-condition-good : tie.Need-shared-slice-read-condition-good
 shared-slice-read-condition-good c = search needs
 
--- src/rules.rt:72:9
 condition-good-requires : tie.Need-condition-good-requires
 condition-good-requires c κs = search needs
 
--- src/rules.rt:73:22
 add-first : tie.Need-add-first
 add-first c = search needs
 
--- src/rules.rt:73:17
 shared-slice-read-first : tie.Need-shared-slice-read-first
 shared-slice-read-first c = search needs
 
--- src/rules.rt:74:52
 add-read-span : tie.Need-add-read-span
 add-read-span c = search needs
 
--- src/rules.rt:74:36
 read-span-requires : tie.Need-read-span-requires
 read-span-requires c κs = search needs
 
--- src/rules.rt:74:9
 span-good-requires : tie.Need-span-good-requires
 span-good-requires c κs = search needs
 
--- src/rules.rt:75:52
 add-read-span-2 : tie.Need-add-read-span-2
 add-read-span-2 c = search needs
 
--- src/rules.rt:75:36
 read-span-requires-2 : tie.Need-read-span-requires-2
 read-span-requires-2 c κs = search needs
 
--- src/rules.rt:75:9
 span-good-requires-2 : tie.Need-span-good-requires-2
 span-good-requires-2 c κs = search needs
 
--- src/rules.rt:76:32
 add-number-at : tie.Need-add-number-at
 add-number-at c = search needs
 
--- src/rules.rt:76:9
 number-at-requires : tie.Need-number-at-requires
 number-at-requires c κs = search needs
 
--- src/rules.rt:66:1
 returns : tie.Need-returns
 unfolding revisionGood
 returns c =

@@ -14,31 +14,24 @@ Inv-loop card l goals n from good₀ i₀ good i = (i ≤ n) × Kept (λ i. revi
 abbrev μ-loop : tie.MeasureT-loop
 μ-loop card l goals n from good₀ i₀ good i = n - i
 
--- src/rules.rt:126:5
 loop-holds : tie.Need-loop-holds Inv-loop μ-loop
 loop-holds c = (omega arith, kept-start _ _)
 
--- src/rules.rt:127:57
 mul-revision-good : tie.Need-mul-revision-good Inv-loop μ-loop
 mul-revision-good c = search needs
 
--- src/rules.rt:127:50
 add-revision-good : tie.Need-add-revision-good Inv-loop μ-loop
 add-revision-good c = search needs
 
--- src/rules.rt:127:13
 revision-good-requires : tie.Need-revision-good-requires Inv-loop μ-loop
 revision-good-requires c κs = search needs
 
--- src/rules.rt:129:9
 add-i : tie.Need-add-i Inv-loop μ-loop
 add-i c = search needs
 
--- src/rules.rt:126:5
 loop-less : tie.Need-loop-less Inv-loop μ-loop
 loop-less c = search needs
 
--- src/rules.rt:126:5
 loop-again : tie.Need-loop-again Inv-loop μ-loop
 loop-again c =
     let a = c .before .before .before .before .before .args in
@@ -47,7 +40,6 @@ loop-again c =
     let t : ℕ → Bool = λ i. revisionGood (containing 2 (a .l) b) (a .l) b (a .l .revisions .offset + 12 * i) in
     (omega arith, rw (c .revision-good .ensures) (kept-turn t (a .l .revisions .count) (l .good) (l .i) (omega arith) (l .inv .1)))
 
--- src/rules.rt:117:1
 returns : tie.Need-returns Inv-loop μ-loop
 returns c =
     let a = c .before .before .before .before .args in

@@ -9,47 +9,36 @@ use lib.ListN.{getD}
 use Rattle.card.proofs.rules.selection_good.Statement.{statement}
 use Rattle.card.proofs.rules.selection_good.Tie as tie
 
--- src/rules.rt:58:40
 shared-slice-read-condition-good : tie.Need-shared-slice-read-condition-good
 shared-slice-read-condition-good c = search needs
 
--- src/rules.rt:58:9
 condition-good-requires : tie.Need-condition-good-requires
 condition-good-requires c κs = search needs
 
--- src/rules.rt:59:45
 add-condition-good : tie.Need-add-condition-good
 add-condition-good c = search needs
 
--- src/rules.rt:59:40
 shared-slice-read-condition-good-2 : tie.Need-shared-slice-read-condition-good-2
 shared-slice-read-condition-good-2 c = search needs
 
--- src/rules.rt:59:9
 condition-good-requires-2 : tie.Need-condition-good-requires-2
 condition-good-requires-2 c κs = search needs
 
--- src/rules.rt:60:52
 add-read-span : tie.Need-add-read-span
 add-read-span c = search needs
 
--- src/rules.rt:60:36
 read-span-requires : tie.Need-read-span-requires
 read-span-requires c κs = search needs
 
--- src/rules.rt:60:9
 span-good-requires : tie.Need-span-good-requires
 span-good-requires c κs = search needs
 
--- src/rules.rt:61:32
 add-number-at : tie.Need-add-number-at
 add-number-at c = search needs
 
--- src/rules.rt:61:9
 number-at-requires : tie.Need-number-at-requires
 number-at-requires c κs = search needs
 
--- src/rules.rt:46:1
 returns : tie.Need-returns
 unfolding selectionGood
 returns c =

@@ -14,31 +14,24 @@ Inv-loop card l beliefs goals n from good₀ i₀ good i = (i ≤ n) × Kept (λ
 abbrev μ-loop : tie.MeasureT-loop
 μ-loop card l beliefs goals n from good₀ i₀ good i = n - i
 
--- src/rules.rt:108:5
 loop-holds : tie.Need-loop-holds Inv-loop μ-loop
 loop-holds c = (omega arith, kept-start _ _)
 
--- src/rules.rt:109:67
 mul-selection-good : tie.Need-mul-selection-good Inv-loop μ-loop
 mul-selection-good c = search needs
 
--- src/rules.rt:109:60
 add-selection-good : tie.Need-add-selection-good Inv-loop μ-loop
 add-selection-good c = search needs
 
--- src/rules.rt:109:13
 selection-good-requires : tie.Need-selection-good-requires Inv-loop μ-loop
 selection-good-requires c κs = search needs
 
--- src/rules.rt:111:9
 add-i : tie.Need-add-i Inv-loop μ-loop
 add-i c = search needs
 
--- src/rules.rt:108:5
 loop-less : tie.Need-loop-less Inv-loop μ-loop
 loop-less c = search needs
 
--- src/rules.rt:108:5
 loop-again : tie.Need-loop-again Inv-loop μ-loop
 loop-again c =
     let a = c .before .before .before .before .before .args in
@@ -47,7 +40,6 @@ loop-again c =
     let t : ℕ → Bool = λ i. selectionGood (containing 1 (a .l) b) (containing 2 (a .l) b) (a .l) b (a .l .selections .offset + 8 * i) in
     (omega arith, rw (c .selection-good .ensures) (kept-turn t (a .l .selections .count) (l .good) (l .i) (omega arith) (l .inv .1)))
 
--- src/rules.rt:99:1
 returns : tie.Need-returns Inv-loop μ-loop
 returns c =
     let a = c .before .before .before .before .args in

@@ -2,15 +2,12 @@ use borrow.Author.Needs.{needs}
 use Rattle.card.proofs.rules.span_good.Statement.{statement}
 use Rattle.card.proofs.rules.span_good.Tie as tie
 
--- src/rules.rt:31:5
 in-range-requires : tie.Need-in-range-requires
 in-range-requires c κs = search needs
 
--- src/rules.rt:31:40
 add-result : tie.Need-add-result
 add-result c = search needs
 
--- src/rules.rt:27:1
 returns : tie.Need-returns
 returns c = rw (c .before .in-range .ensures)
 

@@ -8,43 +8,33 @@ use lib.ListN.{getD}
 use Rattle.card.proofs.rules.specification_good.Statement.{statement}
 use Rattle.card.proofs.rules.specification_good.Tie as tie
 
--- src/rules.rt:40:29
 shared-slice-read-byte-below : tie.Need-shared-slice-read-byte-below
 shared-slice-read-byte-below c = search needs
 
--- src/rules.rt:40:9
 byte-below-requires : tie.Need-byte-below-requires
 byte-below-requires c κs = search needs
 
--- src/rules.rt:41:48
 add-condition-good : tie.Need-add-condition-good
 add-condition-good c = search needs
 
--- src/rules.rt:41:43
 shared-slice-read-condition-good : tie.Need-shared-slice-read-condition-good
 shared-slice-read-condition-good c = search needs
 
--- src/rules.rt:41:9
 condition-good-requires : tie.Need-condition-good-requires
 condition-good-requires c κs = search needs
 
--- src/rules.rt:42:34
 add-result : tie.Need-add-result
 add-result c = search needs
 
--- src/rules.rt:42:29
 shared-slice-read-result : tie.Need-shared-slice-read-result
 shared-slice-read-result c = search needs
 
--- src/rules.rt:42:56
 add-result-2 : tie.Need-add-result-2
 add-result-2 c = search needs
 
--- src/rules.rt:42:51
 shared-slice-read-result-2 : tie.Need-shared-slice-read-result-2
 shared-slice-read-result-2 c = search needs
 
--- src/rules.rt:35:1
 returns : tie.Need-returns
 unfolding specificationGood
 returns c =

@@ -14,31 +14,24 @@ Inv-loop card l goals n from good₀ i₀ good i = (i ≤ n) × Kept (λ i. spec
 abbrev μ-loop : tie.MeasureT-loop
 μ-loop card l goals n from good₀ i₀ good i = n - i
 
--- src/rules.rt:90:5
 loop-holds : tie.Need-loop-holds Inv-loop μ-loop
 loop-holds c = (omega arith, kept-start _ _)
 
--- src/rules.rt:91:62
 mul-specification-good : tie.Need-mul-specification-good Inv-loop μ-loop
 mul-specification-good c = search needs
 
--- src/rules.rt:91:55
 add-specification-good : tie.Need-add-specification-good Inv-loop μ-loop
 add-specification-good c = search needs
 
--- src/rules.rt:91:13
 specification-good-requires : tie.Need-specification-good-requires Inv-loop μ-loop
 specification-good-requires c κs = search needs
 
--- src/rules.rt:93:9
 add-i : tie.Need-add-i Inv-loop μ-loop
 add-i c = search needs
 
--- src/rules.rt:90:5
 loop-less : tie.Need-loop-less Inv-loop μ-loop
 loop-less c = search needs
 
--- src/rules.rt:90:5
 loop-again : tie.Need-loop-again Inv-loop μ-loop
 loop-again c =
     let a = c .before .before .before .before .before .args in
@@ -47,7 +40,6 @@ loop-again c =
     let t : ℕ → Bool = λ i. specificationGood (containing 2 (a .l) b) (a .l) b (a .l .specifications .offset + 36 * i) in
     (omega arith, rw (c .specification-good .ensures) (kept-turn t (a .l .specifications .count) (l .good) (l .i) (omega arith) (l .inv .1)))
 
--- src/rules.rt:81:1
 returns : tie.Need-returns Inv-loop μ-loop
 returns c =
     let a = c .before .before .before .before .args in

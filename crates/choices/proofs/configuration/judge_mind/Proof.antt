@@ -5,15 +5,12 @@ use borrow.Author.Needs.{needs}
 use Rattle.choices.proofs.configuration.judge_mind.Statement.{statement}
 use Rattle.choices.proofs.configuration.judge_mind.Tie as tie
 
--- src/configuration.rt:85:9
 mind-good-requires : tie.Need-mind-good-requires
 mind-good-requires c κs = search needs
 
--- src/configuration.rt:85:5
 row-requires : tie.Need-row-requires
 row-requires c κs = search needs
 
--- src/configuration.rt:81:1
 returns : tie.Need-returns
 returns c = (c .row .ensures ∙ ap (λ x. rowAnswer x Refusal.Configuration) (c .before .mind-good .ensures .0), c .before .mind-good .ensures .1)
 

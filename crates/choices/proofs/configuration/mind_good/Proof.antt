@@ -4,7 +4,6 @@ use lib.Dec.{leb, eqb}
 use borrow.Author.Tests.{lt-leb, le-leb}
 use mathlib.Core.Bool.{true, false, and-assoc}
 use mathlib.Core.Path.{_≡_}
-use Prim.Native.Nat.{_-_}
 use native.Mathlib.Omega.{arith}
 use borrow.Author.Needs.{needs}
 use denote.Ref.{now}
@@ -12,11 +11,9 @@ use lib.ListN.{length, take, drop}
 use Rattle.choices.proofs.configuration.mind_good.Statement.{statement}
 use Rattle.choices.proofs.configuration.mind_good.Tie as tie
 
--- src/configuration.rt:55:9
 size-requires : tie.Need-size-requires
 size-requires c κs = search needs
 
--- src/configuration.rt:58:9
 returns : tie.Need-returns
 unfolding configurationGood
 returns c =
@@ -26,15 +23,12 @@ returns c =
     let e : leb (a .m .length) 1024 ≡ false = lt-leb (a .m .length) 1024 (omega arith) in
     (rw e, r)
 
--- src/configuration.rt:62:9
 plan-good-requires : tie.Need-plan-good-requires
 plan-good-requires c κs = search needs
 
--- src/configuration.rt:63:9
 both-known-requires : tie.Need-both-known-requires
 both-known-requires c κs = search needs
 
--- src/configuration.rt:51:1
 returns-2 : tie.Need-returns-2
 unfolding configurationGood
 returns-2 c =

@@ -3,19 +3,15 @@ use borrow.Author.Needs.{needs}
 use Rattle.choices.proofs.configuration.plan_good.Statement.{statement}
 use Rattle.choices.proofs.configuration.plan_good.Tie as tie
 
--- src/configuration.rt:41:9
 size-requires : tie.Need-size-requires
 size-requires c κs = search needs
 
--- src/configuration.rt:42:9
 actions-good-requires : tie.Need-actions-good-requires
 actions-good-requires c κs = search needs
 
--- src/configuration.rt:43:13
 zeros-after-requires : tie.Need-zeros-after-requires
 zeros-after-requires c κs = search needs
 
--- src/configuration.rt:37:1
 returns : tie.Need-returns
 unfolding part
 returns c = rw (c .before .actions-good .ensures, c .zeros-after .ensures)

@@ -13,30 +13,24 @@ Inv-loop plan n zeros₀ i₀ zeros i = (n ≤ i) × (i ≤ 1024) × Tail plan n
 abbrev μ-loop : tie.MeasureT-loop
 μ-loop plan n zeros₀ i₀ zeros i = 1024 - i
 
--- src/configuration.rt:22:5
 loop-holds : tie.Need-loop-holds Inv-loop μ-loop
 loop-holds c = (omega arith, omega arith, refl)
 
--- src/configuration.rt:23:26
 element-copy-out-zeros : tie.Need-element-copy-out-zeros Inv-loop μ-loop
 element-copy-out-zeros c = search needs
 
--- src/configuration.rt:24:9
 add-i : tie.Need-add-i Inv-loop μ-loop
 add-i c = search needs
 
--- src/configuration.rt:22:5
 loop-less : tie.Need-loop-less Inv-loop μ-loop
 loop-less c = search needs
 
--- src/configuration.rt:22:5
 loop-again : tie.Need-loop-again Inv-loop μ-loop
 loop-again c =
     let a = c .before .before .before .args in
     let l = c .before .before .loop in
     (omega arith, omega arith, tail-turn (now (a .plan)) (a .n) (l .zeros) (l .i) (omega arith) (l .inv .2))
 
--- src/configuration.rt:16:1
 returns : tie.Need-returns Inv-loop μ-loop
 returns c =
     let a = c .before .before .args in

@@ -4,7 +4,6 @@ use native.Mathlib.Omega.{arith}
 use Rattle.choices.proofs.enabled.can.Statement.{statement}
 use Rattle.choices.proofs.enabled.can.Tie as tie
 
--- src/enabled.rt:114:14
 can-select-requires : tie.Need-can-select-requires
 can-select-requires c κs =
     let a = c .before .before .args in
@@ -12,7 +11,6 @@ can-select-requires c κs =
     let h : a .i < a .l .selections .count = rw (c .match .keys1) at (p .4) in
     (p .0, p .1, p .2, h)
 
--- src/enabled.rt:115:14
 can-act-requires : tie.Need-can-act-requires
 can-act-requires c κs =
     let a = c .before .before .args in
@@ -20,7 +18,6 @@ can-act-requires c κs =
     let h : a .i < a .l .specifications .count = rw (c .match .keys2) at (p .4) in
     (p .0, p .1, p .2, h)
 
--- src/enabled.rt:116:14
 can-revise-requires : tie.Need-can-revise-requires
 can-revise-requires c κs =
     let a = c .before .before .args in
@@ -29,15 +26,12 @@ can-revise-requires c κs =
     let h : a .i < a .l .revisions .count = rw e at (p .4) in
     (p .0, p .1, p .2, h)
 
--- src/enabled.rt:101:1
 returns : tie.Need-returns
 returns c = rw (c .before .match .keys1) (c .can-select .ensures)
 
--- src/enabled.rt:101:1
 returns-2 : tie.Need-returns-2
 returns-2 c = rw (c .before .match .keys2) (c .can-act .ensures)
 
--- src/enabled.rt:101:1
 returns-3 : tie.Need-returns-3
 returns-3 c =
     let e : c .before .before .before .args .kind ≡ 2 = omega arith in

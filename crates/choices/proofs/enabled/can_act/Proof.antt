@@ -4,35 +4,27 @@ use denote.Ref.{now}
 use Rattle.choices.proofs.enabled.can_act.Statement.{statement}
 use Rattle.choices.proofs.enabled.can_act.Tie as tie
 
--- src/enabled.rt:46:31
 mul-at : tie.Need-mul-at
 mul-at c = search needs
 
--- src/enabled.rt:46:14
 add-at : tie.Need-add-at
 add-at c = search needs
 
--- src/enabled.rt:48:17
 element-copy-out-first : tie.Need-element-copy-out-first
 element-copy-out-first c = search needs
 
--- src/enabled.rt:49:36
 add-holds : tie.Need-add-holds
 add-holds c = search needs
 
--- src/enabled.rt:49:31
 shared-slice-read-holds : tie.Need-shared-slice-read-holds
 shared-slice-read-holds c = search needs
 
--- src/enabled.rt:49:9
 holds-requires : tie.Need-holds-requires
 holds-requires c κs = search needs
 
--- src/enabled.rt:50:18
 shared-slice-read-result : tie.Need-shared-slice-read-result
 shared-slice-read-result c = search needs
 
--- src/enabled.rt:41:1
 returns : tie.Need-returns
 returns c =
     let a = c .before .before .before .before .before .before .before .args in

@@ -13,42 +13,33 @@ use lib.ListN.{length, take}
 use Rattle.choices.proofs.enabled.can_revise.Statement.{statement}
 use Rattle.choices.proofs.enabled.can_revise.Tie as tie
 
--- src/enabled.rt:59:31
 mul-at : tie.Need-mul-at
 mul-at c = search needs
 
--- src/enabled.rt:59:14
 add-at : tie.Need-add-at
 add-at c = search needs
 
--- src/enabled.rt:60:22
 shared-slice-read-holds : tie.Need-shared-slice-read-holds
 shared-slice-read-holds c = search needs
 
--- src/enabled.rt:60:9
 holds-requires : tie.Need-holds-requires
 holds-requires c κs = search needs
 
--- src/enabled.rt:61:9
 returns : tie.Need-returns
 returns c =
     let a = c .before .before .before .before .before .before .args in
     let p = c .before .before .before .before .before .before .pre in
     no-revision (a .l) (now (a .card)) (p .0) (a .m) (now (a .plan)) (p .1) (now (a .marks)) (p .2) (a .i) (p .3) (sym (c .before .holds .ensures) ∙ not-true _ (c .if1 .taken))
 
--- src/enabled.rt:64:32
 add-read-span : tie.Need-add-read-span
 add-read-span c = search needs
 
--- src/enabled.rt:64:9
 read-span-requires : tie.Need-read-span-requires
 read-span-requires c κs = search needs
 
--- src/enabled.rt:65:30
 add-starts-with : tie.Need-add-starts-with
 add-starts-with c = search needs
 
--- src/enabled.rt:65:5
 starts-with-requires : tie.Need-starts-with-requires
 starts-with-requires c κs =
     let a = c .before .before .before .before .before .before .before .before .before .before .args in
@@ -60,7 +51,6 @@ starts-with-requires c κs =
     let one : 1 ≤ c .before .before .read-span .result .length = rw e (g .some) in
     (one, (let x = s .inside in let y = d .ends in omega arith), p .1 .fits, p .1 .room)
 
--- src/enabled.rt:54:1
 returns-2 : tie.Need-returns-2
 unfolding plan
 returns-2 c =

@@ -4,35 +4,27 @@ use denote.Ref.{now}
 use Rattle.choices.proofs.enabled.can_select.Statement.{statement}
 use Rattle.choices.proofs.enabled.can_select.Tie as tie
 
--- src/enabled.rt:32:31
 mul-at : tie.Need-mul-at
 mul-at c = search needs
 
--- src/enabled.rt:32:14
 add-at : tie.Need-add-at
 add-at c = search needs
 
--- src/enabled.rt:34:31
 shared-slice-read-holds : tie.Need-shared-slice-read-holds
 shared-slice-read-holds c = search needs
 
--- src/enabled.rt:34:9
 holds-requires : tie.Need-holds-requires
 holds-requires c κs = search needs
 
--- src/enabled.rt:35:34
 add-holds : tie.Need-add-holds
 add-holds c = search needs
 
--- src/enabled.rt:35:29
 shared-slice-read-holds-2 : tie.Need-shared-slice-read-holds-2
 shared-slice-read-holds-2 c = search needs
 
--- src/enabled.rt:35:9
 holds-requires-2 : tie.Need-holds-requires-2
 holds-requires-2 c κs = search needs
 
--- src/enabled.rt:27:1
 returns : tie.Need-returns
 returns c =
     let a = c .before .before .before .before .before .before .before .args in

@@ -15,48 +15,39 @@ Inv-loop card l m plan marks p t₀ t = (t ≤ 3) × Tried (agentFor l card) (me
 abbrev μ-loop : tie.MeasureT-loop
 μ-loop card l m plan marks p t₀ t = 3 - t
 
--- src/enabled.rt:173:5
 loop-holds : tie.Need-loop-holds Inv-loop μ-loop
 loop-holds c = (omega arith, λ k h. absurd (omega arith))
 
--- src/enabled.rt:174:62
 add-first-of-kind : tie.Need-add-first-of-kind Inv-loop μ-loop
 add-first-of-kind c = search needs
 
--- src/enabled.rt:174:13
 first-of-kind-requires : tie.Need-first-of-kind-requires Inv-loop μ-loop
 first-of-kind-requires c κs = search needs
 
 enum-told : tie.Need-enum-told Inv-loop μ-loop
 enum-told c = search needs
 
--- src/enabled.rt:176:13
 enum-told-2 : tie.Need-enum-told-2 Inv-loop μ-loop
 enum-told-2 c = search needs
 
--- src/enabled.rt:176:13
 returns : tie.Need-returns Inv-loop μ-loop
 returns c =
     let a = c .before .before .before .before .before .before .args in
     let l = c .before .before .before .before .loop in
     found-in-turn (agentFor (a .l) (now (a .card))) (mentalOf (a .m) (now (a .plan))) (a .m .phase) (l .t) (omega arith) (l .inv .1) (c .before .before .first-of-kind .result) (c .before .before .first-of-kind .ensures) _ _ (c .enum-told2 .given .1)
 
--- src/enabled.rt:178:9
 add-t : tie.Need-add-t Inv-loop μ-loop
 add-t c = search needs
 
--- src/enabled.rt:173:5
 loop-less : tie.Need-loop-less Inv-loop μ-loop
 loop-less c = search needs
 
--- src/enabled.rt:173:5
 loop-again : tie.Need-loop-again Inv-loop μ-loop
 loop-again c =
     let a = c .before .before .before .before .before .before .args in
     let l = c .before .before .before .before .loop in
     (omega arith, tried-more (agentFor (a .l) (now (a .card))) (mentalOf (a .m) (now (a .plan))) (a .m .phase) (l .t) (l .inv .1) (sym (c .before .before .first-of-kind .ensures) ∙ c .enum-told .given .1))
 
--- src/enabled.rt:167:1
 returns-2 : tie.Need-returns-2 Inv-loop μ-loop
 returns-2 c =
     let a = c .before .before .before .args in

@@ -5,15 +5,12 @@ use borrow.Author.Needs.{needs}
 use Rattle.choices.proofs.enabled.count_of.Statement.{statement}
 use Rattle.choices.proofs.enabled.count_of.Tie as tie
 
--- src/enabled.rt:90:1
 returns : tie.Need-returns
 returns c = search needs
 
--- src/enabled.rt:90:1
 returns-2 : tie.Need-returns-2
 returns-2 c = search needs
 
--- src/enabled.rt:90:1
 returns-3 : tie.Need-returns-3
 returns-3 c =
     let e : c .before .args .kind ≡ suc (suc (c .before .args .kind - 2)) = omega arith in

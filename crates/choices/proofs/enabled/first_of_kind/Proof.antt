@@ -16,19 +16,15 @@ Inv-loop card l m plan marks kind n i₀ i = (i ≤ countOf l kind) × LeftOf l 
 abbrev μ-loop : tie.MeasureT-loop
 μ-loop card l m plan marks kind n i₀ i = countOf l kind - i
 
--- src/enabled.rt:132:9
 count-of-requires : tie.Need-count-of-requires Inv-loop μ-loop
 count-of-requires c κs = search needs
 
--- src/enabled.rt:134:5
 loop-holds : tie.Need-loop-holds Inv-loop μ-loop
 loop-holds c = (omega arith, left-start _ _ _ _)
 
--- src/enabled.rt:135:12
 can-requires : tie.Need-can-requires Inv-loop μ-loop
 can-requires c κs = search needs
 
--- src/enabled.rt:136:13
 returns : tie.Need-returns Inv-loop μ-loop
 returns c =
     let a = c .before .before .before .before .before .before .args in
@@ -36,22 +32,18 @@ returns c =
     let l = c .before .before .before .loop in
     found-of-kind (a .l) (now (a .card)) (mentalOf (a .m) (now (a .plan))) (a .kind) (l .i) (p .3) (omega arith) (sym (c .before .can .ensures) ∙ c .if1 .taken) (l .inv .1)
 
--- src/enabled.rt:138:9
 add-i : tie.Need-add-i Inv-loop μ-loop
 add-i c = search needs
 
--- src/enabled.rt:134:5
 loop-less : tie.Need-loop-less Inv-loop μ-loop
 loop-less c = search needs
 
--- src/enabled.rt:134:5
 loop-again : tie.Need-loop-again Inv-loop μ-loop
 loop-again c =
     let a = c .before .before .before .before .before .before .args in
     let l = c .before .before .before .loop in
     (omega arith, left-turn (agentFor (a .l) (now (a .card))) (mentalOf (a .m) (now (a .plan))) (choiceAt (a .kind)) (countOf (a .l) (a .kind)) (l .i) (omega arith) (sym (c .before .can .ensures) ∙ c .if1 .left) (l .inv .1))
 
--- src/enabled.rt:121:1
 returns-2 : tie.Need-returns-2 Inv-loop μ-loop
 returns-2 c =
     let a = c .before .before .before .before .args in

@@ -18,27 +18,21 @@ Inv-loop card l beliefs goals marks₀ n i₀ marks i = (i ≤ n) × (length mar
 abbrev μ-loop : tie.MeasureT-loop
 μ-loop card l beliefs goals marks₀ n i₀ marks i = n - i
 
--- src/truth.rt:57:5
 loop-holds : tie.Need-loop-holds Inv-loop μ-loop
 loop-holds c = (omega arith, c .before .before .pre .1, λ j h. absurd (omega arith))
 
--- src/truth.rt:58:13
 truth-at-requires : tie.Need-truth-at-requires Inv-loop μ-loop
 truth-at-requires c κs = search needs
 
--- src/truth.rt:59:9
 element-write-marks : tie.Need-element-write-marks Inv-loop μ-loop
 element-write-marks c = search needs
 
--- src/truth.rt:60:9
 add-i : tie.Need-add-i Inv-loop μ-loop
 add-i c = search needs
 
--- src/truth.rt:57:5
 loop-less : tie.Need-loop-less Inv-loop μ-loop
 loop-less c = search needs
 
--- src/truth.rt:57:5
 loop-again : tie.Need-loop-again Inv-loop μ-loop
 loop-again c =
     let a = c .before .before .before .before .before .before .args in
@@ -53,7 +47,6 @@ loop-again c =
           (c .truth-at .ensures ∙ truth-next (a .l) b (p .nodes) (a .beliefs) (a .goals) (l .i) k (l .marks) (l .inv .2)),
     )
 
--- src/truth.rt:44:1
 returns : tie.Need-returns Inv-loop μ-loop
 returns c = (λ n h. c .before .loop .inv .2 n (omega arith), c .before .loop .inv .1)
 

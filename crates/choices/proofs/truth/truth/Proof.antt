@@ -5,55 +5,42 @@ use borrow.Author.Needs.{needs}
 use Rattle.choices.proofs.truth.truth.Statement.{statement}
 use Rattle.choices.proofs.truth.truth.Tie as tie
 
--- src/truth.rt:18:14
 member-requires : tie.Need-member-requires
 member-requires c κs = search needs
 
--- src/truth.rt:19:14
 member-requires-2 : tie.Need-member-requires-2
 member-requires-2 c κs = search needs
 
--- src/truth.rt:20:15
 element-copy-out-result : tie.Need-element-copy-out-result
 element-copy-out-result c = search needs
 
--- src/truth.rt:21:14
 element-copy-out-result-2 : tie.Need-element-copy-out-result-2
 element-copy-out-result-2 c = search needs
 
--- src/truth.rt:21:34
 element-copy-out-result-3 : tie.Need-element-copy-out-result-3
 element-copy-out-result-3 c = search needs
 
--- src/truth.rt:22:14
 element-copy-out-result-4 : tie.Need-element-copy-out-result-4
 element-copy-out-result-4 c = search needs
 
--- src/truth.rt:22:34
 element-copy-out-result-5 : tie.Need-element-copy-out-result-5
 element-copy-out-result-5 c = search needs
 
--- src/truth.rt:13:1
 returns : tie.Need-returns
 returns c = search needs
 
--- src/truth.rt:13:1
 returns-2 : tie.Need-returns-2
 returns-2 c = rw (c .before .match .keys2) (c .member .ensures)
 
--- src/truth.rt:13:1
 returns-3 : tie.Need-returns-3
 returns-3 c = rw (c .before .match .keys3) (c .member2 .ensures)
 
--- src/truth.rt:13:1
 returns-4 : tie.Need-returns-4
 returns-4 c = rw (c .before .match .keys4)
 
--- src/truth.rt:13:1
 returns-5 : tie.Need-returns-5
 returns-5 c = rw (c .before .before .match .keys5)
 
--- src/truth.rt:13:1
 returns-6 : tie.Need-returns-6
 returns-6 c =
     let k = c .before .before .before .args .k in

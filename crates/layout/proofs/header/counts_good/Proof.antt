@@ -3,19 +3,15 @@ use borrow.Author.Needs.{needs}
 use Rattle.layout.proofs.header.counts_good.Statement.{statement}
 use Rattle.layout.proofs.header.counts_good.Tie as tie
 
--- src/header.rt:68:5
 in-range-requires : tie.Need-in-range-requires
 in-range-requires c κs = search needs
 
--- src/header.rt:69:12
 in-range-requires-2 : tie.Need-in-range-requires-2
 in-range-requires-2 c κs = search needs
 
--- src/header.rt:70:16
 in-range-requires-3 : tie.Need-in-range-requires-3
 in-range-requires-3 c κs = search needs
 
--- src/header.rt:60:1
 returns : tie.Need-returns
 unfolding countsGood
 returns c = rw (c .before .before .before .before .before .before .in-range .ensures, c .before .before .before .before .before .in-range2 .ensures, c .before .before .before .before .in-range3 .ensures)

@@ -3,39 +3,30 @@ use borrow.Author.Needs.{needs}
 use Rattle.layout.proofs.header.read_layout.Statement.{statement}
 use Rattle.layout.proofs.header.read_layout.Tie as tie
 
--- src/header.rt:41:16
 number-at-requires : tie.Need-number-at-requires
 number-at-requires c κs = search needs
 
--- src/header.rt:42:18
 number-at-requires-2 : tie.Need-number-at-requires-2
 number-at-requires-2 c κs = search needs
 
--- src/header.rt:43:16
 read-section-requires : tie.Need-read-section-requires
 read-section-requires c κs = search needs
 
--- src/header.rt:44:25
 read-section-requires-2 : tie.Need-read-section-requires-2
 read-section-requires-2 c κs = search needs
 
--- src/header.rt:45:21
 read-section-requires-3 : tie.Need-read-section-requires-3
 read-section-requires-3 c κs = search needs
 
--- src/header.rt:46:20
 read-section-requires-4 : tie.Need-read-section-requires-4
 read-section-requires-4 c κs = search needs
 
--- src/header.rt:47:15
 read-section-requires-5 : tie.Need-read-section-requires-5
 read-section-requires-5 c κs = search needs
 
--- src/header.rt:48:18
 read-span-requires : tie.Need-read-span-requires
 read-span-requires c κs = search needs
 
--- src/header.rt:36:1
 returns : tie.Need-returns
 unfolding layout
 returns c =

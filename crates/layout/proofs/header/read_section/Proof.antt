@@ -2,19 +2,15 @@ use borrow.Author.Needs.{needs}
 use Rattle.layout.proofs.header.read_section.Statement.{statement}
 use Rattle.layout.proofs.header.read_section.Tie as tie
 
--- src/header.rt:19:16
 number-at-requires : tie.Need-number-at-requires
 number-at-requires c κs = search needs
 
--- src/header.rt:20:33
 add-number-at : tie.Need-add-number-at
 add-number-at c = search needs
 
--- src/header.rt:20:17
 number-at-requires-2 : tie.Need-number-at-requires-2
 number-at-requires-2 c κs = search needs
 
--- src/header.rt:14:1
 returns : tie.Need-returns
 returns c =
     let n = c .before .number-at .ensures in

@@ -3,19 +3,15 @@ use lib.ListN.{length}
 use Rattle.layout.proofs.header.read_span.Statement.{statement}
 use Rattle.layout.proofs.header.read_span.Tie as tie
 
--- src/header.rt:30:16
 number-at-requires : tie.Need-number-at-requires
 number-at-requires c κs = search needs
 
--- src/header.rt:31:33
 add-number-at : tie.Need-add-number-at
 add-number-at c = search needs
 
--- src/header.rt:31:17
 number-at-requires-2 : tie.Need-number-at-requires-2
 number-at-requires-2 c κs = search needs
 
--- src/header.rt:25:1
 returns : tie.Need-returns
 returns c =
     let n = c .before .number-at .ensures in

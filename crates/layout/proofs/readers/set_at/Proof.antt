@@ -16,31 +16,24 @@ Inv-loop bytes at r₀ i₀ r i = (i ≤ 16) × (r ≡ filled (part bytes at 16)
 abbrev μ-loop : tie.MeasureT-loop
 μ-loop bytes at r₀ i₀ r i = 16 - i
 
--- src/readers.rt:39:5
 loop-holds : tie.Need-loop-holds Inv-loop μ-loop
 loop-holds c = (omega arith, refl)
 
--- src/readers.rt:40:22
 add-r : tie.Need-add-r Inv-loop μ-loop
 add-r c = search needs
 
--- src/readers.rt:40:16
 shared-slice-read-r : tie.Need-shared-slice-read-r Inv-loop μ-loop
 shared-slice-read-r c = search needs
 
--- src/readers.rt:40:9
 array-write-r : tie.Need-array-write-r Inv-loop μ-loop
 array-write-r c = search needs
 
--- src/readers.rt:41:9
 add-i : tie.Need-add-i Inv-loop μ-loop
 add-i c = search needs
 
--- src/readers.rt:39:5
 loop-less : tie.Need-loop-less Inv-loop μ-loop
 loop-less c = search needs
 
--- src/readers.rt:39:5
 loop-again : tie.Need-loop-again Inv-loop μ-loop
 loop-again c =
     let l = c .before .before .loop in
@@ -48,7 +41,6 @@ loop-again c =
     let b = now (a .bytes) in
     (omega arith, rw (l .inv .1) (filled-turn (part b (a .at) 16) (replicate 16 0) (length-part b (a .at) 16 (omega arith)) (l .i) 0 _ (omega arith) (sym (part-at b (a .at) 16 (l .i) (omega arith)))))
 
--- src/readers.rt:33:1
 returns : tie.Need-returns Inv-loop μ-loop
 returns c =
     let l = c .before .loop in

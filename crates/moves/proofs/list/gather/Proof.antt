@@ -5,23 +5,18 @@ use denote.Ref.{now}
 use Rattle.moves.proofs.list.gather.Statement.{statement}
 use Rattle.moves.proofs.list.gather.Tie as tie
 
--- src/list.rt:61:17
 judged-requires : tie.Need-judged-requires
 judged-requires c κs = search needs
 
--- src/list.rt:62:9
 gather-kind-requires : tie.Need-gather-kind-requires
 gather-kind-requires c κs = search needs
 
--- src/list.rt:63:9
 gather-kind-requires-2 : tie.Need-gather-kind-requires-2
 gather-kind-requires-2 c κs = search needs
 
--- src/list.rt:64:5
 gather-kind-requires-3 : tie.Need-gather-kind-requires-3
 gather-kind-requires-3 c κs = search needs
 
--- src/list.rt:55:1
 returns : tie.Need-returns
 returns c =
     let a = c .before .before .before .before .before .before .before .before .before .before .before .before .before .args in

@@ -18,23 +18,18 @@ Inv-loop card l m plan marks kind codes₀ at n j₀ i₀ codes j i = (i ≤ cou
 abbrev μ-loop : tie.MeasureT-loop
 μ-loop card l m plan marks kind codes₀ at n j₀ i₀ codes j i = countOf l kind - i
 
--- src/list.rt:41:9
 count-of-requires : tie.Need-count-of-requires Inv-loop μ-loop
 count-of-requires c κs = search needs
 
--- src/list.rt:44:5
 loop-holds : tie.Need-loop-holds Inv-loop μ-loop
 loop-holds c = (omega arith, gathering-none _ _ _ _ (c .before .before .pre .4))
 
--- src/list.rt:45:12
 can-requires : tie.Need-can-requires Inv-loop μ-loop
 can-requires c κs = search needs
 
--- src/list.rt:46:24
 mul-codes : tie.Need-mul-codes Inv-loop μ-loop
 mul-codes c = search needs
 
--- src/list.rt:46:46
 cast-codes : tie.Need-cast-codes Inv-loop μ-loop
 cast-codes c =
     let a = c .before .before .before .before .before .before .args in
@@ -42,7 +37,6 @@ cast-codes c =
     let h = at-most-256 (a .l) (now (a .card)) (p .0 .laid) (a .kind) in
     omega arith
 
--- src/list.rt:46:24
 add-codes : tie.Need-add-codes Inv-loop μ-loop
 add-codes c =
     let a = c .before .before .before .before .before .before .args in
@@ -50,7 +44,6 @@ add-codes c =
     let h = at-most-256 (a .l) (now (a .card)) (p .0 .laid) (a .kind) in
     omega arith
 
--- src/list.rt:46:13
 mul-codes-2 : tie.Need-mul-codes-2 Inv-loop μ-loop
 mul-codes-2 c =
     let a = c .before .before .before .before .before .before .args in
@@ -59,7 +52,6 @@ mul-codes-2 c =
     let l = c .before .before .before .loop .inv .1 .low in
     omega arith
 
--- src/list.rt:46:13
 element-write-codes : tie.Need-element-write-codes Inv-loop μ-loop
 element-write-codes c =
     let a = c .before .before .before .before .before .before .args in
@@ -70,7 +62,6 @@ element-write-codes c =
     let e = g .long in
     omega arith
 
--- src/list.rt:47:13
 add-j : tie.Need-add-j Inv-loop μ-loop
 add-j c =
     let a = c .before .before .before .before .before .before .args in
@@ -79,7 +70,6 @@ add-j c =
     let l = c .before .before .before .loop .inv .1 .low in
     omega arith
 
--- src/list.rt:49:9
 add-i : tie.Need-add-i Inv-loop μ-loop
 add-i c =
     let a = c .before .before .before .before .before .before .args in
@@ -87,11 +77,9 @@ add-i c =
     let h = at-most-256 (a .l) (now (a .card)) (p .0 .laid) (a .kind) in
     omega arith
 
--- src/list.rt:44:5
 loop-less : tie.Need-loop-less Inv-loop μ-loop
 loop-less c = search needs
 
--- src/list.rt:44:5
 loop-again : tie.Need-loop-again Inv-loop μ-loop
 loop-again c =
     let a = c .before .before .before .before .before .before .args in
@@ -106,7 +94,6 @@ loop-again c =
     (λ w. (omega arith, rw (w .1, w .2) (gathering-no _ _ _ _ _ _ _ g (sym e ∙ w .0 .left))))
     (c .if1 .came)
 
--- src/list.rt:28:1
 returns : tie.Need-returns Inv-loop μ-loop
 returns c =
     let a = c .before .before .before .before .args in

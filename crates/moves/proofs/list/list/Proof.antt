@@ -12,7 +12,6 @@ use denote.Ref.{now}
 use Rattle.moves.proofs.list.list.Statement.{statement}
 use Rattle.moves.proofs.list.list.Tie as tie
 
--- src/list.rt:146:9
 judge-mind-requires : tie.Need-judge-mind-requires
 judge-mind-requires c κs =
     let a = c .before .before .args in
@@ -22,11 +21,9 @@ judge-mind-requires c κs =
 enum-told : tie.Need-enum-told
 enum-told c = search needs
 
--- src/list.rt:148:9
 enum-told-2 : tie.Need-enum-told-2
 enum-told-2 c = search needs
 
--- src/list.rt:148:9
 returns : tie.Need-returns
 returns c =
     let a = c .before .before .before .before .before .args in
@@ -38,11 +35,9 @@ returns c =
     let r = lists-refused b d (now (a .out)) Refusal.Configuration (e .1) in
     (ap (λ x. written x 0 d) (e .0) ∙ sym (r .0), sym (r .1))
 
--- src/list.rt:153:21
 no-codes-requires : tie.Need-no-codes-requires
 no-codes-requires c κs = search needs
 
--- src/list.rt:154:9
 gather-requires : tie.Need-gather-requires
 gather-requires c κs =
     let a = c .before .before .before .before .before .before .before .args in
@@ -53,7 +48,6 @@ gather-requires c κs =
     let e = judged-good (a .l) b d (p .0) (p .1) (g .result) (g .ensures .0) (c .before .before .enum-told .given .1) in
     (good-card (a .l) b (p .0) (p .1), held-configuration (a .l) d (g .ensures .1) (e .0), c .before .no-codes .ensures)
 
--- src/list.rt:156:9
 returns-2 : tie.Need-returns-2
 returns-2 c =
     let a = c .before .before .before .before .before .before .before .before .before .args in
@@ -67,19 +61,15 @@ returns-2 c =
     let x = listed-state (a .l) b d (a .m) codes (f .result) (p .1) refl (f .ensures .0) in
     list-not b d (e .1) codes (f .result) (f .ensures .2) (f .ensures .1) x (now (a .out)) (omega arith)
 
--- src/list.rt:161:5
 write-requires : tie.Need-write-requires
 write-requires c κs = search needs
 
--- src/list.rt:164:16
 cast-t20 : tie.Need-cast-t20
 cast-t20 c = search needs
 
--- src/list.rt:142:1
 same-length : tie.Need-same-length
 same-length c = search needs
 
--- src/list.rt:142:1
 returns-3 : tie.Need-returns-3
 returns-3 c =
     let a = c .before .before .before .before .before .before .before .before .before .before .before .before .before .before .args in

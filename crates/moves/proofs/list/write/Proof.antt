@@ -15,48 +15,38 @@ Inv-loop codes n out₀ i₀ out i = (i ≤ n) × Writing codes out₀ i out
 abbrev μ-loop : tie.MeasureT-loop
 μ-loop codes n out₀ i₀ out i = n - i
 
--- src/list.rt:130:5
 loop-holds : tie.Need-loop-holds Inv-loop μ-loop
 loop-holds c = (omega arith, writing-none _ _)
 
--- src/list.rt:131:18
 mul-out : tie.Need-mul-out Inv-loop μ-loop
 mul-out c = search needs
 
--- src/list.rt:131:18
 element-copy-out-out : tie.Need-element-copy-out-out Inv-loop μ-loop
 element-copy-out-out c = search needs
 
--- src/list.rt:131:9
 mul-out-2 : tie.Need-mul-out-2 Inv-loop μ-loop
 mul-out-2 c = search needs
 
--- src/list.rt:131:9
 slice-write-out : tie.Need-slice-write-out Inv-loop μ-loop
 slice-write-out c =
     let w = c .before .before .loop .inv .1 .long in
     omega arith
 
--- src/list.rt:132:9
 add-i : tie.Need-add-i Inv-loop μ-loop
 add-i c = search needs
 
--- src/list.rt:130:5
 loop-less : tie.Need-loop-less Inv-loop μ-loop
 loop-less c = search needs
 
--- src/list.rt:130:5
 loop-again : tie.Need-loop-again Inv-loop μ-loop
 loop-again c =
     let p = c .before .before .before .pre in
     let l = c .before .before .loop in
     (omega arith, writing-more _ _ _ _ (l .inv .1) (omega arith) (omega arith))
 
--- src/list.rt:125:1
 same-length : tie.Need-same-length Inv-loop μ-loop
 same-length c = c .before .loop .inv .1 .long
 
--- src/list.rt:125:1
 returns : tie.Need-returns Inv-loop μ-loop
 returns c =
     let a = c .before .before .args in

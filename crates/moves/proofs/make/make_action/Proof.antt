@@ -16,57 +16,45 @@ use lib.ListN.{length, take, drop}
 use Rattle.moves.proofs.make.make_action.Statement.{statement}
 use Rattle.moves.proofs.make.make_action.Tie as tie
 
--- src/make.rt:49:31
 mul-at : tie.Need-mul-at
 mul-at c = search needs
 
--- src/make.rt:49:14
 add-at : tie.Need-add-at
 add-at c = search needs
 
--- src/make.rt:53:28
 add-set-at : tie.Need-add-set-at
 add-set-at c = search needs
 
--- src/make.rt:53:9
 set-at-requires : tie.Need-set-at-requires
 set-at-requires c κs = search needs
 
--- src/make.rt:54:28
 add-set-at-2 : tie.Need-add-set-at-2
 add-set-at-2 c = search needs
 
--- src/make.rt:54:9
 set-at-requires-2 : tie.Need-set-at-requires-2
 set-at-requires-2 c κs = search needs
 
--- src/make.rt:55:36
 union-requires : tie.Need-union-requires
 union-requires c κs = search needs
 
--- src/make.rt:55:9
 difference-requires : tie.Need-difference-requires
 difference-requires c κs = search needs
 
--- src/make.rt:56:9
 difference-requires-2 : tie.Need-difference-requires-2
 difference-requires-2 c κs = search needs
 
--- src/make.rt:57:5
 drop-front-requires : tie.Need-drop-front-requires
 drop-front-requires c κs =
     let a = c .before .before .before .before .before .before .before .before .before .before .before .args in
     let p = c .before .before .before .before .before .before .before .before .before .before .before .pre in
     (plan-not-empty (a .l) (now (a .card)) (p .0) (a .m) (now (a .plan)) (p .1) (a .i) (p .2) (p .3), p .1 .fits, p .1 .zeros)
 
--- src/make.rt:63:21
 sub-t15 : tie.Need-sub-t15
 sub-t15 c =
     let a = c .before .before .before .before .before .before .before .before .before .before .before .before .args in
     let p = c .before .before .before .before .before .before .before .before .before .before .before .before .pre in
     plan-not-empty (a .l) (now (a .card)) (p .0) (a .m) (now (a .plan)) (p .1) (a .i) (p .2) (p .3)
 
--- src/make.rt:44:1
 returns : tie.Need-returns
 unfolding σ′ γ′ specificationAt
 returns c =

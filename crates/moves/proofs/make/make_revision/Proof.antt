@@ -16,42 +16,33 @@ use lib.ListN.{length, take, drop}
 use Rattle.moves.proofs.make.make_revision.Statement.{statement}
 use Rattle.moves.proofs.make.make_revision.Tie as tie
 
--- src/make.rt:76:31
 mul-at : tie.Need-mul-at
 mul-at c = search needs
 
--- src/make.rt:76:14
 add-at : tie.Need-add-at
 add-at c = search needs
 
--- src/make.rt:77:32
 add-read-span : tie.Need-add-read-span
 add-read-span c = search needs
 
--- src/make.rt:77:9
 read-span-requires : tie.Need-read-span-requires
 read-span-requires c κs = search needs
 
--- src/make.rt:78:32
 add-read-span-2 : tie.Need-add-read-span-2
 add-read-span-2 c = search needs
 
--- src/make.rt:78:9
 read-span-requires-2 : tie.Need-read-span-requires-2
 read-span-requires-2 c κs = search needs
 
--- src/make.rt:79:16
 sub-rest : tie.Need-sub-rest
 sub-rest c =
     let a = c .before .before .before .before .before .before .before .before .args in
     let p = c .before .before .before .before .before .before .before .before .pre in
     rw (c .before .before .before .read-span .ensures .0) (head-fits (a .l) (now (a .card)) (p .0) (a .m) (now (a .plan)) (p .1) (a .i) (p .2) (p .3))
 
--- src/make.rt:80:13
 add-n : tie.Need-add-n
 add-n c = search needs
 
--- src/make.rt:82:9
 returns : tie.Need-returns
 returns c =
     let a = c .before .before .before .before .before .before .before .before .before .before .args in
@@ -62,11 +53,9 @@ returns c =
     let t = revises-full (a .l) b (p .0) (a .m) d (p .1) (a .i) (p .2) (p .3) (rw (c .before .before .before .before .read-span2 .ensures .0, c .before .before .before .before .before .read-span .ensures .0) at long) in
     (ap (λ (x : Reached). told x (a .m)) (sym t), ap (λ (x : Reached). left x d) (sym t))
 
--- src/make.rt:89:61
 add-replace-front : tie.Need-add-replace-front
 add-replace-front c = search needs
 
--- src/make.rt:89:5
 replace-front-requires : tie.Need-replace-front-requires
 replace-front-requires c κs =
     let a = c .before .before .before .before .before .before .before .before .before .before .before .before .before .before .before .args in
@@ -78,7 +67,6 @@ replace-front-requires c κs =
     let f = p .1 .fits in
     (h, f, omega arith, omega arith, p .1 .zeros)
 
--- src/make.rt:70:1
 returns-2 : tie.Need-returns-2
 unfolding plan
 returns-2 c =

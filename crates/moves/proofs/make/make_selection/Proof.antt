@@ -15,27 +15,21 @@ use lib.ListN.{length}
 use Rattle.moves.proofs.make.make_selection.Statement.{statement}
 use Rattle.moves.proofs.make.make_selection.Tie as tie
 
--- src/make.rt:26:46
 mul-read-span : tie.Need-mul-read-span
 mul-read-span c = search needs
 
--- src/make.rt:26:29
 add-read-span : tie.Need-add-read-span
 add-read-span c = search needs
 
--- src/make.rt:26:29
 add-read-span-2 : tie.Need-add-read-span-2
 add-read-span-2 c = search needs
 
--- src/make.rt:26:9
 read-span-requires : tie.Need-read-span-requires
 read-span-requires c κs = search needs
 
--- src/make.rt:30:44
 add-replace-front : tie.Need-add-replace-front
 add-replace-front c = search needs
 
--- src/make.rt:30:5
 replace-front-requires : tie.Need-replace-front-requires
 replace-front-requires c κs =
     let a = c .before .before .before .before .before .before .before .before .before .before .args in
@@ -49,7 +43,6 @@ replace-front-requires c κs =
     let w = p .0 .laid .ends in
     (omega arith, omega arith, omega arith, omega arith, rw z at (p .1 .zeros))
 
--- src/make.rt:20:1
 returns : tie.Need-returns
 unfolding plan
 returns c =

@@ -19,7 +19,6 @@ use denote.Ref.{now}
 use Rattle.moves.proofs.run.run.Statement.{statement}
 use Rattle.moves.proofs.run.run.Tie as tie
 
--- src/run.rt:23:9
 judge-mind-requires : tie.Need-judge-mind-requires
 judge-mind-requires c κs =
     let a = c .before .before .args in
@@ -29,11 +28,9 @@ judge-mind-requires c κs =
 enum-told : tie.Need-enum-told
 enum-told c = search needs
 
--- src/run.rt:28:21
 enum-told-2 : tie.Need-enum-told-2
 enum-told-2 c = search needs
 
--- src/run.rt:25:9
 returns : tie.Need-returns
 returns c =
     let a = c .before .before .before .before .before .args in
@@ -44,7 +41,6 @@ returns c =
     let e = judged-bad (a .l) b d (p .0) (p .1) (g .result) (g .ensures .0) _ (c .enum-told2 .given .1) in
     (ap (λ x. record { answer = x; count = 0; ending = Ending.Spent; configuration = d }) (e .0) ∙ sym (runs-refused b d (a .budget) Refusal.Configuration (e .1)), inr refl)
 
--- src/run.rt:32:9
 turns-requires : tie.Need-turns-requires
 turns-requires c κs =
     let a = c .before .before .before .before .before .before .args in
@@ -56,7 +52,6 @@ turns-requires c κs =
     let f = good (a .l) d (e .0) .phase in
     (good-card (a .l) b (p .0) (p .1), held-configuration (a .l) d (g .ensures .1) (e .0), omega arith)
 
--- src/run.rt:19:1
 returns-2 : tie.Need-returns-2
 unfolding agent stateOf
 returns-2 c =

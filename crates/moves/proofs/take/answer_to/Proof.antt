@@ -2,27 +2,21 @@ use borrow.Author.Needs.{needs}
 use Rattle.moves.proofs.take.answer_to.Statement.{statement}
 use Rattle.moves.proofs.take.answer_to.Tie as tie
 
--- src/take.rt:123:24
 enum-told : tie.Need-enum-told
 enum-told c = search needs
 
--- src/take.rt:124:42
 enum-told-2 : tie.Need-enum-told-2
 enum-told-2 c = search needs
 
--- src/take.rt:125:39
 enum-told-3 : tie.Need-enum-told-3
 enum-told-3 c = search needs
 
--- src/take.rt:119:1
 returns : tie.Need-returns
 returns c = rw (c .enum-told .given .1)
 
--- src/take.rt:119:1
 returns-2 : tie.Need-returns-2
 returns-2 c = rw (c .enum-told2 .given .1)
 
--- src/take.rt:119:1
 returns-3 : tie.Need-returns-3
 returns-3 c = rw (c .enum-told3 .given .1)
 

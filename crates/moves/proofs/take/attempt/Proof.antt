@@ -10,21 +10,17 @@ use denote.Ref.{now}
 use Rattle.moves.proofs.take.attempt.Statement.{statement}
 use Rattle.moves.proofs.take.attempt.Tie as tie
 
--- src/take.rt:110:8
 may-requires : tie.Need-may-requires
 may-requires c κs = search needs
 
--- src/take.rt:111:9
 make-requires : tie.Need-make-requires
 make-requires c κs =
     let p = c .before .before .before .before .before .pre in
     (p .0, p .1, p .2, sym (c .before .before .may .ensures) ∙ c .before .if1 .taken)
 
--- src/take.rt:111:9
 returns : tie.Need-returns
 returns c = search needs
 
--- src/take.rt:106:1
 returns-2 : tie.Need-returns-2
 returns-2 c =
     let a = c .before .before .before .before .args in

@@ -6,25 +6,20 @@ use denote.Ref.{now}
 use Rattle.moves.proofs.take.may.Statement.{statement}
 use Rattle.moves.proofs.take.may.Tie as tie
 
--- src/take.rt:34:8
 count-of-requires : tie.Need-count-of-requires
 count-of-requires c κs = search needs
 
--- src/take.rt:35:9
 returns : tie.Need-returns
 returns c =
     let a = c .before .before .before .args in
     sym (past-last (a .l) (now (a .card)) _ (a .kind) (a .i) (omega arith))
 
--- src/take.rt:39:17
 judged-requires : tie.Need-judged-requires
 judged-requires c κs = search needs
 
--- src/take.rt:40:5
 can-requires : tie.Need-can-requires
 can-requires c κs = search needs
 
--- src/take.rt:30:1
 returns-2 : tie.Need-returns-2
 returns-2 c = search needs
 

@@ -19,7 +19,6 @@ use denote.Ref.{now}
 use Rattle.moves.proofs.take.take.Statement.{statement}
 use Rattle.moves.proofs.take.take.Tie as tie
 
--- src/take.rt:132:9
 judge-mind-requires : tie.Need-judge-mind-requires
 judge-mind-requires c κs =
     let a = c .before .before .args in
@@ -29,11 +28,9 @@ judge-mind-requires c κs =
 enum-told : tie.Need-enum-told
 enum-told c = search needs
 
--- src/take.rt:134:9
 enum-told-2 : tie.Need-enum-told-2
 enum-told-2 c = search needs
 
--- src/take.rt:134:9
 returns : tie.Need-returns
 returns c =
     let a = c .before .before .before .before .before .args in
@@ -44,7 +41,6 @@ returns c =
     let e = judged-bad (a .l) b d (p .0) (p .1) (g .result) (g .ensures .0) _ (c .enum-told2 .given .1) in
     (ap (λ x. reply x d) (e .0) ∙ sym (takes-refused b d (a .choice) Refusal.Configuration (e .1)), inr refl)
 
--- src/take.rt:138:9
 returns-2 : tie.Need-returns-2
 returns-2 c =
     let a = c .before .before .before .before .before .before .args in
@@ -55,15 +51,12 @@ returns-2 c =
     let e = judged-good (a .l) b d (p .0) (p .1) (g .result) (g .ensures .0) (c .before .enum-told .given .1) in
     (takes-unknown b d (e .1) (a .choice) (omega arith), inr refl)
 
--- src/take.rt:143:39
 cast-attempt : tie.Need-cast-attempt
 cast-attempt c = search needs
 
--- src/take.rt:143:51
 cast-attempt-2 : tie.Need-cast-attempt-2
 cast-attempt-2 c = search needs
 
--- src/take.rt:143:9
 attempt-requires : tie.Need-attempt-requires
 attempt-requires c κs =
     let a = c .before .before .before .before .before .before .before .args in
@@ -74,11 +67,9 @@ attempt-requires c κs =
     let e = judged-good (a .l) b d (p .0) (p .1) (g .result) (g .ensures .0) (c .before .before .enum-told .given .1) in
     (good-card (a .l) b (p .0) (p .1), held-configuration (a .l) d (g .ensures .1) (e .0), omega arith)
 
--- src/take.rt:147:17
 answer-to-requires : tie.Need-answer-to-requires
 answer-to-requires c κs = search needs
 
--- src/take.rt:128:1
 returns-3 : tie.Need-returns-3
 unfolding agent stateOf
 returns-3 c =

@@ -10,7 +10,6 @@ use denote.Ref.{now}
 use Rattle.moves.proofs.turn.make.Statement.{statement}
 use Rattle.moves.proofs.turn.make.Tie as tie
 
--- src/turn.rt:32:14
 make-selection-requires : tie.Need-make-selection-requires
 make-selection-requires c κs =
     let a = c .before .before .before .args in
@@ -18,7 +17,6 @@ make-selection-requires c κs =
     let k : enabled (agentFor (a .l) (now (a .card))) (mentalOf (a .m) (now (a .plan))) (select (a .i)) ≡ true = rw (c .before .match .keys1) at (p .3) in
     (p .0, p .1, known-number (a .l) (now (a .card)) _ 0 (a .i) k, k)
 
--- src/turn.rt:33:14
 make-action-requires : tie.Need-make-action-requires
 make-action-requires c κs =
     let a = c .before .before .before .args in
@@ -26,7 +24,6 @@ make-action-requires c κs =
     let k : enabled (agentFor (a .l) (now (a .card))) (mentalOf (a .m) (now (a .plan))) (act (a .i)) ≡ true = rw (c .before .match .keys2) at (p .3) in
     (p .0, p .1, known-number (a .l) (now (a .card)) _ 1 (a .i) k, k)
 
--- src/turn.rt:34:14
 make-revision-requires : tie.Need-make-revision-requires
 make-revision-requires c κs =
     let a = c .before .before .before .args in
@@ -35,17 +32,14 @@ make-revision-requires c κs =
     let k : enabled (agentFor (a .l) (now (a .card))) (mentalOf (a .m) (now (a .plan))) (revise (a .i)) ≡ true = rw (e) at (p .3) in
     (p .0, p .1, known-number (a .l) (now (a .card)) _ 2 (a .i) k, k)
 
--- src/turn.rt:27:1
 returns : tie.Need-returns
 returns c =
     rw (c .before .before .match .keys1) (c .make-selection .ensures)
 
--- src/turn.rt:27:1
 returns-2 : tie.Need-returns-2
 returns-2 c =
     rw (c .before .before .match .keys2) (c .make-action .ensures)
 
--- src/turn.rt:27:1
 returns-3 : tie.Need-returns-3
 returns-3 c =
     let e : c .before .before .before .before .args .kind ≡ 2 = omega arith in

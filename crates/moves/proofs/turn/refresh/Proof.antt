@@ -3,15 +3,12 @@ use borrow.Author.Needs.{needs}
 use Rattle.moves.proofs.turn.refresh.Statement.{statement}
 use Rattle.moves.proofs.turn.refresh.Tie as tie
 
--- src/turn.rt:63:9
 judge-nodes-requires : tie.Need-judge-nodes-requires
 judge-nodes-requires c κs = search needs
 
--- src/turn.rt:56:1
 returns : tie.Need-returns
 returns c = search needs
 
--- src/turn.rt:56:1
 returns-2 : tie.Need-returns-2
 returns-2 c = (c .before .before .pre .2 (not-false _ (c .if1 .left)), c .before .before .pre .1)
 

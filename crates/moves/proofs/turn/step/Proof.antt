@@ -8,19 +8,15 @@ use denote.Ref.{now}
 use Rattle.moves.proofs.turn.step.Statement.{statement}
 use Rattle.moves.proofs.turn.step.Tie as tie
 
--- src/turn.rt:45:9
 choose-requires : tie.Need-choose-requires
 choose-requires c κs = search needs
 
--- src/turn.rt:46:20
 enum-known-chosen : tie.Need-enum-known-chosen
 enum-known-chosen c = search needs
 
--- src/turn.rt:48:19
 enum-told : tie.Need-enum-told
 enum-told c = search needs
 
--- src/turn.rt:47:9
 returns : tie.Need-returns
 returns c =
     let a = c .before .before .before .before .before .args in
@@ -28,7 +24,6 @@ returns c =
     let t = steps-nowhere (agentFor (a .l) (now (a .card))) (stateIn (a .m) d) (sym (c .before .before .choose .ensures) ∙ c .enum-told .given .1) in
     (ap (λ (r : Reached). told r (a .m)) (sym t), ap (λ (r : Reached). left r d) (sym t))
 
--- src/turn.rt:52:5
 make-requires : tie.Need-make-requires
 make-requires c κs =
     let a = c .before .before .before .before .before .before .before .args in
@@ -36,7 +31,6 @@ make-requires c κs =
     let b = steps-by (agentFor (a .l) (now (a .card))) (stateIn (a .m) (now (a .plan))) _ _ (sym (c .before .before .before .before .choose .ensures) ∙ c .before .before .chosen .given .1) in
     (p .0, p .1, b .0, b .1)
 
--- src/turn.rt:41:1
 returns-2 : tie.Need-returns-2
 returns-2 c =
     let a = c .before .before .before .before .before .before .before .before .args in

@@ -21,11 +21,9 @@ Inv-loop card l plan₀ budget cur₀ marks₀ known₀ count₀ plan cur marks 
 abbrev μ-loop : tie.MeasureT-loop
 μ-loop card l plan₀ budget cur₀ marks₀ known₀ count₀ plan cur marks known count = budget - count
 
--- src/turn.rt:85:21
 no-marks-requires : tie.Need-no-marks-requires Inv-loop μ-loop
 no-marks-requires c κs = search needs
 
--- src/turn.rt:88:5
 loop-holds : tie.Need-loop-holds Inv-loop μ-loop
 loop-holds c =
     let a = c .before .before .args in
@@ -35,29 +33,23 @@ loop-holds c =
       λ e. absurd (false≢true e),
     )
 
--- src/turn.rt:89:9
 refresh-requires : tie.Need-refresh-requires Inv-loop μ-loop
 refresh-requires c κs = (c .before .before .before .before .before .pre .0, c .before .before .loop .inv .1, c .before .before .loop .inv .2)
 
--- src/turn.rt:90:13
 step-requires : tie.Need-step-requires Inv-loop μ-loop
 step-requires c κs =
     let r = c .before .before .before .before .before .loop .inv .0 in
     (c .before .before .before .before .before .before .before .before .pre .0, r .held, r .phase, c .before .before .refresh .ensures .0)
 
--- src/turn.rt:94:21
 enum-told : tie.Need-enum-told Inv-loop μ-loop
 enum-told c = search needs
 
--- src/turn.rt:102:17
 add-count : tie.Need-add-count Inv-loop μ-loop
 add-count c = search needs
 
--- src/turn.rt:88:5
 loop-less : tie.Need-loop-less Inv-loop μ-loop
 loop-less c = search needs
 
--- src/turn.rt:88:5
 loop-again : tie.Need-loop-again Inv-loop μ-loop
 loop-again c =
     let a = c .before .before .before .before .before .before .before .before .before .before .before .before .before .before .before .args in
@@ -71,15 +63,12 @@ loop-again c =
       λ h. running-judged (agentFor (a .l) (now (a .card))) (a .budget) (stateIn (a .m) (now (a .plan))) (l .cur) (l .plan) (l .count) (l .inv .0) (omega arith) (a .l) (now (a .card)) (f .last .1 .1 .1 .1 .0) (f .ensures .0) n h,
     )
 
--- src/turn.rt:105:40
 enum-told-2 : tie.Need-enum-told-2 Inv-loop μ-loop
 enum-told-2 c = search needs
 
--- src/turn.rt:105:17
 end-requires : tie.Need-end-requires Inv-loop μ-loop
 end-requires c κs = search needs
 
--- src/turn.rt:105:17
 returns : tie.Need-returns Inv-loop μ-loop
 returns c =
     let a = c .before .before .before .before .before .before .before .before .before .before .before .before .args in
@@ -88,15 +77,12 @@ returns c =
     let x = running-rest (agentFor (a .l) (now (a .card))) (a .budget) (stateIn (a .m) (now (a .plan))) (l .cur) (l .plan) (l .count) (l .inv .0) (omega arith) (ap (λ (x : Stepped). x .next) (sym (e .0)) ∙ c .before .enum-told2 .given .1) in
     (c .end .ensures ∙ x .0, e .1 ∙ x .1)
 
--- src/turn.rt:108:40
 enum-told-3 : tie.Need-enum-told-3 Inv-loop μ-loop
 enum-told-3 c = search needs
 
--- src/turn.rt:108:17
 end-requires-2 : tie.Need-end-requires-2 Inv-loop μ-loop
 end-requires-2 c κs = search needs
 
--- src/turn.rt:108:17
 returns-2 : tie.Need-returns-2 Inv-loop μ-loop
 returns-2 c =
     let a = c .before .before .before .before .before .before .before .before .before .before .before .before .args in
@@ -105,11 +91,9 @@ returns-2 c =
     let x = running-full (agentFor (a .l) (now (a .card))) (a .budget) (stateIn (a .m) (now (a .plan))) (l .cur) (l .plan) (l .count) (l .inv .0) (omega arith) (ap (λ (x : Stepped). x .next) (sym (e .0)) ∙ c .before .enum-told3 .given .1) in
     (c .end2 .ensures ∙ x .0, e .1 ∙ x .1)
 
--- src/turn.rt:112:5
 end-requires-3 : tie.Need-end-requires-3 Inv-loop μ-loop
 end-requires-3 c κs = search needs
 
--- src/turn.rt:80:1
 returns-3 : tie.Need-returns-3 Inv-loop μ-loop
 returns-3 c =
     let a = c .before .before .before .before .before .args in

@@ -2,19 +2,15 @@ use borrow.Author.Needs.{needs}
 use Rattle.place.proofs.judge.counts_good.Statement.{statement}
 use Rattle.place.proofs.judge.counts_good.Tie as tie
 
--- src/judge.rt:80:9
 number-at-requires : tie.Need-number-at-requires
 number-at-requires c κs = search needs
 
--- src/judge.rt:81:9
 number-at-requires-2 : tie.Need-number-at-requires-2
 number-at-requires-2 c κs = search needs
 
--- src/judge.rt:82:9
 number-at-requires-3 : tie.Need-number-at-requires-3
 number-at-requires-3 c κs = search needs
 
--- src/judge.rt:76:1
 returns : tie.Need-returns
 returns c = rw (c .before .before .number-at .ensures .0, c .before .number-at2 .ensures .0, c .number-at3 .ensures .0)
 

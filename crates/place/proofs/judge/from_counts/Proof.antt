@@ -8,22 +8,18 @@ use denote.Ref.{now}
 use Rattle.place.proofs.judge.from_counts.Statement.{statement}
 use Rattle.place.proofs.judge.from_counts.Tie as tie
 
--- src/judge.rt:91:17
 counts-good-requires : tie.Need-counts-good-requires
 counts-good-requires c κs = search needs
 
--- src/judge.rt:91:9
 row-requires : tie.Need-row-requires
 row-requires c κs = search needs
 
 enum-told : tie.Need-enum-told
 enum-told c = search needs
 
--- src/judge.rt:93:9
 enum-told-2 : tie.Need-enum-told-2
 enum-told-2 c = search needs
 
--- src/judge.rt:93:9
 returns : tie.Need-returns
 unfolding rowsFrom placeTable
 returns c =
@@ -31,11 +27,9 @@ returns c =
     let good = c .before .before .before .counts-good in
     stops _ _ b (good .result) (ap not (sym (good .ensures))) (c .before .before .row .result) (c .before .before .row .ensures) _ (c .enum-told2 .given .1)
 
--- src/judge.rt:95:5
 from-offsets-requires : tie.Need-from-offsets-requires
 from-offsets-requires c κs = search needs
 
--- src/judge.rt:87:1
 returns-2 : tie.Need-returns-2
 unfolding rowsFrom placeTable
 returns-2 c =

@@ -8,22 +8,18 @@ use denote.Ref.{now}
 use Rattle.place.proofs.judge.from_mark.Statement.{statement}
 use Rattle.place.proofs.judge.from_mark.Tie as tie
 
--- src/judge.rt:112:17
 mark-good-requires : tie.Need-mark-good-requires
 mark-good-requires c κs = search needs
 
--- src/judge.rt:112:9
 row-requires : tie.Need-row-requires
 row-requires c κs = search needs
 
 enum-told : tie.Need-enum-told
 enum-told c = search needs
 
--- src/judge.rt:114:9
 enum-told-2 : tie.Need-enum-told-2
 enum-told-2 c = search needs
 
--- src/judge.rt:114:9
 returns : tie.Need-returns
 unfolding rowsFrom placeTable
 returns c =
@@ -31,11 +27,9 @@ returns c =
     let good = c .before .before .before .mark-good in
     stops _ _ b (good .result) (ap not (sym (good .ensures))) (c .before .before .row .result) (c .before .before .row .ensures) _ (c .enum-told2 .given .1)
 
--- src/judge.rt:116:5
 from-counts-requires : tie.Need-from-counts-requires
 from-counts-requires c κs = search needs
 
--- src/judge.rt:108:1
 returns-2 : tie.Need-returns-2
 unfolding rowsFrom placeTable
 returns-2 c =

@@ -8,22 +8,18 @@ use denote.Ref.{now}
 use Rattle.place.proofs.judge.from_offsets.Statement.{statement}
 use Rattle.place.proofs.judge.from_offsets.Tie as tie
 
--- src/judge.rt:68:17
 offsets-good-requires : tie.Need-offsets-good-requires
 offsets-good-requires c κs = search needs
 
--- src/judge.rt:68:9
 row-requires : tie.Need-row-requires
 row-requires c κs = search needs
 
 enum-told : tie.Need-enum-told
 enum-told c = search needs
 
--- src/judge.rt:70:9
 enum-told-2 : tie.Need-enum-told-2
 enum-told-2 c = search needs
 
--- src/judge.rt:70:9
 returns : tie.Need-returns
 unfolding rowsFrom placeTable
 returns c =
@@ -31,11 +27,9 @@ returns c =
     let good = c .before .before .before .offsets-good in
     stops _ _ b (good .result) (ap not (sym (good .ensures))) (c .before .before .row .result) (c .before .before .row .ensures) _ (c .enum-told2 .given .1)
 
--- src/judge.rt:72:5
 from-plan-requires : tie.Need-from-plan-requires
 from-plan-requires c κs = search needs
 
--- src/judge.rt:64:1
 returns-2 : tie.Need-returns-2
 unfolding rowsFrom placeTable
 returns-2 c =

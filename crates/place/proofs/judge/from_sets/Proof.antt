@@ -8,15 +8,12 @@ use denote.Ref.{now}
 use Rattle.place.proofs.judge.from_sets.Statement.{statement}
 use Rattle.place.proofs.judge.from_sets.Tie as tie
 
--- src/judge.rt:30:9
 sets-good-requires : tie.Need-sets-good-requires
 sets-good-requires c κs = search needs
 
--- src/judge.rt:30:5
 row-requires : tie.Need-row-requires
 row-requires c κs = search needs
 
--- src/judge.rt:26:1
 returns : tie.Need-returns
 unfolding rowsFrom placeTable
 returns c =

@@ -10,30 +10,25 @@ use lib.ListN.{length}
 use Rattle.place.proofs.judge.judge_place.Statement.{statement}
 use Rattle.place.proofs.judge.judge_place.Tie as tie
 
--- src/judge.rt:124:9
 row-requires : tie.Need-row-requires
 row-requires c κs = search needs
 
 enum-told : tie.Need-enum-told
 enum-told c = search needs
 
--- src/judge.rt:126:9
 enum-told-2 : tie.Need-enum-told-2
 enum-told-2 c = search needs
 
--- src/judge.rt:126:9
 returns : tie.Need-returns
 unfolding placeTable
 returns c =
     let b = now (c .before .before .before .before .args .p) in
     stops _ _ b (leb 44 (length b)) (ltb-not (length b) 44) (c .before .before .row .result) (c .before .before .row .ensures) _ (c .enum-told2 .given .1)
 
--- src/judge.rt:128:5
 from-mark-requires : tie.Need-from-mark-requires
 from-mark-requires c κs =
     (leb-true 44 _ (row-done _ _ (sym (c .before .before .row .ensures) ∙ c .enum-told .given .1)), c .before .before .before .before .pre)
 
--- src/judge.rt:120:1
 returns-2 : tie.Need-returns-2
 unfolding rowsFrom placeTable
 returns-2 c =

@@ -2,19 +2,15 @@ use borrow.Author.Needs.{needs}
 use Rattle.place.proofs.judge.mark_good.Statement.{statement}
 use Rattle.place.proofs.judge.mark_good.Tie as tie
 
--- src/judge.rt:103:9
 number-at-requires : tie.Need-number-at-requires
 number-at-requires c κs = search needs
 
--- src/judge.rt:104:6
 shared-slice-read-result : tie.Need-shared-slice-read-result
 shared-slice-read-result c = search needs
 
--- src/judge.rt:104:24
 shared-slice-read-result-2 : tie.Need-shared-slice-read-result-2
 shared-slice-read-result-2 c = search needs
 
--- src/judge.rt:99:1
 returns : tie.Need-returns
 returns c = rw (c .before .before .number-at .ensures .0)
 

@@ -2,19 +2,15 @@ use borrow.Author.Needs.{needs}
 use Rattle.place.proofs.judge.offsets_good.Statement.{statement}
 use Rattle.place.proofs.judge.offsets_good.Tie as tie
 
--- src/judge.rt:58:9
 number-at-requires : tie.Need-number-at-requires
 number-at-requires c κs = search needs
 
--- src/judge.rt:59:9
 number-at-requires-2 : tie.Need-number-at-requires-2
 number-at-requires-2 c κs = search needs
 
--- src/judge.rt:60:34
 add-result : tie.Need-add-result
 add-result c = search needs
 
--- src/judge.rt:54:1
 returns : tie.Need-returns
 returns c = rw (c .before .number-at .ensures .0, c .number-at2 .ensures .0)
 

@@ -10,15 +10,12 @@ use denote.Ref.{now}
 use Rattle.place.proofs.judge.plan_good.Statement.{statement}
 use Rattle.place.proofs.judge.plan_good.Tie as tie
 
--- src/judge.rt:38:25
 sub-actions-good : tie.Need-sub-actions-good
 sub-actions-good c = search needs
 
--- src/judge.rt:38:5
 actions-good-requires : tie.Need-actions-good-requires
 actions-good-requires c κs = search needs
 
--- src/judge.rt:34:1
 returns : tie.Need-returns
 unfolding part
 returns c =

@@ -3,7 +3,7 @@ use Rattle.meaning.specs.Configurations.{padded, configurationOf}
 use Rattle.meaning.specs.Card.{part, plan, initialPlan, start}
 use Rattle.meaning.specs.declared.Layout.{Layout}
 use mathlib.Core.Path.{_≡_, sym, ap, _∙_}
-use Prim.Native.Nat.{_+_, _-_}
+use Prim.Native.Nat.{_+_}
 use native.Mathlib.Omega.{arith}
 use borrow.Author.Needs.{needs}
 use denote.Ref.{now}
@@ -11,23 +11,18 @@ use lib.ListN.{length}
 use Rattle.place.proofs.load.first.Statement.{statement}
 use Rattle.place.proofs.load.first.Tie as tie
 
--- src/load.rt:25:9
 set-at-requires : tie.Need-set-at-requires
 set-at-requires c κs = search needs
 
--- src/load.rt:26:9
 set-at-requires-2 : tie.Need-set-at-requires-2
 set-at-requires-2 c κs = search needs
 
--- src/load.rt:27:29
 add-fill : tie.Need-add-fill
 add-fill c = search needs
 
--- src/load.rt:27:5
 fill-requires : tie.Need-fill-requires
 fill-requires c κs = search needs
 
--- src/load.rt:18:1
 returns : tie.Need-returns
 unfolding configurationOf start plan initialPlan
 returns c =

@@ -3,23 +3,19 @@ use Rattle.meaning.specs.declared.Answer.the-variants.{Done}
 use Rattle.meaning.specs.Calls.{reply}
 use Rattle.meaning.proofs.Calls.{loads-good}
 use mathlib.Core.Path.{sym, ap, _∙_}
-use Prim.Native.Nat.{_-_}
 use borrow.Author.Needs.{needs}
 use denote.Ref.{now}
 use Rattle.place.proofs.load.load.Statement.{statement}
 use Rattle.place.proofs.load.load.Tie as tie
 
--- src/load.rt:41:9
 size-requires : tie.Need-size-requires
 size-requires c κs = search needs
 
--- src/load.rt:42:5
 first-requires : tie.Need-first-requires
 first-requires c κs =
     let s = c .before .before .before .before .before in
     (good-card (s .args .l) (now (s .args .card)) (s .pre .0) (s .pre .1), search needs)
 
--- src/load.rt:37:1
 returns : tie.Need-returns
 returns c =
     let s = c .before .before .before .before .before .before in

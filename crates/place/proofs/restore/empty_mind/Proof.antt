@@ -6,19 +6,15 @@ use lib.ListN.{length, replicate}
 use Rattle.place.proofs.restore.empty_mind.Statement.{statement}
 use Rattle.place.proofs.restore.empty_mind.Tie as tie
 
--- src/restore.rt:44:9
 size-requires : tie.Need-size-requires
 size-requires c κs = search needs
 
--- src/restore.rt:45:23
 slice-aggregate-fill : tie.Need-slice-aggregate-fill
 slice-aggregate-fill c = search needs
 
--- src/restore.rt:45:5
 fill-requires : tie.Need-fill-requires
 fill-requires c κs = search needs
 
--- src/restore.rt:41:1
 returns : tie.Need-returns
 unfolding part empty configurationOf
 returns c = (λ i. record { beliefs = replicate 16 0; goals = replicate 16 0; plan = c .fill .ensures i; length = 0; phase = 0 }, omega arith)

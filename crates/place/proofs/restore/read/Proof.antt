@@ -10,27 +10,21 @@ use denote.Ref.{now}
 use Rattle.place.proofs.restore.read.Statement.{statement}
 use Rattle.place.proofs.restore.read.Tie as tie
 
--- src/restore.rt:27:9
 number-at-requires : tie.Need-number-at-requires
 number-at-requires c κs = search needs
 
--- src/restore.rt:28:9
 set-at-requires : tie.Need-set-at-requires
 set-at-requires c κs = search needs
 
--- src/restore.rt:29:9
 set-at-requires-2 : tie.Need-set-at-requires-2
 set-at-requires-2 c κs = search needs
 
--- src/restore.rt:30:5
 fill-requires : tie.Need-fill-requires
 fill-requires c κs = search needs
 
--- src/restore.rt:31:17
 shared-slice-read-phase : tie.Need-shared-slice-read-phase
 shared-slice-read-phase c = search needs
 
--- src/restore.rt:23:1
 returns : tie.Need-returns
 unfolding configurationOf placed part
 returns c =

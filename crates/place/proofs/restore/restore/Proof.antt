@@ -8,11 +8,9 @@ use lib.ListN.{length}
 use Rattle.place.proofs.restore.restore.Statement.{statement}
 use Rattle.place.proofs.restore.restore.Tie as tie
 
--- src/restore.rt:59:9
 size-requires : tie.Need-size-requires
 size-requires c κs = search needs
 
--- src/restore.rt:60:9
 judge-place-requires : tie.Need-judge-place-requires
 judge-place-requires c κs =
     let p = c .before .before .before .before .before .pre in
@@ -21,15 +19,12 @@ judge-place-requires c κs =
 enum-told : tie.Need-enum-told
 enum-told c = search needs
 
--- src/restore.rt:62:31
 enum-told-2 : tie.Need-enum-told-2
 enum-told-2 c = search needs
 
--- src/restore.rt:62:13
 empty-mind-requires : tie.Need-empty-mind-requires
 empty-mind-requires c κs = search needs
 
--- src/restore.rt:63:9
 returns : tie.Need-returns
 returns c =
     let s = c .before .before .before .before .before .before .before .before .before .before in
@@ -38,13 +33,11 @@ returns c =
     let m = c .empty-mind in
     ((λ i. reply (told i) (m .ensures .0 i)) ∙ sym (restores-refused (now (s .args .card)) (s .args .l) (s .pre .0) (s .pre .1) (now (s .args .p)) _ (sym j ∙ told)), m .ensures .1)
 
--- src/restore.rt:68:9
 read-requires : tie.Need-read-requires
 read-requires c κs =
     let r : length (now (c .before .before .before .before .before .before .before .before .before .args .plan)) ≡ 1024 = search needs in
     (sized _ _ (sym (c .before .before .before .judge-place .ensures) ∙ c .before .enum-told .given .1), r)
 
--- src/restore.rt:55:1
 returns-2 : tie.Need-returns-2
 returns-2 c =
     let s = c .before .before .before .before .before .before .before .before .before .before in

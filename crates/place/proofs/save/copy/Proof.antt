@@ -16,31 +16,24 @@ Inv-loop out₀ at src n i₀ out i = (i ≤ n) × (length out ≡ length out₀
 abbrev μ-loop : tie.MeasureT-loop
 μ-loop out₀ at src n i₀ out i = n - i
 
--- src/save.rt:50:5
 loop-holds : tie.Need-loop-holds Inv-loop μ-loop
 loop-holds c = (omega arith, refl, paste-zero (now (c .args .out)) (c .args .at) (now (c .args .src)))
 
--- src/save.rt:51:23
 shared-slice-read-out : tie.Need-shared-slice-read-out Inv-loop μ-loop
 shared-slice-read-out c = search needs
 
--- src/save.rt:51:13
 add-out : tie.Need-add-out Inv-loop μ-loop
 add-out c = search needs
 
--- src/save.rt:51:9
 slice-write-out : tie.Need-slice-write-out Inv-loop μ-loop
 slice-write-out c = search needs
 
--- src/save.rt:52:9
 add-i : tie.Need-add-i Inv-loop μ-loop
 add-i c = search needs
 
--- src/save.rt:50:5
 loop-less : tie.Need-loop-less Inv-loop μ-loop
 loop-less c = search needs
 
--- src/save.rt:50:5
 loop-again : tie.Need-loop-again Inv-loop μ-loop
 loop-again c =
     let a = c .before .before .before .args in
@@ -51,11 +44,9 @@ loop-again c =
       ap (λ (x : List ℕ). set x (a .at + l .i) v) (l .inv .2) ∙ paste-suc (now (a .out)) (a .at) (now (a .src)) (l .i) 0 (omega arith) (omega arith) ∙ ap (paste (now (a .out)) (a .at) (now (a .src))) (sym (add-one (l .i))),
     )
 
--- src/save.rt:45:1
 same-length : tie.Need-same-length Inv-loop μ-loop
 same-length c = search needs
 
--- src/save.rt:45:1
 returns : tie.Need-returns Inv-loop μ-loop
 returns c =
     let a = c .before .before .args in

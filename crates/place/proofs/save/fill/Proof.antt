@@ -16,49 +16,39 @@ lb c = search needs
 lg : (c : tie.Start) → length (c .args .m .goals) ≡ 16
 lg c = search needs
 
--- src/save.rt:64:13
 head-requires : tie.Need-head-requires
 head-requires c κs = search needs
 
--- src/save.rt:65:18
 slice-aggregate-copy : tie.Need-slice-aggregate-copy
 slice-aggregate-copy c = search needs
 
--- src/save.rt:65:5
 copy-requires : tie.Need-copy-requires
 copy-requires c κs = search needs
 
--- src/save.rt:66:19
 slice-aggregate-copy-2 : tie.Need-slice-aggregate-copy-2
 slice-aggregate-copy-2 c = search needs
 
--- src/save.rt:66:5
 copy-requires-2 : tie.Need-copy-requires-2
 copy-requires-2 c κs =
     let s = c .before .before .before .before .before .before .before .before .before .before .before in
     (omega (arith, c .before .before .before .before .copy .kept .0), omega (arith, lb s))
 
--- src/save.rt:67:19
 slice-aggregate-copy-3 : tie.Need-slice-aggregate-copy-3
 slice-aggregate-copy-3 c = search needs
 
--- src/save.rt:67:5
 copy-requires-3 : tie.Need-copy-requires-3
 copy-requires-3 c κs =
     let s = c .before .before .before .before .before .before .before .before .before .before .before .before .before .before .before .before in
     (omega (arith, c .before .before .before .before .copy2 .kept .0, c .before .before .before .before .before .before .before .before .before .copy .kept .0), omega (arith, lg s))
 
--- src/save.rt:68:5
 copy-requires-4 : tie.Need-copy-requires-4
 copy-requires-4 c κs =
     let s = c .before .before .before .before .before .before .before .before .before .before .before .before .before .before .before .before .before .before .before .before .before in
     (omega (arith, c .before .before .before .before .copy3 .kept .0, c .before .before .before .before .before .before .before .before .before .copy2 .kept .0, c .before .before .before .before .before .before .before .before .before .before .before .before .before .before .copy .kept .0, s .pre .2), omega (arith, s .pre .3, s .pre .0))
 
--- src/save.rt:57:1
 same-length : tie.Need-same-length
 same-length c = search needs
 
--- src/save.rt:57:1
 returns : tie.Need-returns
 unfolding placeHeader
 returns c =

@@ -3,15 +3,12 @@ use borrow.Author.Needs.{needs}
 use Rattle.place.proofs.save.head.Statement.{statement}
 use Rattle.place.proofs.save.head.Tie as tie
 
--- src/save.rt:33:9
 cast-t4 : tie.Need-cast-t4
 cast-t4 c = search needs
 
--- src/save.rt:34:9
 cast-t6 : tie.Need-cast-t6
 cast-t6 c = search needs
 
--- src/save.rt:24:1
 returns : tie.Need-returns
 returns c = header-bytes (c .args .n) (c .args .phase) (c .pre .0) (c .pre .1)
 

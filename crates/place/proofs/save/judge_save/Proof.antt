@@ -11,18 +11,15 @@ use denote.Ref.{now}
 use Rattle.place.proofs.save.judge_save.Statement.{statement}
 use Rattle.place.proofs.save.judge_save.Tie as tie
 
--- src/save.rt:76:9
 judge-mind-requires : tie.Need-judge-mind-requires
 judge-mind-requires c κs = search needs
 
 enum-told : tie.Need-enum-told
 enum-told c = search needs
 
--- src/save.rt:78:9
 enum-told-2 : tie.Need-enum-told-2
 enum-told-2 c = search needs
 
--- src/save.rt:78:9
 returns : tie.Need-returns
 unfolding savedFrom
 returns c =
@@ -30,7 +27,6 @@ returns c =
     let j = c .before .before .judge-mind in
     (refused-first (configurationGood (a .l) (configurationIn (a .m) (now (a .plan)))) _ _ (j .result) _ (j .ensures .0) (c .enum-told2 .given .1), j .ensures .1)
 
--- src/save.rt:80:9
 add-row : tie.Need-add-row
 add-row c =
     let a = c .before .before .before .before .args in
@@ -39,11 +35,9 @@ add-row c =
     let h = good (a .l) d (row-done (configurationGood (a .l) d) Refusal.Configuration (sym (j .ensures .0) ∙ c .before .enum-told .given .1)) .fits in
     search (needs, h)
 
--- src/save.rt:80:5
 row-requires : tie.Need-row-requires
 row-requires c κs = search needs
 
--- src/save.rt:72:1
 returns-2 : tie.Need-returns-2
 unfolding savedFrom
 returns-2 c =

@@ -14,7 +14,6 @@ lb c = search needs
 lg : (c : tie.Start) → length (c .args .m .goals) ≡ 16
 lg c = search needs
 
--- src/save.rt:88:9
 judge-save-requires : tie.Need-judge-save-requires
 judge-save-requires c κs =
     let p = c .before .before .pre in
@@ -23,11 +22,9 @@ judge-save-requires c κs =
 enum-told : tie.Need-enum-told
 enum-told c = search needs
 
--- src/save.rt:90:9
 enum-told-2 : tie.Need-enum-told-2
 enum-told-2 c = search needs
 
--- src/save.rt:90:9
 returns : tie.Need-returns
 returns c =
     let s = c .before .before .before .before .before in
@@ -35,32 +32,27 @@ returns c =
     let j = c .before .before .judge-save in
     save-refused (now (a .card)) (a .l) (s .pre .0) (s .pre .1) (configurationIn (a .m) (now (a .plan))) (lb s) (lg s) (j .ensures .1) (now (a .out)) (j .result) _ (j .ensures .0) (c .enum-told2 .given .1)
 
--- src/save.rt:95:5
 fill-requires : tie.Need-fill-requires
 fill-requires c κs =
     let j = c .before .before .before .judge-save in
     let (g, room) = saved-good _ _ _ (sym (j .ensures .0) ∙ c .before .enum-told .given .1) in
     (g .fits, g .phase, room, j .ensures .1)
 
--- src/save.rt:98:17
 add-t7 : tie.Need-add-t7
 add-t7 c =
     let (g, room) = saved-good _ _ _ (sym (c .before .before .before .before .before .before .before .judge-save .ensures .0) ∙ c .before .before .before .before .before .enum-told .given .1) in
     let h = g .fits in
     search (needs, h)
 
--- src/save.rt:98:16
 cast-t12 : tie.Need-cast-t12
 cast-t12 c =
     let (g, room) = saved-good _ _ _ (sym (c .before .before .before .before .before .before .before .judge-save .ensures .0) ∙ c .before .before .before .before .before .enum-told .given .1) in
     let h = g .fits in
     search (needs, h)
 
--- src/save.rt:84:1
 same-length : tie.Need-same-length
 same-length c = search needs
 
--- src/save.rt:84:1
 returns-2 : tie.Need-returns-2
 returns-2 c =
     let s = c .before .before .before .before .before .before .before .before .before .before in

@@ -13,15 +13,12 @@ use denote.Ref.{now}
 use Rattle.verdict.proofs.grade.from_initial.Statement.{statement}
 use Rattle.verdict.proofs.grade.from_initial.Tie as tie
 
--- src/grade.rt:87:8
 plan-weight-requires : tie.Need-plan-weight-requires
 plan-weight-requires c κs = search needs
 
--- src/grade.rt:88:9
 from-selections-requires : tie.Need-from-selections-requires
 from-selections-requires c κs = search needs
 
--- src/grade.rt:82:1
 returns : tie.Need-returns
 unfolding agent initialPlan
 returns c =
@@ -36,7 +33,6 @@ returns c =
     ∙ ap (λ (x : Agent). firstOffender (λ r. light w (r .π)) Offender.Selection 0 (x .PS) (firstOffender (lowers w) Offender.Revision 0 (x .PR) Verdict.Bounded)) A
     ∙ sym (verdict-light w (agent b) (initialPlan b) e)
 
--- src/grade.rt:82:1
 returns-2 : tie.Need-returns-2
 unfolding agent initialPlan
 returns-2 c =

@@ -19,15 +19,12 @@ Inv-loop card l sums n i₀ i = (i ≤ n) × Left (lowers (weight card)) Offende
 abbrev μ-loop : tie.MeasureT-loop
 μ-loop card l sums n i₀ i = n - i
 
--- src/grade.rt:55:5
 loop-holds : tie.Need-loop-holds Inv-loop μ-loop
 loop-holds c = (omega arith, left-start _ _ _ _ _)
 
--- src/grade.rt:56:13
 revision-lowers-requires : tie.Need-revision-lowers-requires Inv-loop μ-loop
 revision-lowers-requires c κs = search needs
 
--- src/grade.rt:57:13
 returns : tie.Need-returns Inv-loop μ-loop
 unfolding agentFor agentOf revisionAt
 returns c =
@@ -36,15 +33,12 @@ returns c =
     let b = now (a .card) in
     left-bad (lowers (weight b)) Offender.Revision (λ j. revisionAt (conditions 𝐁 (a .l) b) (a .l) b (entryAt 12 (a .l .revisions) j)) (a .l .revisions .count) Verdict.Bounded (l .i) (omega arith) (sym (c .before .revision-lowers .ensures) ∙ not-true _ (c .if1 .taken)) (l .inv .1)
 
--- src/grade.rt:59:9
 add-i : tie.Need-add-i Inv-loop μ-loop
 add-i c = search needs
 
--- src/grade.rt:55:5
 loop-less : tie.Need-loop-less Inv-loop μ-loop
 loop-less c = search needs
 
--- src/grade.rt:55:5
 loop-again : tie.Need-loop-again Inv-loop μ-loop
 unfolding agentFor agentOf revisionAt
 loop-again c =
@@ -53,7 +47,6 @@ loop-again c =
     let b = now (a .card) in
     (omega arith, left-turn (lowers (weight b)) Offender.Revision (λ j. revisionAt (conditions 𝐁 (a .l) b) (a .l) b (entryAt 12 (a .l .revisions) j)) (a .l .revisions .count) Verdict.Bounded (l .i) (omega arith) (sym (c .before .revision-lowers .ensures) ∙ not-false _ (c .if1 .left)) (l .inv .1))
 
--- src/grade.rt:48:1
 returns-2 : tie.Need-returns-2 Inv-loop μ-loop
 unfolding agentFor agentOf revisionAt
 returns-2 c =

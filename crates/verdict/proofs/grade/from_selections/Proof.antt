@@ -19,15 +19,12 @@ Inv-loop card l sums n i₀ i = (i ≤ n) × Left (λ x. light (weight card) (x 
 abbrev μ-loop : tie.MeasureT-loop
 μ-loop card l sums n i₀ i = n - i
 
--- src/grade.rt:72:5
 loop-holds : tie.Need-loop-holds Inv-loop μ-loop
 loop-holds c = (omega arith, left-start _ _ _ _ _)
 
--- src/grade.rt:73:13
 selection-light-requires : tie.Need-selection-light-requires Inv-loop μ-loop
 selection-light-requires c κs = search needs
 
--- src/grade.rt:74:13
 returns : tie.Need-returns Inv-loop μ-loop
 unfolding agentFor agentOf selectionAt
 returns c =
@@ -36,15 +33,12 @@ returns c =
     let b = now (a .card) in
     left-bad (λ x. light (weight b) (x .π)) Offender.Selection (λ j. selectionAt (conditions 𝐁 (a .l) b) (conditions 𝐆 (a .l) b) (a .l) b (entryAt 8 (a .l .selections) j)) (a .l .selections .count) (firstOffender (lowers (weight b)) Offender.Revision 0 (agentFor (a .l) b .PR) Verdict.Bounded) (l .i) (omega arith) (sym (c .before .selection-light .ensures) ∙ not-true _ (c .if1 .taken)) (l .inv .1)
 
--- src/grade.rt:76:9
 add-i : tie.Need-add-i Inv-loop μ-loop
 add-i c = search needs
 
--- src/grade.rt:72:5
 loop-less : tie.Need-loop-less Inv-loop μ-loop
 loop-less c = search needs
 
--- src/grade.rt:72:5
 loop-again : tie.Need-loop-again Inv-loop μ-loop
 unfolding agentFor agentOf selectionAt
 loop-again c =
@@ -53,11 +47,9 @@ loop-again c =
     let b = now (a .card) in
     (omega arith, left-turn (λ x. light (weight b) (x .π)) Offender.Selection (λ j. selectionAt (conditions 𝐁 (a .l) b) (conditions 𝐆 (a .l) b) (a .l) b (entryAt 8 (a .l .selections) j)) (a .l .selections .count) (firstOffender (lowers (weight b)) Offender.Revision 0 (agentFor (a .l) b .PR) Verdict.Bounded) (l .i) (omega arith) (sym (c .before .selection-light .ensures) ∙ not-false _ (c .if1 .left)) (l .inv .1))
 
--- src/grade.rt:78:5
 from-revisions-requires : tie.Need-from-revisions-requires Inv-loop μ-loop
 from-revisions-requires c κs = search needs
 
--- src/grade.rt:65:1
 returns-2 : tie.Need-returns-2 Inv-loop μ-loop
 unfolding agentFor agentOf selectionAt
 returns-2 c =

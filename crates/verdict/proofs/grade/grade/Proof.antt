@@ -10,27 +10,21 @@ use denote.Ref.{now}
 use Rattle.verdict.proofs.grade.grade.Statement.{statement}
 use Rattle.verdict.proofs.grade.grade.Tie as tie
 
--- src/grade.rt:98:9
 empty-configuration-requires : tie.Need-empty-configuration-requires
 empty-configuration-requires c κs = search needs
 
--- src/grade.rt:99:9
 check-requires : tie.Need-check-requires
 check-requires c κs = search needs
 
--- src/grade.rt:100:23
 enum-known-v : tie.Need-enum-known-v
 enum-known-v c = search needs
 
--- src/grade.rt:102:21
 enum-told : tie.Need-enum-told
 enum-told c = search needs
 
--- src/grade.rt:102:21
 answer-of-requires : tie.Need-answer-of-requires
 answer-of-requires c κs = search needs
 
--- src/grade.rt:101:9
 returns : tie.Need-returns
 returns c =
     let b = now (c .before .before .before .before .before .before .args .card) in
@@ -39,21 +33,18 @@ returns c =
     (λ i. record { answer = (c .answer-of .ensures ∙ ap answerOf told) i; verdict = Verdict.Open Offender.InitialPlan; configuration = c .before .before .before .before .empty-configuration .ensures i })
     ∙ sym (grades-refused b _ e)
 
--- src/grade.rt:107:16
 sums-of-requires : tie.Need-sums-of-requires
 sums-of-requires c κs =
     let b = now (c .before .before .before .before .before .before .args .card) in
     let j = good-judged b _ (sym (c .before .before .before .check .ensures) ∙ c .before .v .given .1) in
     good-card _ b (j .0) (j .1)
 
--- src/grade.rt:108:9
 from-initial-requires : tie.Need-from-initial-requires
 from-initial-requires c κs =
     let b = now (c .before .before .before .before .before .before .before .before .args .card) in
     let j = good-judged b _ (sym (c .before .before .before .before .before .check .ensures) ∙ c .before .before .before .v .given .1) in
     (good-card _ b (j .0) (j .1), c .before .sums-of .ensures)
 
--- src/grade.rt:95:1
 returns-2 : tie.Need-returns-2
 returns-2 c =
     let b = now (c .before .before .before .before .before .before .before .before .before .args .card) in

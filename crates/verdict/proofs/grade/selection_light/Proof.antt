@@ -5,30 +5,24 @@ use denote.Ref.{now}
 use Rattle.verdict.proofs.grade.selection_light.Statement.{statement}
 use Rattle.verdict.proofs.grade.selection_light.Tie as tie
 
--- src/grade.rt:31:31
 mul-at : tie.Need-mul-at
 mul-at c = search needs
 
--- src/grade.rt:31:14
 add-at : tie.Need-add-at
 add-at c = search needs
 
--- src/grade.rt:32:48
 add-read-span : tie.Need-add-read-span
 add-read-span c = search needs
 
--- src/grade.rt:32:32
 read-span-requires : tie.Need-read-span-requires
 read-span-requires c κs = search needs
 
--- src/grade.rt:32:5
 plan-weight-requires : tie.Need-plan-weight-requires
 plan-weight-requires c κs =
     let a = c .before .before .before .before .args in
     let p = c .before .before .before .before .pre in
     (p .0, p .1, good-as (a .l) 1 _ _ (c .read-span .ensures .0) (p .0 .selections (a .i) (p .2) .plan))
 
--- src/grade.rt:26:1
 returns : tie.Need-returns
 returns c =
     let a = c .before .before .before .before .before .args in

@@ -9,23 +9,18 @@ use denote.Ref.{now}
 use Rattle.verdict.proofs.sums.first_weight.Statement.{statement}
 use Rattle.verdict.proofs.sums.first_weight.Tie as tie
 
--- src/sums.rt:68:37
 mul-part-weight : tie.Need-mul-part-weight
 mul-part-weight c = search needs
 
--- src/sums.rt:68:9
 part-weight-requires : tie.Need-part-weight-requires
 part-weight-requires c κs = search needs
 
--- src/sums.rt:69:6
 mul-result : tie.Need-mul-result
 mul-result c = search needs
 
--- src/sums.rt:69:6
 element-copy-out-result : tie.Need-element-copy-out-result
 element-copy-out-result c = search needs
 
--- src/sums.rt:69:6
 cast-result : tie.Need-cast-result
 cast-result c =
     let a = c .before .before .before .args in
@@ -35,7 +30,6 @@ cast-result c =
     let m = part-most (a .l) b (p .0) (a .l .pool .offset) (16 * (a .n / 16)) in
     omega arith
 
--- src/sums.rt:69:5
 add-result : tie.Need-add-result
 add-result c =
     let a = c .before .before .before .args in
@@ -49,7 +43,6 @@ add-result c =
     let n = part-most (a .l) b (p .0) (at + 16 * k) (a .n % 16) in
     omega arith
 
--- src/sums.rt:63:1
 returns : tie.Need-returns
 returns c =
     let a = c .before .before .before .args in

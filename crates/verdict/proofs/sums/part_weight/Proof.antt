@@ -17,23 +17,18 @@ Inv-loop card l from n at total₀ i₀ total i = (i ≤ n) × (total ≤ 1024 *
 abbrev μ-loop : tie.MeasureT-loop
 μ-loop card l from n at total₀ i₀ total i = n - i
 
--- src/sums.rt:27:14
 add-at : tie.Need-add-at Inv-loop μ-loop
 add-at c = search needs
 
--- src/sums.rt:30:5
 loop-holds : tie.Need-loop-holds Inv-loop μ-loop
 loop-holds c = (omega arith, omega arith, omega arith)
 
--- src/sums.rt:31:42
 add-weight-of : tie.Need-add-weight-of Inv-loop μ-loop
 add-weight-of c = search needs
 
--- src/sums.rt:31:37
 shared-slice-read-weight-of : tie.Need-shared-slice-read-weight-of Inv-loop μ-loop
 shared-slice-read-weight-of c = search needs
 
--- src/sums.rt:31:18
 weight-of-requires : tie.Need-weight-of-requires Inv-loop μ-loop
 weight-of-requires c κs =
     let a = c .before .before .before .before .before .before .args in
@@ -45,19 +40,15 @@ weight-of-requires c κs =
     let e : a .l .pool .offset + (a .from + l .i) ≡ a .l .pool .offset + a .from + l .i = omega arith in
     (p .0, rw e at (p .0 .pool (a .from + l .i) k))
 
--- src/sums.rt:31:9
 add-total : tie.Need-add-total Inv-loop μ-loop
 add-total c = search needs
 
--- src/sums.rt:32:9
 add-i : tie.Need-add-i Inv-loop μ-loop
 add-i c = search needs
 
--- src/sums.rt:30:5
 loop-less : tie.Need-loop-less Inv-loop μ-loop
 loop-less c = search needs
 
--- src/sums.rt:30:5
 loop-again : tie.Need-loop-again Inv-loop μ-loop
 loop-again c =
     let a = c .before .before .before .before .before .before .before .args in
@@ -75,7 +66,6 @@ loop-again c =
     let m = c .weight-of .ensures .1 in
     (omega arith, omega arith, omega arith)
 
--- src/sums.rt:22:1
 returns : tie.Need-returns Inv-loop μ-loop
 returns c =
     let a = c .before .before .before .before .before .args in

@@ -7,19 +7,15 @@ use lib.ListN.{length}
 use Rattle.verdict.proofs.sums.plan_weight.Statement.{statement}
 use Rattle.verdict.proofs.sums.plan_weight.Tie as tie
 
--- src/sums.rt:77:9
 first-weight-requires : tie.Need-first-weight-requires
 first-weight-requires c κs = search needs
 
--- src/sums.rt:78:45
 add-first-weight : tie.Need-add-first-weight
 add-first-weight c = search needs
 
--- src/sums.rt:78:9
 first-weight-requires-2 : tie.Need-first-weight-requires-2
 first-weight-requires-2 c κs = search needs
 
--- src/sums.rt:79:5
 sub-result : tie.Need-sub-result
 sub-result c =
     let a = c .before .before .before .before .args in
@@ -29,7 +25,6 @@ sub-result c =
     let g = c .first-weight2 .ensures in
     omega arith
 
--- src/sums.rt:73:1
 returns : tie.Need-returns
 unfolding plan
 returns c =

@@ -17,11 +17,9 @@ Inv-loop card l n sums₀ total₀ k₀ sums total k = (k ≤ n) × (length sums
 abbrev μ-loop : tie.MeasureT-loop
 μ-loop card l n sums₀ total₀ k₀ sums total k = n - k
 
--- src/sums.rt:51:20
 no-sums-requires : tie.Need-no-sums-requires Inv-loop μ-loop
 no-sums-requires c κs = search needs
 
--- src/sums.rt:54:5
 loop-holds : tie.Need-loop-holds Inv-loop μ-loop
 loop-holds c =
     let a = c .before .before .before .before .args in
@@ -29,15 +27,12 @@ loop-holds c =
     let e = c .no-sums .ensures in
     (omega arith, rw e (length-replicate {A = ℕ} 513 0), sym (weigh-no-part (weight b) b (a .l .pool .offset) 0 refl), λ j h. rw e (getD-replicate {A = ℕ} 513 j 0 0 (omega arith) ∙ sym (weigh-no-part (weight b) b (a .l .pool .offset) (16 * j) (omega arith))))
 
--- src/sums.rt:55:39
 mul-part-weight : tie.Need-mul-part-weight Inv-loop μ-loop
 mul-part-weight c = search needs
 
--- src/sums.rt:55:18
 part-weight-requires : tie.Need-part-weight-requires Inv-loop μ-loop
 part-weight-requires c κs = search needs
 
--- src/sums.rt:55:9
 add-total : tie.Need-add-total Inv-loop μ-loop
 add-total c =
     let a = c .before .before .before .before .before .before .before .args in
@@ -51,11 +46,9 @@ add-total c =
     let n = part-most (a .l) b p (at + 16 * l .k) 16 in
     omega arith
 
--- src/sums.rt:56:9
 add-k : tie.Need-add-k Inv-loop μ-loop
 add-k c = search needs
 
--- src/sums.rt:57:19
 cast-sums : tie.Need-cast-sums Inv-loop μ-loop
 cast-sums c =
     let a = c .before .before .before .before .before .before .before .args in
@@ -69,19 +62,15 @@ cast-sums c =
     let n = part-most (a .l) b p (at + 16 * l .k) 16 in
     omega arith
 
--- src/sums.rt:57:9
 mul-sums : tie.Need-mul-sums Inv-loop μ-loop
 mul-sums c = search needs
 
--- src/sums.rt:57:9
 array-write-sums : tie.Need-array-write-sums Inv-loop μ-loop
 array-write-sums c = search needs
 
--- src/sums.rt:54:5
 loop-less : tie.Need-loop-less Inv-loop μ-loop
 loop-less c = search needs
 
--- src/sums.rt:54:5
 loop-again : tie.Need-loop-again Inv-loop μ-loop
 loop-again c =
     let a = c .before .before .before .before .before .before .before .args in
@@ -101,7 +90,6 @@ loop-again c =
       below-turn (λ j. weigh (weight b) (part b at (16 * j))) (l .sums) (l .k + 1) (l .total + c .part-weight .result) 0 (let r = l .inv .1 in let d = p .laid .pool in omega arith) (l .inv .3) u,
     )
 
--- src/sums.rt:45:1
 returns : tie.Need-returns Inv-loop μ-loop
 returns c =
     let l = c .before .loop in

@@ -8,19 +8,15 @@ use denote.Ref.{now}
 use Rattle.verdict.proofs.sums.weight_of.Statement.{statement}
 use Rattle.verdict.proofs.sums.weight_of.Tie as tie
 
--- src/sums.rt:18:26
 mul-number-at : tie.Need-mul-number-at
 mul-number-at c = search needs
 
--- src/sums.rt:18:21
 add-number-at : tie.Need-add-number-at
 add-number-at c = search needs
 
--- src/sums.rt:18:5
 number-at-requires : tie.Need-number-at-requires
 number-at-requires c κs = search needs
 
--- src/sums.rt:14:1
 returns : tie.Need-returns
 returns c =
     let a = c .before .before .args in

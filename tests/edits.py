@@ -1,0 +1,87 @@
+#!/usr/bin/env python3
+"""Tells at which fact each must-fail edit was first refused, from what the gate printed.
+
+    .ci/run > LOG; python3 tests/edits.py LOG             a line for each edit; the last line is 'N passed, M failed'
+    .ci/run > LOG; python3 tests/edits.py LOG --table     the same as a table of Markdown (docs/EDITS.md)
+
+The gate says at which line of a proof the checker first found an error. The fact is the declaration that this line belongs to, in
+the crate with the edit applied: in a function's proof `returns` is what the function ensures, `loop-again` a loop's invariant,
+`NAME-requires` what a call requires; in the other files it is a law or a theorem. An edit fails here if the gate did not refuse it,
+or if the line belongs to no such declaration.
+"""
+
+import glob
+import os
+import re
+import sys
+
+TOP = os.path.dirname(os.path.dirname(os.path.abspath(__file__)))
+REFUSED = re.compile(r"rt: must-fail (\w+)/(\w+): refused.*\(first at ([^:]+):(\d+):")
+# A declaration: at the left, in a module, or marked `pub`; what a `where` declares lies further in and is no fact by itself.
+DECLARED = re.compile(r"(?:  )?(?:abbrev )?([^\s:()]+) :|\s*pub ([^\s:()]+) :")
+
+
+def read(path):
+    with open(path, encoding="utf-8") as file:
+        return file.read()
+
+
+def edited(crate, edit, path):
+    """The lines of a file of a crate with the edit applied."""
+    text, current, old = read(os.path.join(TOP, "crates", crate, path)), "", ""
+    for line in edit:
+        if line.startswith("file: "):
+            current = line[len("file: ") :]
+        elif line.startswith("old: "):
+            old = line[len("old: ") :]
+        elif line.startswith("new: ") and current == path:
+            text = text.replace(old, line[len("new: ") :])
+    return text.split("\n")
+
+
+def fact_at(lines, number):
+    """The declaration at the top of a file that a line belongs to."""
+    for line in reversed(lines[:number]):
+        match = DECLARED.match(line)
+        if match:
+            return match[1] or match[2]
+    return None
+
+
+def refusals(log):
+    """Each refused edit: where the first error was, a file and a line."""
+    return {(m[1], m[2]): (m[3], int(m[4])) for m in REFUSED.finditer(log)}
+
+
+def told(key, refused):
+    """An edit's sentence, and the file and fact at which it was refused, if it was."""
+    crate, name = key
+    lines = read(os.path.join(TOP, "crates", crate, "must-fail", name + ".edit")).split("\n")
+    if key not in refused:
+        return lines[0][2:], None, None
+    path, number = refused[key]
+    return lines[0][2:], path, fact_at(edited(crate, lines, path), number)
+
+
+def main(words):
+    """Prints the edits, and how many are refused at a fact."""
+    if not words or words[1:] not in ([], ["--table"]):
+        print("usage: edits.py LOG [--table]", file=sys.stderr)
+        return 2
+    refused = refusals(read(words[0]))
+    paths = sorted(glob.glob(os.path.join(TOP, "crates", "*", "must-fail", "*.edit")))
+    keys = [(path.split(os.sep)[-3], os.path.basename(path)[: -len(".edit")]) for path in paths]
+    failed = 0
+    for key in keys:
+        sentence, path, fact = told(key, refused)
+        failed += fact is None
+        if words[1:]:
+            print("| `%s/%s` | %s | %s |" % (*key, sentence, "`%s` `%s`" % (path, fact) if fact else "not refused"))
+        else:
+            print("%-36s %s" % ("/".join(key), "%s, %s" % (path, fact) if fact else "not refused"))
+    print("%s%d passed, %d failed" % ("\n" if words[1:] else "", len(keys) - failed, failed))
+    return 1 if failed else 0
+
+
+if __name__ == "__main__":
+    sys.exit(main(sys.argv[1:]))
