@@ -2,23 +2,12 @@
 use mathlib.Core.Path.{_≡_, refl, ap, _∙_, sym}
 use mathlib.Core.Bool.{Bool, true, false, not}
 use mathlib.Core.List.{List, [], _∷_}
-use Prim.Native.Nat.{ℕ}
-use native.Mathlib.Decide.{decLe}
-use native.Mathlib.Omega.{arith}
-use borrow.Author.Tests.{le-leb, lt-leb, lt-ltb, le-ltb}
-use lib.Dec.{leb, ltb}
 use Rattle.meaning.specs.declared.Refusal.{Refusal}
 use Rattle.meaning.specs.declared.Answer.{Answer}
 use Rattle.meaning.specs.declared.Answer.the-variants.{Done, Refused}
 use Rattle.meaning.specs.Refusals.{Row, firstGiven}
 use Rattle.meaning.proofs.Tables.{given, not-given, done≢refused}
 use Rattle.card.specs.Stair.{rowAnswer}
-
-pub ltb-not : (m n : ℕ) → ltb m n ≡ not (leb n m)
-ltb-not m n = elim (decLe n m) [
-  | yes h ↦ le-ltb m n h ∙ ap not (sym (le-leb n m h))
-  | no h ↦ lt-ltb m n (omega arith) ∙ ap not (sym (lt-leb n m (omega arith)))
-]
 
 pub row-done : (good : Bool) (r : Refusal) → rowAnswer good r ≡ Done → good ≡ true
 row-done true r e = refl

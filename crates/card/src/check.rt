@@ -1,11 +1,11 @@
 // The check: rows 1 to 9 of the refusal table in their order, for every byte string. Each function asks one row and, where it
 // is passed, calls the next.
 ghost use mathlib.Core.Path.{_≡_};
-ghost use mathlib.Core.Bool.{true, not};
+ghost use mathlib.Core.Bool.{true};
 ghost use Prim.Native.Nat.{_≤_};
 ghost use lib.ListN.{length};
 ghost use Rattle.meaning.specs.Card.{layout};
-ghost use Rattle.meaning.specs.Refusals.{cardMark, countsGood, nodesGood, cardTable, cardAnswer};
+ghost use Rattle.meaning.specs.Refusals.{cardMarkGood, countsGood, nodesGood, cardTable, cardAnswer};
 ghost use Rattle.meaning.specs.Calls.{checks};
 ghost use Rattle.layout.specs.Laid.{Narrow, NarrowSpan, Laid};
 ghost use Rattle.card.specs.Stair.{rowAnswer, rowsFrom, answerOf};
@@ -117,7 +117,7 @@ fn from_counts(card: &[u8], l: Layout) -> Answer
 // Row 2: the first two bytes and the edition.
 fn marked(card: &[u8]) -> bool
     requires { ⌜ 64 ≤ length (now card) ⌝ }
-    ensures { λ r. ⌜ cardMark (now (card .entry)) ≡ not r ⌝ }
+    ensures { λ r. ⌜ r ≡ cardMarkGood (now (card .entry)) ⌝ }
 {
     let edition = number_at(card, 2);
     (card[0] == 0x33) & ((card[1] == 0x41) & (edition == 1))
@@ -136,7 +136,7 @@ fn from_mark(card: &[u8]) -> Answer
 }
 
 // The number that a card is answered with.
-pub fn judge_card(card: &[u8]) -> Answer
+fn judge_card(card: &[u8]) -> Answer
     ensures { λ r. ⌜ r ≡ cardAnswer (now (card .entry)) ⌝ }
 {
     let a = row(64 <= card.len(), Refusal::Short);

@@ -2,5 +2,5 @@
 pub mod check;
 pub mod configuration;
 pub mod contents;
-pub mod nodes;
+mod nodes;
 mod rules;

@@ -62,13 +62,6 @@ fn contains_at(card: &[u8], l: Layout, kind: u8, i: usize, marks: &[bool; 256]) 
     contains(kind, card[at], card[at + 1], card[at + 2], marks)
 }
 
-// No node is marked.
-pub fn no_marks() -> [bool; 256]
-    ensures { λ r. ⌜ r ≡ replicate 256 false ⌝ }
-{
-    [false; 256]
-}
-
 // Every node is marked.
 pub fn all_marks() -> [bool; 256]
     ensures { λ r. ⌜ r ≡ replicate 256 true ⌝ }

@@ -14,7 +14,7 @@ use Rattle.house.specs.Order.{numbers, ofKind, inTurn}
 use Rattle.meaning.specs.declared.Layout.{Layout}
 use Rattle.meaning.specs.Card.{Bytes, conditions, specificationAt, selectionAt, revisionAt, agentOf, agentFor}
 use Rattle.meaning.proofs.Accepted.{length-entries}
-use Rattle.choices.specs.declared.mind.Chosen.{Chosen}
+use Rattle.choices.specs.declared.enabled.Chosen.{Chosen}
 use Rattle.choices.specs.Choosing.{choiceAt, countOf, chosen, firstEnabled}
 
 abbrev pub orElse : Chosen → Chosen → Chosen

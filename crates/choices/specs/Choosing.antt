@@ -6,7 +6,7 @@ use Rattle.paper.specs.Language.{Agent, Config}
 use Rattle.paper.specs.Transitions.{Choice, select, act, revise}
 use Rattle.paper.specs.Next.{enabled}
 use Rattle.meaning.specs.declared.Layout.{Layout}
-use Rattle.choices.specs.declared.mind.Chosen.{Chosen}
+use Rattle.choices.specs.declared.enabled.Chosen.{Chosen}
 
 -- the choice of a kind and a number
 abbrev pub choiceAt : ℕ → ℕ → Choice

@@ -15,8 +15,8 @@ mentalOf m d = ⟨ m .beliefs / take (m .length) d / m .goals ⟩
 abbrev pub stateIn : Mind → Bytes → State
 stateIn m d = record { mental = mentalOf m d; phase = m .phase }
 
-abbrev pub mindOf : State → Mind
-mindOf s = record { beliefs = s .mental .σ; goals = s .mental .γ; length = length (s .mental .π); phase = s .phase }
+abbrev pub mindFor : State → Mind
+mindFor s = record { beliefs = s .mental .σ; goals = s .mental .γ; length = length (s .mental .π); phase = s .phase }
 
 -- The plan is within its room, and zeros stand after its end.
 pub record Held (m : Mind) (d : Bytes) : Type 0 where
@@ -25,8 +25,8 @@ pub record Held (m : Mind) (d : Bytes) : Type 0 where
   pub room : length d ≡ 1024
 
 -- a configuration's mind
-abbrev pub mindIn : Configuration → Mind
-mindIn c = record { beliefs = c .beliefs; goals = c .goals; length = c .length; phase = c .phase }
+abbrev pub mindOf : Configuration → Mind
+mindOf c = record { beliefs = c .beliefs; goals = c .goals; length = c .length; phase = c .phase }
 
 -- a configuration of a mind and a plan's bytes
 abbrev pub configurationIn : Mind → Bytes → Configuration

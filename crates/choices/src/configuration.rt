@@ -7,10 +7,11 @@ ghost use lib.ListN.{length, take, drop};
 ghost use Rattle.meaning.specs.Refusals.{all, actionsGood, configurationGood};
 ghost use Rattle.meaning.specs.declared.Refusal.{Refusal};
 ghost use Rattle.card.specs.Stair.{rowAnswer};
-ghost use Rattle.choices.specs.Minds.{mindIn, configurationIn};
+ghost use Rattle.choices.specs.Minds.{mindOf, configurationIn};
 use crate::mind::Mind;
 use card::check::row;
 use card::contents::actions_good;
+use layout::readers::size;
 use meaning::Answer;
 use meaning::Configuration;
 use meaning::Layout;
@@ -28,13 +29,6 @@ fn zeros_after(plan: &[u8; 1024], n: usize) -> bool
         i += 1;
     }
     zeros
-}
-
-// How many bytes a slice has. An array that is lent as a slice is known to be as long as its type says.
-pub fn size(s: &[u8]) -> usize
-    ensures { λ r. ⌜ r ≡ length (now (s .entry)) ⌝ }
-{
-    s.len()
 }
 
 // Whether a plan of n actions knows only so many, and zeros stand after its end.
@@ -75,7 +69,7 @@ pub fn judge_mind(l: Layout, m: Mind, plan: &[u8; 1024]) -> Answer
 
 // The mind of a configuration, whose plan has its 1,024 bytes.
 pub fn mind_of(c: Configuration) -> Mind
-    ensures { λ r. ⌜ (r ≡ mindIn c) × (length (c .plan) ≡ 1024) × (r .length ≤ 65535) ⌝ }
+    ensures { λ r. ⌜ (r ≡ mindOf c) × (length (c .plan) ≡ 1024) × (r .length ≤ 65535) ⌝ }
 {
     let room = size(&c.plan);
     let b = c.beliefs;

@@ -11,10 +11,15 @@ ghost use Rattle.card.specs.GoodCard.{GoodCard};
 ghost use Rattle.choices.specs.Truth.{Judged};
 ghost use Rattle.choices.specs.Minds.{mentalOf, Held};
 ghost use Rattle.choices.specs.Choosing.{choiceAt, countOf, firstEnabled};
-use crate::mind::Chosen;
 use crate::mind::Mind;
 use layout::header::read_span;
 use meaning::Layout;
+
+// A choice by its kind (0 selection, 1 action, 2 revision) and its number, or none.
+pub enum Chosen {
+    At(u8, usize),
+    Nothing,
+}
 
 // The mark of a node.
 fn holds(marks: &[bool; 256], node: u8) -> bool

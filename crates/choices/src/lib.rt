@@ -2,4 +2,5 @@
 pub mod configuration;
 pub mod enabled;
 pub mod mind;
+pub mod reply;
 pub mod truth;

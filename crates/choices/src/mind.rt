@@ -7,9 +7,3 @@ pub struct Mind {
     pub length: usize,
     pub phase: u8,
 }
-
-// A choice by its kind (0 selection, 1 action, 2 revision) and its number, or none.
-pub enum Chosen {
-    At(u8, usize),
-    Nothing,
-}

@@ -2,11 +2,10 @@
 ghost use mathlib.Core.Path.{_≡_};
 ghost use mathlib.Core.Bool.{false};
 ghost use Prim.Native.Nat.{_<_};
-ghost use lib.ListN.{length, getD};
+ghost use lib.ListN.{length, getD, replicate};
 ghost use Rattle.layout.specs.Laid.{kindOf, aOf, bOf};
 ghost use Rattle.card.specs.GoodCard.{GoodCard};
 ghost use Rattle.choices.specs.Truth.{truthOf, Judged};
-use card::nodes::no_marks;
 use meaning::Layout;
 
 // The truth of a node of the kind k with the parts a and b, by the marks of the lower nodes.
@@ -59,6 +58,13 @@ pub fn judge_nodes(
         marks[i] = mark;
         i += 1;
     }
+}
+
+// No node is marked.
+pub fn no_marks() -> [bool; 256]
+    ensures { λ r. ⌜ r ≡ replicate 256 false ⌝ }
+{
+    [false; 256]
 }
 
 // Every node's truth.

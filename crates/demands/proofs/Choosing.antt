@@ -20,7 +20,7 @@ use Rattle.meaning.specs.Refusals.{numberOf, answerNumber, firstGiven, cardAnsw
 use Rattle.meaning.specs.Calls.{choice, leadsTo}
 use Rattle.meaning.proofs.Tables.{done≢refused, and-then-done}
 use Rattle.meaning.proofs.Configurations.{configuration-laws}
-use Rattle.demands.specs.Demands.{OnAccepted, Chosen, StandsFor}
+use Rattle.demands.specs.Demands.{OnAccepted, ChosenMove, StandsFor}
 use Rattle.demands.proofs.Codes.{coded, read-back, leads, Led, led}
 use Rattle.demands.proofs.Ways.{Taking, refused, done, not-enabled, plan-full}
 
@@ -38,23 +38,23 @@ reached s f = record { handed-out = refl; stands-for = configuration-laws .of-st
 
 -- the code's move fits
 abbrev pub Fitting : Bytes → Configuration → ℕ → Type 0
-Fitting b c n = (k : Choice) × ((c′ : Config) × (Chosen b c n k c′ × (length (c′ .π) ≤ 1024)))
+Fitting b c n = (k : Choice) × ((c′ : Config) × (ChosenMove b c n k c′ × (length (c′ .π) ≤ 1024)))
 
 -- the code's move leaves a plan that is too long
 abbrev pub TooLong : Bytes → Configuration → ℕ → Type 0
-TooLong b c n = (k : Choice) × ((c′ : Config) × (Chosen b c n k c′ × (1024 < length (c′ .π))))
+TooLong b c n = (k : Choice) × ((c′ : Config) × (ChosenMove b c n k c′ × (1024 < length (c′ .π))))
 
 -- the code has no move
 abbrev pub Nothing : Bytes → Configuration → ℕ → Type 0
-Nothing b c n = (k : Choice) (c′ : Config) → Chosen b c n k c′ → ⊥
+Nothing b c n = (k : Choice) (c′ : Config) → ChosenMove b c n k c′ → ⊥
 
 module _ (b : Bytes) (c : Configuration) (on : OnAccepted b c) (n : ℕ) where
-  chosen-leads : (k : Choice) (c′ : Config) → Chosen b c n k c′ → leadsTo (agent b) (stateOf c) n ≡ some (after k c′)
+  chosen-leads : (k : Choice) (c′ : Config) → ChosenMove b c n k c′ → leadsTo (agent b) (stateOf c) n ≡ some (after k c′)
   chosen-leads k c′ h =
       let e : choice n ≡ some k = rw (h .coded) at (read-back b (card-accepted b c on) (h .transition)) in
       leads (agent b) (stateOf c) n k c′ e (sound (h .transition))
 
-  led-chosen : (s : State) (l : Led (agent b) (stateOf c) n s) → Chosen b c n (l .by) (l .to)
+  led-chosen : (s : State) (l : Led (agent b) (stateOf c) n s) → ChosenMove b c n (l .by) (l .to)
   led-chosen s l = record { coded = coded n (l .by) (l .chosen); transition = l .step }
 
   led-plan : (s : State) (l : Led (agent b) (stateOf c) n s) → s .mental .π ≡ l .to .π
@@ -62,7 +62,7 @@ module _ (b : Bytes) (c : Configuration) (on : OnAccepted b c) (n : ℕ) where
   led-plan s l = ap (λ (x : State). x .mental .π) (l .state)
 
   -- the plan reached is that of any transition with this code
-  same-plan : (s : State) → leadsTo (agent b) (stateOf c) n ≡ some s → (k : Choice) (c′ : Config) → Chosen b c n k c′ → s .mental .π ≡ c′ .π
+  same-plan : (s : State) → leadsTo (agent b) (stateOf c) n ≡ some s → (k : Choice) (c′ : Config) → ChosenMove b c n k c′ → s .mental .π ≡ c′ .π
   unfolding after
   same-plan s l k c′ h = let e : s ≡ after k c′ = some-inj (sym l ∙ chosen-leads k c′ h) in ap (λ (x : State). x .mental .π) e
 
@@ -79,7 +79,7 @@ module _ (b : Bytes) (c : Configuration) (on : OnAccepted b c) (n : ℕ) where
   some-move s l h = let m = led (agent b) (stateOf c) n s l in h (m .by) (m .to) (led-chosen s m)
 
   -- what holds of the plan's length there holds here
-  by-its-plan : (s : State) → leadsTo (agent b) (stateOf c) n ≡ some s → (k : Choice) (c′ : Config) → Chosen b c n k c′
+  by-its-plan : (s : State) → leadsTo (agent b) (stateOf c) n ≡ some s → (k : Choice) (c′ : Config) → ChosenMove b c n k c′
       → (P : ℕ → Type 0) → P (length (c′ .π)) → P (length (s .mental .π))
   by-its-plan s l k c′ h P p = let e : s .mental .π ≡ c′ .π = same-plan s l k c′ h in rw e p
 
@@ -90,7 +90,7 @@ module _ (b : Bytes) (c : Configuration) (on : OnAccepted b c) (n : ℕ) where
       (λ e. absurd (done≢refused (sym e)), λ m. absurd (let g = by-its-plan s l (m .0) (m .1 .0) (m .1 .1 .0) (λ x. x ≤ 1024) (m .1 .1 .1) in omega arith))
   taken-exactly r (done h s l f) = (λ e. fitting s l f, λ m. refl)
 
-  pub taken-to : (r : Reply) → Taking b c n r → (k : Choice) (c′ : Config) → Chosen b c n k c′ → length (c′ .π) ≤ 1024 → StandsFor (r .configuration) (after k c′)
+  pub taken-to : (r : Reply) → Taking b c n r → (k : Choice) (c′ : Config) → ChosenMove b c n k c′ → length (c′ .π) ≤ 1024 → StandsFor (r .configuration) (after k c′)
   taken-to r (refused h) k c′ m f = absurd (done≢refused (sym on ∙ h))
   taken-to r (not-enabled h l) k c′ m f = absurd (no-move l k c′ m)
   taken-to r (plan-full h s l t) k c′ m f = absurd (let g = by-its-plan s l k c′ m (λ x. x ≤ 1024) f in omega arith)

@@ -17,7 +17,7 @@ use Rattle.meaning.specs.Configurations.{stateOf}
 use Rattle.meaning.specs.Calls.{over}
 use Rattle.meaning.proofs.Tables.{done≢refused}
 use Rattle.meaning.proofs.Accepted.{card-laws}
-use Rattle.demands.specs.Demands.{OnAccepted, Moves, Listed, RoomFor}
+use Rattle.demands.specs.Demands.{OnAccepted, AllMoves, ListedMoves, RoomFor}
 use Rattle.demands.proofs.Choosing.{card-accepted}
 use Rattle.demands.proofs.Ways.{Writing, refused, no-room, done}
 
@@ -56,12 +56,12 @@ one-rising (n ∷ ns) (m ∷ ms) p q f g =
     let e : n ≡ m = same-first n m ns ms p q f g in
     ap₂ _∷_ e (one-rising ns ms (behind p) (behind q) (rest-within n m ns ms e p f) (rest-within m n ms ns (sym e) q g))
 
-moves-within : (b : Bytes) (c : Configuration) (ns ms : List ℕ) → Moves b c ns → Moves b c ms → Within ns ms
+moves-within : (b : Bytes) (c : Configuration) (ns ms : List ℕ) → AllMoves b c ns → AllMoves b c ms → Within ns ms
 moves-within b c ns ms p q n i =
     let (k, e, m) = p .none-added n i in
     rw e at (q .none-missing k (m .0) (m .1))
 
-pub moves-one : (b : Bytes) (c : Configuration) (ns ms : List ℕ) → Moves b c ns → Moves b c ms → ns ≡ ms
+pub moves-one : (b : Bytes) (c : Configuration) (ns ms : List ℕ) → AllMoves b c ns → AllMoves b c ms → ns ≡ ms
 moves-one b c ns ms p q = one-rising ns ms (p .rising) (q .rising) (moves-within b c ns ms p q) (moves-within b c ms ns q p)
 
 -- ---- the room
@@ -77,13 +77,13 @@ room-for b c on xs out left r (done h l) =
 -- ---- the list
 
 module _ (b : Bytes) (c : Configuration) (on : OnAccepted b c) where
-  pub its-moves : Moves b c (enabledCodes (agent b) (stateOf c .mental))
+  pub its-moves : AllMoves b c (enabledCodes (agent b) (stateOf c .mental))
   its-moves =
       let l = list-laws (agent b) (stateOf c .mental) in
       record { none-missing = l .has; none-added = l .only; rising = l .rising (card-laws b (card-accepted b c on) .numbered) }
 
   pub listed : (out left : List ℕ) (r : Written) → Writing b c (enabledCodes (agent b) (stateOf c .mental)) out r left → r .answer ≡ Done
-      → Listed b c out left (r .count)
+      → ListedMoves b c out left (r .count)
   listed out left r (refused h) e = absurd (done≢refused (sym e))
   listed out left r (no-room h l) e = absurd (done≢refused (sym e))
   listed out left r (done h l) e =

@@ -9,11 +9,11 @@ use Rattle.meaning.specs.declared.Configuration.{Configuration}
 use Rattle.meaning.specs.declared.Reply.{Reply}
 use Rattle.meaning.specs.Card.{Bytes}
 use Rattle.meaning.proofs.Tables.{done≢refused}
-use Rattle.demands.specs.Demands.{OnAccepted, Moves}
+use Rattle.demands.specs.Demands.{OnAccepted, AllMoves}
 use Rattle.demands.proofs.Choosing.{not-enabled-exactly, fitting, too-long}
 use Rattle.demands.proofs.Ways.{Taking, refused, not-enabled, plan-full, done}
 
-module _ (b : Bytes) (c : Configuration) (on : OnAccepted b c) (ns : List ℕ) (moves : Moves b c ns) (n : ℕ) where
+module _ (b : Bytes) (c : Configuration) (on : OnAccepted b c) (ns : List ℕ) (moves : AllMoves b c ns) (n : ℕ) where
   in-list : (r : Reply) → Taking b c n r → (r .answer ≡ Refused Refusal.NotEnabled → ⊥) → List·Memᴰ n ns
   in-list r (refused h) f = absurd (done≢refused (sym on ∙ h))
   in-list r (not-enabled h l) f = absurd (f refl)

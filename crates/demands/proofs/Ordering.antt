@@ -23,7 +23,7 @@ use Rattle.meaning.specs.Configurations.{stateOf, configurationOf}
 use Rattle.meaning.specs.Refusals.{firstGiven, cardAnswer, configurationGood, configurationTable, configurationAnswer}
 use Rattle.meaning.proofs.Tables.{done≢refused, and-then-done, passes}
 use Rattle.meaning.proofs.Configurations.{good}
-use Rattle.demands.specs.Demands.{OnAccepted, Answers}
+use Rattle.demands.specs.Demands.{OnAccepted, Tells}
 use Rattle.demands.proofs.Choosing.{reached}
 use Rattle.demands.proofs.Ways.{Running, refused, done}
 
@@ -52,7 +52,7 @@ module _ (b : Bytes) (c : Configuration) (on : OnAccepted b c) (budget : ℕ) wh
   run-fits : length ((run (agent b) budget (stateOf c)) .state .mental .π) ≤ 1024
   run-fits = guided-fits (run-law (agent b) budget (stateOf c) .guided) (plan-fits b c on)
 
-  pub own-order : (r : Ran) → Running b c budget r → (o : Outcome) × (House.Traced (agent b) budget (stateOf c) o × Answers r o)
+  pub own-order : (r : Ran) → Running b c budget r → (o : Outcome) × (House.Traced (agent b) budget (stateOf c) o × Tells r o)
   own-order r (refused h) = absurd (done≢refused (sym on ∙ h))
   own-order r (done h) =
       let o = run (agent b) budget (stateOf c) in

@@ -4,10 +4,10 @@ use mathlib.Core.Bool.{true, false, not, _&&_}
 use mathlib.Core.List.{List, [], _∷_, _++_}
 use Prim.Native.Nat.{_+_, _*_, _/_, _%_, _≤_}
 use native.Mathlib.Omega.{arith}
-use lib.Dec.{leb, ltb, eqb}
+use lib.Dec.{leb, eqb}
 use lib.ListN.{length, take, drop, length-append}
 use lib.Seq.{take-append-seam, drop-append-seam, length-take-le}
-use borrow.Author.Tests.{le-leb, le-ltb, eq-eqb}
+use borrow.Author.Tests.{le-leb, eq-eqb}
 use Rattle.house.specs.Order.{State}
 use Rattle.meaning.specs.declared.Answer.the-variants.{Done}
 use Rattle.meaning.specs.declared.Layout.{Layout}
@@ -113,8 +113,8 @@ module _ (l : Layout) (s : State) (k : Kept l s) where
   laid-out : (eqb (numberAt (place s) 6) 44 && eqb (length (place s)) (44 + numberAt (place s) 4)) ≡ true
   laid-out = both-true _ _ offset (eq-eqb _ _ (length-place ∙ ap (λ n. 44 + n) (sym length-at)))
 
-  long-enough : ltb (length (place s)) 44 ≡ false
-  long-enough = let e = length-place in le-ltb (length (place s)) 44 (omega arith)
+  long-enough : leb 44 (length (place s)) ≡ true
+  long-enough = let e = length-place in le-leb 44 (length (place s)) (omega arith)
 
   plan-good : actionsGood (l .actions) (drop 44 (place s)) ≡ true
   plan-good = rw plan-at (k .known-actions)
@@ -128,7 +128,7 @@ module _ (l : Layout) (s : State) (k : Kept l s) where
   pub place-done : firstGiven (placeTable l) (place s) ≡ Done
   unfolding placeTable
   place-done =
-      row-passed _ _ (place s) long-enough
+      row-passed _ _ (place s) (ap not long-enough)
       (row-passed _ _ (place s) (ap not marked)
       (row-passed _ _ (place s) (ap not counted)
       (row-passed _ _ (place s) (ap not laid-out)

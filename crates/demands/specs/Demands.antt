@@ -89,7 +89,7 @@ abbrev pub Transition : Bytes → Configuration → Choice → Config → Type 0
 Transition b c k c′ = Step (agent b) (stateOf c .mental) k c′
 
 -- 00, demand 2: "moves are those of Definitions 8 to 11 of source document 004, …, none missing and none added", by their codes.
-pub record Moves (b : Bytes) (c : Configuration) (ns : List ℕ) : Type 0 where
+pub record AllMoves (b : Bytes) (c : Configuration) (ns : List ℕ) : Type 0 where
   -- 00, demand 2: "none missing"
   pub none-missing : (k : Choice) (c′ : Config) → Transition b c k c′ → List·Memᴰ (code k) ns
   -- 00, demand 2: "none added"
@@ -99,11 +99,11 @@ pub record Moves (b : Bytes) (c : Configuration) (ns : List ℕ) : Type 0 where
 
 -- 01, "Numbers the guide may answer": "The list of enabled choices goes …, rising, each once, into the lent list; the answer
 -- tells how many, and what lies after them stays."
-pub record Listed (b : Bytes) (c : Configuration) (out left : List ℕ) (count : ℕ) : Type 0 where
+pub record ListedMoves (b : Bytes) (c : Configuration) (out left : List ℕ) (count : ℕ) : Type 0 where
   -- 01, "Numbers the guide may answer": "the answer tells how many"
   pub counted : length (take count left) ≡ count
   -- 01, "Numbers the guide may answer": "The list of enabled choices"
-  pub moves : Moves b c (take count left)
+  pub moves : AllMoves b c (take count left)
   -- 01, "Numbers the guide may answer": "what lies after them stays"
   pub stays : drop count left ≡ drop count out
 
@@ -116,7 +116,7 @@ pub record RoomFor (n : ℕ) (out : List ℕ) (a : Answer) : Type 0 where
 
 -- 00, demand 2: "A chosen move …, if it is such a transition": the one that the code n stands for. 01, "A configuration and its
 -- transitions": "A choice is coded as 256 times the kind (0 selection, 1 action, 2 revision) plus the number".
-pub record Chosen (b : Bytes) (c : Configuration) (n : ℕ) (k : Choice) (c′ : Config) : Type 0 where
+pub record ChosenMove (b : Bytes) (c : Configuration) (n : ℕ) (k : Choice) (c′ : Config) : Type 0 where
   pub coded : code k ≡ n
   pub transition : Transition b c k c′
 
@@ -127,7 +127,7 @@ pub record StandsFor (c : Configuration) (s : State) : Type 0 where
 
 -- 01, "A configuration and its transitions": "answers the configuration reached, how many transitions were taken, and one of
 -- three endings": those of a run's outcome.
-pub record Answers (r : Ran) (o : Outcome) : Type 0 where
+pub record Tells (r : Ran) (o : Outcome) : Type 0 where
   pub done : r .answer ≡ Done
   -- 01, "A configuration and its transitions": "the configuration reached"
   pub reached : StandsFor (r .configuration) (o .state)
@@ -141,25 +141,25 @@ pub record Demand2 : Type 0 where
   -- 00, demand 2: "On an accepted card and configuration, moves are those of Definitions 8 to 11 of source document 004, with
   -- document 01's limits, none missing and none added."
   pub moves : (b : Bytes) (c : Configuration) → OnAccepted b c → (out left : List ℕ) (r : Written) → Lists b c out r left
-      → r .answer ≡ Done → Listed b c out left (r .count)
+      → r .answer ≡ Done → ListedMoves b c out left (r .count)
   -- 01, "Numbers the guide may answer", row 12: "the lent list … is too short" for the moves, and no other refusal.
   pub moves-room : (b : Bytes) (c : Configuration) → OnAccepted b c → (out left : List ℕ) (r : Written) → Lists b c out r left
-      → (ns : List ℕ) × (Moves b c ns × RoomFor (length ns) out (r .answer))
+      → (ns : List ℕ) × (AllMoves b c ns × RoomFor (length ns) out (r .answer))
   -- 01, "Numbers the guide may answer": "rising, each once": one list alone has a configuration's moves.
-  pub moves-one : (b : Bytes) (c : Configuration) (ns ms : List ℕ) → Moves b c ns → Moves b c ms → ns ≡ ms
+  pub moves-one : (b : Bytes) (c : Configuration) (ns ms : List ℕ) → AllMoves b c ns → AllMoves b c ms → ns ≡ ms
   -- 00, demand 2: "A chosen move is taken exactly if it is such a transition and its plan fits."
   pub taken-exactly : (b : Bytes) (c : Configuration) → OnAccepted b c → (n : ℕ) (r : Reply) → Takes b c n r
-      → (r .answer ≡ Done) ↔ ((k : Choice) × ((c′ : Config) × (Chosen b c n k c′ × (length (c′ .π) ≤ 1024))))
+      → (r .answer ≡ Done) ↔ ((k : Choice) × ((c′ : Config) × (ChosenMove b c n k c′ × (length (c′ .π) ≤ 1024))))
   -- The configuration it leads to: 01, "A configuration and its transitions", The guide's order: "After any transition, the
   -- guide's or a chosen one, the phase is the kind taken plus 1, modulo 3."
   pub taken-to : (b : Bytes) (c : Configuration) → OnAccepted b c → (n : ℕ) (r : Reply) → Takes b c n r
-      → (k : Choice) (c′ : Config) → Chosen b c n k c′ → length (c′ .π) ≤ 1024 → StandsFor (r .configuration) (after k c′)
+      → (k : Choice) (c′ : Config) → ChosenMove b c n k c′ → length (c′ .π) ≤ 1024 → StandsFor (r .configuration) (after k c′)
   -- 01, "Numbers the guide may answer", row 10: "the code is no enabled choice"
   pub not-enabled-exactly : (b : Bytes) (c : Configuration) → OnAccepted b c → (n : ℕ) (r : Reply) → Takes b c n r
-      → (r .answer ≡ Refused Refusal.NotEnabled) ↔ ((k : Choice) (c′ : Config) → Chosen b c n k c′ → ⊥)
+      → (r .answer ≡ Refused Refusal.NotEnabled) ↔ ((k : Choice) (c′ : Config) → ChosenMove b c n k c′ → ⊥)
   -- 01, "Numbers the guide may answer", row 11: "the choice is enabled, but leaves more than 1,024 actions"
   pub plan-full-exactly : (b : Bytes) (c : Configuration) → OnAccepted b c → (n : ℕ) (r : Reply) → Takes b c n r
-      → (r .answer ≡ Refused Refusal.PlanFull) ↔ ((k : Choice) × ((c′ : Config) × (Chosen b c n k c′ × (1024 < length (c′ .π)))))
+      → (r .answer ≡ Refused Refusal.PlanFull) ↔ ((k : Choice) × ((c′ : Config) × (ChosenMove b c n k c′ × (1024 < length (c′ .π)))))
   -- 01, "A configuration and its transitions": "A choice is coded as …": a code in the list is read as the choice it stands for.
   pub read-back : (b : Bytes) (c : Configuration) → OnAccepted b c → (k : Choice) (c′ : Config) → Transition b c k c′
       → choice (code k) ≡ some k
@@ -171,7 +171,7 @@ pub record Demand2 : Type 0 where
   pub own-move : (b : Bytes) (s : State) → House.OrderLaws (agent b) s
   -- 00, demand 2: "The guide's own order is document 01's.": a run takes the guide's moves, each step of the chain.
   pub own-order : (b : Bytes) (c : Configuration) → OnAccepted b c → (budget : ℕ) (r : Ran) → Runs b c budget r
-      → (o : Outcome) × (House.Traced (agent b) budget (stateOf c) o × Answers r o)
+      → (o : Outcome) × (House.Traced (agent b) budget (stateOf c) o × Tells r o)
   -- 00, demand 2: "With budget left it says "rest" exactly when no transition exists."
   pub rest-exactly : (b : Bytes) (c : Configuration) → OnAccepted b c → (budget : ℕ) (r : Ran) → Runs b c budget r
       → r .count < budget → (r .ending ≡ Ending.Rest) ↔ AtRest (agent b) (stateOf (r .configuration) .mental)

@@ -25,7 +25,7 @@ pub fn check(card: &[u8]) -> Checked
 }
 
 // A configuration of a mind and a plan's bytes.
-fn whole(m: Mind, plan: [u8; 1024]) -> Configuration
+fn configuration_in(m: Mind, plan: [u8; 1024]) -> Configuration
     requires { ⌜ m .length ≤ 65535 ⌝ }
     ensures { λ r. ⌜ r ≡ configurationIn m plan ⌝ }
 {
@@ -54,7 +54,7 @@ pub fn load(card: &[u8]) -> Reply
     };
     let mut plan = [0u8; 1024];
     let m = place::load::load(card, l, &mut plan);
-    let c = whole(m, plan);
+    let c = configuration_in(m, plan);
     Reply {
         answer: Answer::Done,
         configuration: c,
@@ -106,7 +106,7 @@ pub fn take(card: &[u8], c: Configuration, choice: u16) -> Reply
     let t = moves::take::take(card, l, m, &mut plan, choice);
     let a = t.answer;
     let after = t.mind;
-    let d = whole(after, plan);
+    let d = configuration_in(after, plan);
     Reply {
         answer: a,
         configuration: d,
@@ -132,7 +132,7 @@ pub fn run(card: &[u8], c: Configuration, budget: u16) -> Ran
     let a = t.answer;
     let e = t.ending;
     let after = t.mind;
-    let reached = whole(after, plan);
+    let reached = configuration_in(after, plan);
     Ran {
         answer: a,
         count: t.count,
@@ -179,7 +179,7 @@ pub fn restore(card: &[u8], p: &[u8]) -> Reply
     let t = place::restore::restore(card, l, p, &mut plan);
     let a = t.answer;
     let m = t.mind;
-    let c = whole(m, plan);
+    let c = configuration_in(m, plan);
     Reply {
         answer: a,
         configuration: c,

@@ -6,7 +6,7 @@ ghost use lib.ListN.{length};
 ghost use Rattle.meaning.specs.Card.{numberAt, part};
 
 // Two bytes, low byte first.
-fn two_bytes(low: u8, high: u8) -> usize
+fn joined(low: u8, high: u8) -> usize
     ensures { λ r. ⌜ (r ≡ low + 256 * high) × (r ≤ 65535) ⌝ }
 {
     (low as usize) + 256 * (high as usize)
@@ -17,7 +17,7 @@ pub fn number_at(bytes: &[u8], at: usize) -> usize
     requires { ⌜ at + 2 ≤ length (now bytes) ⌝ }
     ensures { λ r. ⌜ (r ≡ numberAt (now (bytes .entry)) at) × (r ≤ 65535) ⌝ }
 {
-    two_bytes(bytes[at], bytes[at + 1])
+    joined(bytes[at], bytes[at + 1])
 }
 
 // Whether a byte is below a number.
@@ -39,4 +39,11 @@ pub fn set_at(bytes: &[u8], at: usize) -> [u8; 16]
         i += 1;
     }
     r
+}
+
+// How many bytes a slice has. An array that is lent as a slice is known to be as long as its type says.
+pub fn size(s: &[u8]) -> usize
+    ensures { λ r. ⌜ r ≡ length (now (s .entry)) ⌝ }
+{
+    s.len()
 }

@@ -33,8 +33,8 @@ accepted b e0 =
     let (h8, e8) = passes _ _ b e7 in
     let (h9, e9) = passes _ _ b e8 in
     record {
-      long-enough = h1;
-      marked = h2;
+      long-enough = not-false _ h1;
+      marked = not-false _ h2;
       counts = not-false _ h3;
       offsets = not-false _ h4;
       weights = not-false _ h5;

@@ -9,9 +9,9 @@ use Rattle.house.specs.Weight.{weigh, verdict}
 use Rattle.meaning.specs.Card.{part, layout, weights, weight, nodeAt, nodes, conditions, plan, specificationAt, selectionAt, revisionAt, agentOf, agentFor, agent, initialPlan, start}
 use Rattle.meaning.specs.Configurations.{padded, stateOf, configurationOf, empty}
 use Rattle.meaning.specs.Place.{placeHeader, place, placed}
-use Rattle.meaning.specs.Refusals.{numberOf, answerNumber, firstGiven, cardShort, cardMark, countsGood, offsetsGood, weightsGood, nodesGood, containing, specificationGood, selectionGood, revisionGood, rulesGood, actionsGood, setGood, setsGood, cardTable, cardAnswer, placeTable, placeAnswer, configurationGood, configurationTable, configurationAnswer}
+use Rattle.meaning.specs.Refusals.{numberOf, answerNumber, firstGiven, cardLongEnough, cardMarkGood, countsGood, offsetsGood, weightsGood, nodesGood, containing, specificationGood, selectionGood, revisionGood, rulesGood, actionsGood, setGood, setsGood, cardTable, cardAnswer, placeTable, placeAnswer, configurationGood, configurationTable, configurationAnswer}
 use Rattle.meaning.specs.Calls.{checks, writes, leaves, loads, grades, lists, listLeaves, choice, leadsTo, takes, runs, saves, saveLeaves, restores}
 
 unfoldable pub computing : Unit {0}
-unfolding bit _∈_ _∪_ _∖_ _⊨_ σ′ γ′ canSelect selected canAct acted canRevise revised outcome next enabled kind Order.number code numbers ofKind inTurn after firstMove guide enabledCodes fits run weigh verdict part layout weights weight nodeAt nodes conditions plan specificationAt selectionAt revisionAt agentOf agentFor agent initialPlan start padded stateOf configurationOf empty placeHeader place placed numberOf answerNumber firstGiven cardShort cardMark countsGood offsetsGood weightsGood nodesGood containing specificationGood selectionGood revisionGood rulesGood actionsGood setGood setsGood cardTable cardAnswer placeTable placeAnswer configurationGood configurationTable configurationAnswer checks loads grades writes leaves lists listLeaves choice leadsTo takes runs saves saveLeaves restores
+unfolding bit _∈_ _∪_ _∖_ _⊨_ σ′ γ′ canSelect selected canAct acted canRevise revised outcome next enabled kind Order.number code numbers ofKind inTurn after firstMove guide enabledCodes fits run weigh verdict part layout weights weight nodeAt nodes conditions plan specificationAt selectionAt revisionAt agentOf agentFor agent initialPlan start padded stateOf configurationOf empty placeHeader place placed numberOf answerNumber firstGiven cardLongEnough cardMarkGood countsGood offsetsGood weightsGood nodesGood containing specificationGood selectionGood revisionGood rulesGood actionsGood setGood setsGood cardTable cardAnswer placeTable placeAnswer configurationGood configurationTable configurationAnswer checks loads grades writes leaves lists listLeaves choice leadsTo takes runs saves saveLeaves restores
 computing = tt

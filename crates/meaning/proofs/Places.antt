@@ -7,7 +7,7 @@ use native.Mathlib.Omega.{arith}
 use lib.Dec.{leb, eqb}
 use lib.ListN.{length, take, drop, length-drop, take-append-drop}
 use lib.Seq.{take-at, drop-at, drop-drop, drop-cons}
-use borrow.Author.Tests.{leb-true, ltb-false, eqb-true, not-false}
+use borrow.Author.Tests.{leb-true, eqb-true, not-false}
 use Rattle.paper.specs.Language.{⟨_/_/_⟩}
 use Rattle.paper.specs.Theorems.{AreBytes}
 use Rattle.paper.proofs.Relation.{both}
@@ -72,7 +72,7 @@ header y p e0 =
     let (f, z) = both (leb (numberAt p 8) 2) _ r in
     let (o, t) = both (eqb (numberAt p 6) 44) _ (not-false _ h4) in
     record {
-      long-enough = ltb-false _ _ h1;
+      long-enough = leb-true _ _ (not-false _ h1);
       mark0 = eqb-true _ _ m0;
       mark1 = eqb-true _ _ m1;
       edition = eqb-true _ _ m2;

@@ -77,14 +77,14 @@ within low high n = leb low n && leb n high
 
 -- ---- a card
 
--- 01, "Numbers the guide may answer", row 1: "card under 64 bytes"
-unfoldable pub cardShort : Bytes → Bool
-cardShort b = ltb (length b) 64
+-- Not 01, "Numbers the guide may answer", row 1: "card under 64 bytes"
+unfoldable pub cardLongEnough : Bytes → Bool
+cardLongEnough b = leb 64 (length b)
 
--- 01, "Numbers the guide may answer", row 2: "first two bytes or edition differ". 01, "The card, edition 1", at 0: "bytes 33 41
--- hex"; at 2: "edition", 1.
-unfoldable pub cardMark : Bytes → Bool
-cardMark b = not (eqb (byte b 0) 0x33 && (eqb (byte b 1) 0x41 && eqb (numberAt b 2) 1))
+-- Not 01, "Numbers the guide may answer", row 2: "first two bytes or edition differ". 01, "The card, edition 1", at 0: "bytes 33
+-- 41 hex"; at 2: "edition", 1.
+unfoldable pub cardMarkGood : Bytes → Bool
+cardMarkGood b = eqb (byte b 0) 0x33 && (eqb (byte b 1) 0x41 && eqb (numberAt b 2) 1)
 
 -- Not 01, "Numbers the guide may answer", row 3: "the number of atoms, of actions or of a section's entries or bytes is out of
 -- range (the initial plan's length is 7)". The ranges: 01, "The card, edition 1", "1..128", "1..256", "0..256" and "0..8,192".
@@ -226,9 +226,9 @@ pool l b = part b (l .pool .offset) (l .pool .count)
 unfoldable pub cardTable : List (Row Bytes)
 cardTable =
     -- 01, "Numbers the guide may answer", row 1: "card under 64 bytes"
-    (Refusal.Short given-when cardShort)
+    (Refusal.Short given-when (λ b. not (cardLongEnough b)))
     -- 01, "Numbers the guide may answer", row 2: "first two bytes or edition differ"
-    ∷ (Refusal.Mark given-when cardMark)
+    ∷ (Refusal.Mark given-when (λ b. not (cardMarkGood b)))
     -- 01, "Numbers the guide may answer", row 3: "the number of atoms, of actions or of a section's entries or bytes is out of
     -- range"
     ∷ (Refusal.Count given-when (λ b. not (countsGood (layout b))))
@@ -252,9 +252,9 @@ cardAnswer b = firstGiven cardTable b
 
 -- ---- a place, judged against the card that it is given with
 
--- 01, "Numbers the guide may answer", row 1: "place under 44"
-abbrev pub placeShort : Bytes → Bool
-placeShort p = ltb (length p) 44
+-- Not 01, "Numbers the guide may answer", row 1: "place under 44"
+abbrev pub placeLongEnough : Bytes → Bool
+placeLongEnough p = leb 44 (length p)
 
 -- Not 01, "Numbers the guide may answer", row 2: "first two bytes or edition differ". 01, "The place": "Bytes 33 50 hex; edition
 -- 1 at 2".
@@ -280,7 +280,7 @@ placeSetsGood atoms p = setGood atoms (part p 12 16) && setGood atoms (part p 28
 unfoldable pub placeTable : Layout → List (Row Bytes)
 placeTable l =
     -- 01, "Numbers the guide may answer", row 1: "place under 44"
-    (Refusal.Short given-when placeShort)
+    (Refusal.Short given-when (λ p. not (placeLongEnough p)))
     -- 01, "Numbers the guide may answer", row 2: "first two bytes or edition differ"
     ∷ (Refusal.Mark given-when (λ p. not (placeMarkGood p)))
     -- 01, "Numbers the guide may answer", row 3: "in a place L over 1,024, phase over 2, or bytes 10 and 11 not zero"

@@ -15,7 +15,7 @@ use Rattle.meaning.specs.declared.Configuration.{Configuration}
 use Rattle.meaning.specs.Card.{Bytes, layout, weight, agent, initialPlan}
 use Rattle.meaning.specs.Configurations.{stateOf, configurationOf}
 use Rattle.meaning.specs.Place.{place, placed}
-use Rattle.meaning.specs.Refusals.{numberOf, Row, firstGiven, cardTable, configurationTable, cardShort, cardMark, countsGood, offsetsGood, weightsGood, nodesGood, containing, rulesGood, pool, actionsGood, setsGood, placeTable, configurationGood}
+use Rattle.meaning.specs.Refusals.{numberOf, Row, firstGiven, cardTable, configurationTable, cardLongEnough, cardMarkGood, countsGood, offsetsGood, weightsGood, nodesGood, containing, rulesGood, pool, actionsGood, setsGood, placeTable, configurationGood}
 
 -- 01, "Numbers the guide may answer": "given exactly when" and "tested in the table's order": a row answers when what it is
 -- given for holds and nothing of the rows before it does.
@@ -59,9 +59,9 @@ pub record TableOrder : Type 0 where
 -- What an accepted card has passed, row by row: 01, "Numbers the guide may answer", row 0: "none below holds".
 pub record Accepted (b : Bytes) : Type 0 where
   -- 01, "Numbers the guide may answer", row 1 does not hold: "card under 64 bytes"
-  pub long-enough : cardShort b ≡ false
+  pub long-enough : cardLongEnough b ≡ true
   -- 01, "Numbers the guide may answer", row 2 does not hold: "first two bytes or edition differ"
-  pub marked : cardMark b ≡ false
+  pub marked : cardMarkGood b ≡ true
   -- 01, "Numbers the guide may answer", row 3 does not hold: "the number of atoms, of actions or of a section's entries or
   -- bytes is out of range"
   pub counts : countsGood (layout b) ≡ true

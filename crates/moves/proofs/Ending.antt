@@ -12,12 +12,12 @@ use Rattle.meaning.specs.Card.{Bytes}
 use Rattle.meaning.specs.Configurations.{padded, stateOf, configurationOf}
 use Rattle.meaning.specs.Calls.{ran}
 use Rattle.moves.specs.declared.outcome.Turned.{Turned}
-use Rattle.choices.specs.Minds.{mindIn, Held}
+use Rattle.choices.specs.Minds.{mindOf, Held}
 use Rattle.moves.specs.Reached.{turnedTo}
 use Rattle.moves.proofs.Turning.{run-fits}
 
 module _ (A : Agent) (budget : ℕ) (c : Configuration) where
-  plan-fits : Held (mindIn c) (c .plan) → length (stateOf c .mental .π) ≤ 1024
+  plan-fits : Held (mindOf c) (c .plan) → length (stateOf c .mental .π) ≤ 1024
   unfolding stateOf
   plan-fits h =
       let f = h .fits in
@@ -26,7 +26,7 @@ module _ (A : Agent) (budget : ℕ) (c : Configuration) where
       omega arith
 
   module _ (t : Turned) (e : t ≡ turnedTo (run A budget (stateOf c))) where
-    pub ran-within : Held (mindIn c) (c .plan) → t .mind .length ≤ 1024
+    pub ran-within : Held (mindOf c) (c .plan) → t .mind .length ≤ 1024
     ran-within h = subst (λ (x : Turned). x .mind .length ≤ 1024) (sym e) (run-fits A budget (stateOf c) (plan-fits h))
 
     pub ran-good : (p : Bytes) → p ≡ padded (run A budget (stateOf c) .state .mental .π)

@@ -25,7 +25,7 @@ use Rattle.meaning.specs.Calls.{written, lists, listLeaves}
 use Rattle.meaning.proofs.Calls.{writes-room, writes-no-room}
 use Rattle.layout.specs.Laid.{Laid}
 use Rattle.choices.specs.declared.mind.Mind.{Mind}
-use Rattle.choices.specs.Minds.{mentalOf, mindIn}
+use Rattle.choices.specs.Minds.{mentalOf, mindOf}
 use Rattle.choices.specs.Choosing.{choiceAt, countOf}
 use Rattle.moves.specs.Listed.{listed}
 use Rattle.choices.proofs.Choices.{of-kind}
@@ -157,7 +157,7 @@ writing-more codes out₀ i out w h g = record {
 
 module _ (l : Layout) (b : Bytes) (c : Configuration) (m : Mind) (codes : List ℕ) (n : ℕ) where
   -- a mind that is the configuration's, and the plan's bytes beside it
-  pub listed-state : l ≡ layout b → m ≡ mindIn c → take n codes ≡ enabledCodes (agentFor l b) (mentalOf m (c .plan)) → take n codes ≡ enabledCodes (agent b) (stateOf c .mental)
+  pub listed-state : l ≡ layout b → m ≡ mindOf c → take n codes ≡ enabledCodes (agentFor l b) (mentalOf m (c .plan)) → take n codes ≡ enabledCodes (agent b) (stateOf c .mental)
   unfolding agent stateOf
   listed-state h e x = x ∙ ap (λ (y : Layout). enabledCodes (agentFor y b) (mentalOf m (c .plan))) h ∙ ap (λ (y : Mind). enabledCodes (agentFor (layout b) b) (mentalOf y (c .plan))) e
 

@@ -25,7 +25,7 @@ use Rattle.card.specs.Stair.{rowAnswer}
 use Rattle.meaning.proofs.Tables.{done≢refused}
 use Rattle.card.proofs.Stair.{row-done}
 use Rattle.moves.specs.declared.outcome.Stepped.{Stepped}
-use Rattle.choices.specs.Minds.{mindIn, configurationIn, Held}
+use Rattle.choices.specs.Minds.{mindOf, configurationIn, Held}
 use Rattle.choices.specs.Choosing.{choiceAt}
 use Rattle.moves.specs.Reached.{Reached, nothing, full, to, moveBy, answered, taking, told, left}
 use Rattle.moves.proofs.Making.{leads-to, leads-nowhere}
@@ -86,26 +86,26 @@ module _ (b : Bytes) (c : Configuration) (good : configurationAnswer b c ≡ Don
 
 -- ---- a good configuration is held, and what its move comes to is what is answered
 
-pub held-configuration : (l : Layout) (c : Configuration) → length (c .plan) ≡ 1024 → configurationGood l c ≡ true → Held (mindIn c) (c .plan)
+pub held-configuration : (l : Layout) (c : Configuration) → length (c .plan) ≡ 1024 → configurationGood l c ≡ true → Held (mindOf c) (c .plan)
 held-configuration l c r e =
     let g = good l c e in
     record { fits = g .fits; zeros = sym (padded-take (c .plan) (c .length) r (g .fits) (g .zeros)); room = r }
 
 -- the number and the configuration that the code answers, by what the move comes to
-by-reached : (o : Reached) (c : Configuration) → reply (answered (told o (mindIn c) .next)) (configurationIn (told o (mindIn c) .mind) (left o (c .plan))) ≡ taking o c
+by-reached : (o : Reached) (c : Configuration) → reply (answered (told o (mindOf c) .next)) (configurationIn (told o (mindOf c) .mind) (left o (c .plan))) ≡ taking o c
 unfolding configurationOf
 by-reached nothing c = refl
 by-reached full c = refl
 by-reached (to s) c = refl
 
-module _ (A : Agent) (c : Configuration) (k : Choice) (s : Stepped) (e : s ≡ told (moveBy A (stateOf c) k) (mindIn c)) where
+module _ (A : Agent) (c : Configuration) (k : Choice) (s : Stepped) (e : s ≡ told (moveBy A (stateOf c) k) (mindOf c)) where
   pub taken : (p : Bytes) → p ≡ left (moveBy A (stateOf c) k) (c .plan) → reply (answered (s .next)) (configurationIn (s .mind) p) ≡ taking (moveBy A (stateOf c) k) c
   taken p h = (λ i. reply (answered (e i .next)) (configurationIn (e i .mind) (h i))) ∙ by-reached (moveBy A (stateOf c) k) c
 
   pub mind-within : c .length ≤ 1024 → s .mind .length ≤ 1024
   mind-within h = subst (λ (x : Stepped). x .mind .length ≤ 1024) (sym e) (go (moveBy A (stateOf c) k) refl)
     where
-      go : (o : Reached) → moveBy A (stateOf c) k ≡ o → told o (mindIn c) .mind .length ≤ 1024
+      go : (o : Reached) → moveBy A (stateOf c) k ≡ o → told o (mindOf c) .mind .length ≤ 1024
       go nothing q = h
       go full q = h
       go (to s′) q = made-fits A (stateOf c) s′ k q .0

@@ -24,10 +24,10 @@ use Rattle.meaning.specs.Card.{Bytes}
 use Rattle.meaning.specs.Configurations.{padded}
 use Rattle.plans.proofs.Laws.{take-padded, length-padded}
 use Rattle.choices.specs.declared.mind.Mind.{Mind}
-use Rattle.choices.specs.declared.mind.Chosen.{Chosen}
-use Rattle.moves.specs.declared.outcome.Next.{Next}
+use Rattle.choices.specs.declared.enabled.Chosen.{Chosen}
+use Rattle.moves.specs.declared.outcome.Came.{Came}
 use Rattle.choices.specs.Truth.{Judged}
-use Rattle.choices.specs.Minds.{stateIn, mindOf, Held}
+use Rattle.choices.specs.Minds.{stateIn, mindFor, Held}
 use Rattle.choices.specs.Choosing.{chosen, firstEnabled, choiceAt}
 use Rattle.moves.specs.Reached.{Reached, nothing, full, to, fitting, moveBy, stepOf, told, left, turnedTo}
 use Rattle.choices.proofs.Choices.{first-yes, first-no}
@@ -119,19 +119,19 @@ module _ (A : Agent) (s : State) where
 
 -- ---- a state, held in a mind and a plan
 
-pub held-mind : (m : Mind) (d : Bytes) → Held m d → mindOf (stateIn m d) ≡ m
+pub held-mind : (m : Mind) (d : Bytes) → Held m d → mindFor (stateIn m d) ≡ m
 held-mind m d h =
     let f = h .fits in
     let r = h .room in
     let n : length (take (m .length) d) ≡ m .length = length-take-le (m .length) d (omega arith) in
     λ i. record { beliefs = m .beliefs; goals = m .goals; length = n i; phase = m .phase }
 
-pub holds-state : (s : State) → length (s .mental .π) ≤ 1024 → Held (mindOf s) (padded (s .mental .π))
+pub holds-state : (s : State) → length (s .mental .π) ≤ 1024 → Held (mindFor s) (padded (s .mental .π))
 holds-state s h =
     let t = take-padded (s .mental .π) (length (s .mental .π)) refl in
     record { fits = h; zeros = ap padded (sym t); room = length-padded (s .mental .π) h }
 
-pub state-back : (s : State) → stateIn (mindOf s) (padded (s .mental .π)) ≡ s
+pub state-back : (s : State) → stateIn (mindFor s) (padded (s .mental .π)) ≡ s
 state-back s = λ i. record { mental = ⟨ s .mental .σ / take-padded (s .mental .π) (length (s .mental .π)) refl i / s .mental .γ ⟩; phase = s .phase }
 
 -- ---- what a move comes to
@@ -269,32 +269,32 @@ module _ (A : Agent) (budget : ℕ) where
       w : Went A (budget - (count + 1)) (stateIn m d) (stepOf A (stateIn m d))
       w = went A (budget - (count + 1)) (stateIn m d)
 
-      pub running-rest : told (stepOf A (stateIn m d)) m .next ≡ Next.Nothing
+      pub running-rest : told (stepOf A (stateIn m d)) m .next ≡ Came.Nothing
           → (record { mind = m; count = count; ending = Ending.Rest } ≡ turnedTo (run A budget start)) × (left (stepOf A (stateIn m d)) d ≡ padded (run A budget start .state .mental .π))
       running-rest e = go w
         where
           go : Went A (budget - (count + 1)) (stateIn m d) (stepOf A (stateIn m d))
               → (record { mind = m; count = count; ending = Ending.Rest } ≡ turnedTo (run A budget start)) × (left (stepOf A (stateIn m d)) d ≡ padded (run A budget start .state .mental .π))
           go (went-nowhere q f) = let x = ends Ending.Rest (ap (λ n. run A n (stateIn m d)) one-less ∙ f) in (x .0, ap (λ o. left o d) q ∙ x .1)
-          go (went-full q f) = absurd (let y : Next.Full ≡ Next.Nothing = sym (ap (λ o. told o m .next) q) ∙ e in let z : _≡_ {A = ℕ} 0 1 = cc in omega arith)
-          go (went-to s′ q l p k f) = absurd (let y : Next.Moved ≡ Next.Nothing = sym (ap (λ o. told o m .next) q) ∙ e in let z : _≡_ {A = ℕ} 0 1 = cc in omega arith)
+          go (went-full q f) = absurd (let y : Came.Full ≡ Came.Nothing = sym (ap (λ o. told o m .next) q) ∙ e in let z : _≡_ {A = ℕ} 0 1 = cc in omega arith)
+          go (went-to s′ q l p k f) = absurd (let y : Came.Moved ≡ Came.Nothing = sym (ap (λ o. told o m .next) q) ∙ e in let z : _≡_ {A = ℕ} 0 1 = cc in omega arith)
 
-      pub running-full : told (stepOf A (stateIn m d)) m .next ≡ Next.Full
+      pub running-full : told (stepOf A (stateIn m d)) m .next ≡ Came.Full
           → (record { mind = m; count = count; ending = Ending.Full } ≡ turnedTo (run A budget start)) × (left (stepOf A (stateIn m d)) d ≡ padded (run A budget start .state .mental .π))
       running-full e = go w
         where
           go : Went A (budget - (count + 1)) (stateIn m d) (stepOf A (stateIn m d))
               → (record { mind = m; count = count; ending = Ending.Full } ≡ turnedTo (run A budget start)) × (left (stepOf A (stateIn m d)) d ≡ padded (run A budget start .state .mental .π))
-          go (went-nowhere q f) = absurd (let y : Next.Nothing ≡ Next.Full = sym (ap (λ o. told o m .next) q) ∙ e in let z : _≡_ {A = ℕ} 0 1 = cc in omega arith)
+          go (went-nowhere q f) = absurd (let y : Came.Nothing ≡ Came.Full = sym (ap (λ o. told o m .next) q) ∙ e in let z : _≡_ {A = ℕ} 0 1 = cc in omega arith)
           go (went-full q f) = let x = ends Ending.Full (ap (λ n. run A n (stateIn m d)) one-less ∙ f) in (x .0, ap (λ o. left o d) q ∙ x .1)
-          go (went-to s′ q l p k f) = absurd (let y : Next.Moved ≡ Next.Full = sym (ap (λ o. told o m .next) q) ∙ e in let z : _≡_ {A = ℕ} 0 1 = cc in omega arith)
+          go (went-to s′ q l p k f) = absurd (let y : Came.Moved ≡ Came.Full = sym (ap (λ o. told o m .next) q) ∙ e in let z : _≡_ {A = ℕ} 0 1 = cc in omega arith)
 
-      pub running-moved : told (stepOf A (stateIn m d)) m .next ≡ Next.Moved
+      pub running-moved : told (stepOf A (stateIn m d)) m .next ≡ Came.Moved
           → Running A budget start (told (stepOf A (stateIn m d)) m .mind) (left (stepOf A (stateIn m d)) d) (count + 1)
       running-moved e = go w
         where
           on : (s′ : State) → length (s′ .mental .π) ≤ 1024 → s′ .phase < 3 → run A (suc (budget - (count + 1))) (stateIn m d) ≡ oneMore (run A (budget - (count + 1)) s′)
-              → Running A budget start (mindOf s′) (padded (s′ .mental .π)) (count + 1)
+              → Running A budget start (mindFor s′) (padded (s′ .mental .π)) (count + 1)
           on s′ l p f =
               let o = run A (budget - (count + 1)) s′ in
               let n : count + 1 + o .count ≡ count + suc (o .count) = omega arith in
@@ -307,12 +307,12 @@ module _ (A : Agent) (budget : ℕ) where
               }
 
           go : Went A (budget - (count + 1)) (stateIn m d) (stepOf A (stateIn m d)) → Running A budget start (told (stepOf A (stateIn m d)) m .mind) (left (stepOf A (stateIn m d)) d) (count + 1)
-          go (went-nowhere q f) = absurd (let y : Next.Nothing ≡ Next.Moved = sym (ap (λ o. told o m .next) q) ∙ e in let z : _≡_ {A = ℕ} 0 1 = cc in omega arith)
-          go (went-full q f) = absurd (let y : Next.Full ≡ Next.Moved = sym (ap (λ o. told o m .next) q) ∙ e in let z : _≡_ {A = ℕ} 0 1 = cc in omega arith)
+          go (went-nowhere q f) = absurd (let y : Came.Nothing ≡ Came.Moved = sym (ap (λ o. told o m .next) q) ∙ e in let z : _≡_ {A = ℕ} 0 1 = cc in omega arith)
+          go (went-full q f) = absurd (let y : Came.Full ≡ Came.Moved = sym (ap (λ o. told o m .next) q) ∙ e in let z : _≡_ {A = ℕ} 0 1 = cc in omega arith)
           go (went-to s′ q l p k f) = subst (λ o. Running A budget start (told o m .mind) (left o d) (count + 1)) (sym q) (on s′ l p f)
 
       -- marks of the nodes stay true in a move that is no action
-      pub running-judged : (l : Layout) (b : Bytes) (marks : List Bool) → Judged l b (m .beliefs) (m .goals) marks → told (stepOf A (stateIn m d)) m .next ≡ Next.Moved
+      pub running-judged : (l : Layout) (b : Bytes) (marks : List Bool) → Judged l b (m .beliefs) (m .goals) marks → told (stepOf A (stateIn m d)) m .next ≡ Came.Moved
           → not (eqb (told (stepOf A (stateIn m d)) m .mind .phase) 2) ≡ true
           → Judged l b (told (stepOf A (stateIn m d)) m .mind .beliefs) (told (stepOf A (stateIn m d)) m .mind .goals) marks
       running-judged l b marks j e h = go w
@@ -322,8 +322,8 @@ module _ (A : Agent) (budget : ℕ) where
 
           go : Went A (budget - (count + 1)) (stateIn m d) (stepOf A (stateIn m d))
               → Judged l b (told (stepOf A (stateIn m d)) m .mind .beliefs) (told (stepOf A (stateIn m d)) m .mind .goals) marks
-          go (went-nowhere q f) = absurd (let y : Next.Nothing ≡ Next.Moved = sym (ap (λ o. told o m .next) q) ∙ e in let z : _≡_ {A = ℕ} 0 1 = cc in omega arith)
-          go (went-full q f) = absurd (let y : Next.Full ≡ Next.Moved = sym (ap (λ o. told o m .next) q) ∙ e in let z : _≡_ {A = ℕ} 0 1 = cc in omega arith)
+          go (went-nowhere q f) = absurd (let y : Came.Nothing ≡ Came.Moved = sym (ap (λ o. told o m .next) q) ∙ e in let z : _≡_ {A = ℕ} 0 1 = cc in omega arith)
+          go (went-full q f) = absurd (let y : Came.Full ≡ Came.Moved = sym (ap (λ o. told o m .next) q) ∙ e in let z : _≡_ {A = ℕ} 0 1 = cc in omega arith)
           go (went-to s′ q l₀ p k f) =
               subst (λ o. Judged l b (told o m .mind .beliefs) (told o m .mind .goals) marks) (sym q)
               (on s′ k (eqb-false _ 2 (not-true _ (sym (ap (λ o. not (eqb (told o m .mind .phase) 2)) q) ∙ h))))

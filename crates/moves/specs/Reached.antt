@@ -15,8 +15,8 @@ use Rattle.meaning.specs.declared.Configuration.{Configuration}
 use Rattle.meaning.specs.declared.Reply.{Reply}
 use Rattle.meaning.specs.declared.Ran.{Ran}
 use Rattle.choices.specs.declared.mind.Mind.{Mind}
-use Rattle.choices.specs.Minds.{mindOf, configurationIn}
-use Rattle.moves.specs.declared.outcome.Next.{Next}
+use Rattle.choices.specs.Minds.{mindFor, configurationIn}
+use Rattle.moves.specs.declared.outcome.Came.{Came}
 use Rattle.moves.specs.declared.outcome.Stepped.{Stepped}
 use Rattle.moves.specs.declared.outcome.Turned.{Turned}
 use Rattle.moves.specs.declared.outcome.Ended.{Ended}
@@ -35,9 +35,9 @@ moveBy A s k = elim (next A (s .mental) k) [ none ↦ nothing | some c ↦ fitti
 
 -- what the code tells, and what it leaves in the plan's bytes
 abbrev pub told : Reached → Mind → Stepped
-told nothing m = record { next = Next.Nothing; mind = m }
-told full m = record { next = Next.Full; mind = m }
-told (to s) m = record { next = Next.Moved; mind = mindOf s }
+told nothing m = record { next = Came.Nothing; mind = m }
+told full m = record { next = Came.Full; mind = m }
+told (to s) m = record { next = Came.Moved; mind = mindFor s }
 
 abbrev pub left : Reached → Bytes → Bytes
 left nothing d = d
@@ -50,13 +50,13 @@ stepOf A s = elim (guide A s) [ none ↦ nothing | some m ↦ fitting (m .to) ]
 
 -- where a run ends, as the code tells it
 abbrev pub turnedTo : Outcome → Turned
-turnedTo o = record { mind = mindOf (o .state); count = o .count; ending = o .ending }
+turnedTo o = record { mind = mindFor (o .state); count = o .count; ending = o .ending }
 
 -- 01, "Numbers the guide may answer", rows 0, 10 and 11: what is answered of what a move came to
-abbrev pub answered : Next → Answer
-answered Next.Moved = Answer.Done
-answered Next.Nothing = Answer.Refused Refusal.NotEnabled
-answered Next.Full = Answer.Refused Refusal.PlanFull
+abbrev pub answered : Came → Answer
+answered Came.Moved = Answer.Done
+answered Came.Nothing = Answer.Refused Refusal.NotEnabled
+answered Came.Full = Answer.Refused Refusal.PlanFull
 
 -- what taking a choice answers, by what its move comes to
 abbrev pub taking : Reached → Configuration → Reply

@@ -7,8 +7,9 @@ ghost use Rattle.paper.specs.Next.{enabled};
 ghost use Rattle.meaning.specs.Card.{agentFor};
 ghost use Rattle.card.specs.GoodCard.{GoodCard};
 ghost use Rattle.choices.specs.Minds.{mentalOf, stateIn, Held};
+ghost use Rattle.choices.specs.Choosing.{choiceAt};
 ghost use Rattle.moves.specs.Reached.{moveBy, told, left};
-use crate::outcome::Next;
+use crate::outcome::Came;
 use crate::outcome::Stepped;
 use choices::mind::Mind;
 use layout::header::read_span;
@@ -16,7 +17,7 @@ use layout::readers::set_at;
 use meaning::Layout;
 
 // Selection rule i: "The rule's plan becomes the plan."
-pub fn make_selection(card: &[u8], l: Layout, m: Mind, plan: &mut [u8; 1024], i: usize) -> Stepped
+fn make_selection(card: &[u8], l: Layout, m: Mind, plan: &mut [u8; 1024], i: usize) -> Stepped
     requires { ⌜ GoodCard l (now card) × Held m (now plan) × (i < l .selections .count) × (enabled (agentFor l (now card)) (mentalOf m (now plan)) (select i) ≡ true) ⌝ }
     ensures { λ r. ⌜ (r ≡ told (moveBy (agentFor l (now (card .entry))) (stateIn m (now (plan .entry))) (select i)) m) × (now (plan .exit) ≡ left (moveBy (agentFor l (now (card .entry))) (stateIn m (now (plan .entry))) (select i)) (now (plan .entry))) ⌝ }
 {
@@ -28,7 +29,7 @@ pub fn make_selection(card: &[u8], l: Layout, m: Mind, plan: &mut [u8; 1024], i:
     let g = m.goals;
     plans::replace_front(plan, 0, 0, card, pool.offset + s.start, n);
     Stepped {
-        next: Next::Moved,
+        next: Came::Moved,
         mind: Mind {
             beliefs: b,
             goals: g,
@@ -40,7 +41,7 @@ pub fn make_selection(card: &[u8], l: Layout, m: Mind, plan: &mut [u8; 1024], i:
 
 // Specification i: "Beliefs become (beliefs with Add) without Del. Goals become goals without Add. The first action leaves the
 // plan."
-pub fn make_action(card: &[u8], l: Layout, m: Mind, plan: &mut [u8; 1024], i: usize) -> Stepped
+fn make_action(card: &[u8], l: Layout, m: Mind, plan: &mut [u8; 1024], i: usize) -> Stepped
     requires { ⌜ GoodCard l (now card) × Held m (now plan) × (i < l .specifications .count) × (enabled (agentFor l (now card)) (mentalOf m (now plan)) (act i) ≡ true) ⌝ }
     ensures { λ r. ⌜ (r ≡ told (moveBy (agentFor l (now (card .entry))) (stateIn m (now (plan .entry))) (act i)) m) × (now (plan .exit) ≡ left (moveBy (agentFor l (now (card .entry))) (stateIn m (now (plan .entry))) (act i)) (now (plan .entry))) ⌝ }
 {
@@ -55,7 +56,7 @@ pub fn make_action(card: &[u8], l: Layout, m: Mind, plan: &mut [u8; 1024], i: us
     let goals = sets::difference(g, add);
     plans::drop_front(plan, n, 1);
     Stepped {
-        next: Next::Moved,
+        next: Came::Moved,
         mind: Mind {
             beliefs: beliefs,
             goals: goals,
@@ -66,7 +67,7 @@ pub fn make_action(card: &[u8], l: Layout, m: Mind, plan: &mut [u8; 1024], i: us
 }
 
 // Revision rule i: "The body takes the head's place; the rest stays." A plan that would be too long is not made.
-pub fn make_revision(card: &[u8], l: Layout, m: Mind, plan: &mut [u8; 1024], i: usize) -> Stepped
+fn make_revision(card: &[u8], l: Layout, m: Mind, plan: &mut [u8; 1024], i: usize) -> Stepped
     requires { ⌜ GoodCard l (now card) × Held m (now plan) × (i < l .revisions .count) × (enabled (agentFor l (now card)) (mentalOf m (now plan)) (revise i) ≡ true) ⌝ }
     ensures { λ r. ⌜ (r ≡ told (moveBy (agentFor l (now (card .entry))) (stateIn m (now (plan .entry))) (revise i)) m) × (now (plan .exit) ≡ left (moveBy (agentFor l (now (card .entry))) (stateIn m (now (plan .entry))) (revise i)) (now (plan .entry))) ⌝ }
 {
@@ -79,7 +80,7 @@ pub fn make_revision(card: &[u8], l: Layout, m: Mind, plan: &mut [u8; 1024], i: 
     let n = body.length + rest;
     if 1024 < n {
         return Stepped {
-            next: Next::Full,
+            next: Came::Full,
             mind: m,
         };
     }
@@ -94,12 +95,24 @@ pub fn make_revision(card: &[u8], l: Layout, m: Mind, plan: &mut [u8; 1024], i: 
         body.length,
     );
     Stepped {
-        next: Next::Moved,
+        next: Came::Moved,
         mind: Mind {
             beliefs: b,
             goals: g,
             length: n,
             phase: 0,
         },
+    }
+}
+
+// An enabled choice, by its kind and number, is made.
+pub fn make(card: &[u8], l: Layout, m: Mind, plan: &mut [u8; 1024], kind: u8, i: usize) -> Stepped
+    requires { ⌜ GoodCard l (now card) × Held m (now plan) × (kind < 3) × (enabled (agentFor l (now card)) (mentalOf m (now plan)) (choiceAt kind i) ≡ true) ⌝ }
+    ensures { λ r. ⌜ (r ≡ told (moveBy (agentFor l (now (card .entry))) (stateIn m (now (plan .entry))) (choiceAt kind i)) m) × (now (plan .exit) ≡ left (moveBy (agentFor l (now (card .entry))) (stateIn m (now (plan .entry))) (choiceAt kind i)) (now (plan .entry))) ⌝ }
+{
+    match kind {
+        0 => make_selection(card, l, m, plan, i),
+        1 => make_action(card, l, m, plan, i),
+        _ => make_revision(card, l, m, plan, i),
     }
 }

@@ -4,7 +4,7 @@ use house::Ending;
 use meaning::Answer;
 
 // What a move comes to: it is made, there is none to make, or its plan would be too long.
-pub enum Next {
+pub enum Came {
     Moved,
     Nothing,
     Full,
@@ -14,7 +14,7 @@ pub enum Next {
 // so that it is copied in whole words.
 pub struct Stepped {
     pub mind: Mind,
-    pub next: Next,
+    pub next: Came,
 }
 
 // Where a run ends: the mind, how many transitions were taken, and why it ended.
@@ -22,18 +22,6 @@ pub struct Turned {
     pub mind: Mind,
     pub count: u16,
     pub ending: Ending,
-}
-
-// What taking a choice, or restoring a place, answers beside the plan's bytes.
-pub struct Replied {
-    pub answer: Answer,
-    pub mind: Mind,
-}
-
-// What listing, or saving, answers beside the lent buffer: how many entries, or bytes, were written.
-pub struct Counted {
-    pub answer: Answer,
-    pub count: u16,
 }
 
 // What a run answers beside the plan's bytes.

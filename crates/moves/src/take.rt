@@ -11,14 +11,14 @@ ghost use Rattle.card.specs.GoodCard.{GoodCard};
 ghost use Rattle.choices.specs.Minds.{mentalOf, stateIn, configurationIn, Held};
 ghost use Rattle.choices.specs.Choosing.{choiceAt};
 ghost use Rattle.moves.specs.Reached.{answered, moveBy, told, left};
-use crate::outcome::Next;
-use crate::outcome::Replied;
+use crate::make::make;
+use crate::outcome::Came;
 use crate::outcome::Stepped;
-use crate::turn::make;
 use choices::configuration::judge_mind;
 use choices::enabled::can;
 use choices::enabled::count_of;
 use choices::mind::Mind;
+use choices::reply::Replied;
 use choices::truth::judged;
 use meaning::Answer;
 use meaning::Layout;
@@ -47,19 +47,19 @@ fn attempt(card: &[u8], l: Layout, m: Mind, plan: &mut [u8; 1024], kind: u8, i: 
         return make(card, l, m, plan, kind, i);
     }
     Stepped {
-        next: Next::Nothing,
+        next: Came::Nothing,
         mind: m,
     }
 }
 
 // What is answered of what a move comes to: done, 10 or 11.
-fn answer_to(next: Next) -> Answer
+fn answer_to(next: Came) -> Answer
     ensures { λ r. ⌜ r ≡ answered next ⌝ }
 {
     match next {
-        Next::Moved => Answer::Done,
-        Next::Nothing => Answer::Refused(Refusal::NotEnabled),
-        Next::Full => Answer::Refused(Refusal::PlanFull),
+        Came::Moved => Answer::Done,
+        Came::Nothing => Answer::Refused(Refusal::NotEnabled),
+        Came::Full => Answer::Refused(Refusal::PlanFull),
     }
 }
 

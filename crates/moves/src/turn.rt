@@ -3,40 +3,24 @@ ghost use mathlib.Core.Path.{_≡_};
 ghost use mathlib.Core.Bool.{true};
 ghost use Prim.Native.Nat.{_<_};
 ghost use lib.ListN.{length};
-ghost use Rattle.paper.specs.Next.{enabled};
 ghost use Rattle.house.specs.Run.{run};
 ghost use Rattle.meaning.specs.Card.{agentFor};
 ghost use Rattle.meaning.specs.Configurations.{padded};
 ghost use Rattle.card.specs.GoodCard.{GoodCard};
 ghost use Rattle.choices.specs.Truth.{Judged};
-ghost use Rattle.choices.specs.Minds.{mentalOf, stateIn, Held};
-ghost use Rattle.choices.specs.Choosing.{choiceAt};
-ghost use Rattle.moves.specs.Reached.{moveBy, stepOf, told, left, turnedTo};
-use crate::make::make_action;
-use crate::make::make_revision;
-use crate::make::make_selection;
-use crate::outcome::Next;
+ghost use Rattle.choices.specs.Minds.{stateIn, Held};
+ghost use Rattle.moves.specs.Reached.{stepOf, told, left, turnedTo};
+use crate::make::make;
+use crate::outcome::Came;
 use crate::outcome::Stepped;
 use crate::outcome::Turned;
-use card::nodes::no_marks;
+use choices::enabled::Chosen;
 use choices::enabled::choose;
-use choices::mind::Chosen;
 use choices::mind::Mind;
 use choices::truth::judge_nodes;
+use choices::truth::no_marks;
 use house::Ending;
 use meaning::Layout;
-
-// An enabled choice, by its kind and number, is made.
-pub fn make(card: &[u8], l: Layout, m: Mind, plan: &mut [u8; 1024], kind: u8, i: usize) -> Stepped
-    requires { ⌜ GoodCard l (now card) × Held m (now plan) × (kind < 3) × (enabled (agentFor l (now card)) (mentalOf m (now plan)) (choiceAt kind i) ≡ true) ⌝ }
-    ensures { λ r. ⌜ (r ≡ told (moveBy (agentFor l (now (card .entry))) (stateIn m (now (plan .entry))) (choiceAt kind i)) m) × (now (plan .exit) ≡ left (moveBy (agentFor l (now (card .entry))) (stateIn m (now (plan .entry))) (choiceAt kind i)) (now (plan .entry))) ⌝ }
-{
-    match kind {
-        0 => make_selection(card, l, m, plan, i),
-        1 => make_action(card, l, m, plan, i),
-        _ => make_revision(card, l, m, plan, i),
-    }
-}
 
 // The guide's own move.
 fn step(card: &[u8], l: Layout, m: Mind, plan: &mut [u8; 1024], marks: &[bool; 256]) -> Stepped
@@ -46,7 +30,7 @@ fn step(card: &[u8], l: Layout, m: Mind, plan: &mut [u8; 1024], marks: &[bool; 2
     let chosen = choose(card, l, m, plan, marks);
     let Chosen::At(kind, i) = chosen else {
         return Stepped {
-            next: Next::Nothing,
+            next: Came::Nothing,
             mind: m,
         };
     };
@@ -91,7 +75,7 @@ pub fn turns(card: &[u8], l: Layout, m: Mind, plan: &mut [u8; 1024], budget: u16
         let s = step(card, l, cur, plan, &marks);
         let next = s.next;
         match next {
-            Next::Moved => {
+            Came::Moved => {
                 let d = s.mind;
                 let b = d.beliefs;
                 let g = d.goals;
@@ -102,10 +86,10 @@ pub fn turns(card: &[u8], l: Layout, m: Mind, plan: &mut [u8; 1024], budget: u16
                 cur.phase = d.phase;
                 count += 1;
             }
-            Next::Nothing => {
+            Came::Nothing => {
                 return end(cur, count, Ending::Rest);
             }
-            Next::Full => {
+            Came::Full => {
                 return end(cur, count, Ending::Full);
             }
         }

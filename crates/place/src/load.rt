@@ -9,9 +9,9 @@ ghost use Rattle.meaning.specs.Refusals.{cardAnswer};
 ghost use Rattle.meaning.specs.Calls.{reply, loads};
 ghost use Rattle.card.specs.GoodCard.{GoodCard};
 ghost use Rattle.choices.specs.Minds.{configurationIn};
-use choices::configuration::size;
 use choices::mind::Mind;
 use layout::readers::set_at;
+use layout::readers::size;
 use meaning::Layout;
 
 // The mind that a card starts with; its initial plan goes to a lent array.

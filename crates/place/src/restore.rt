@@ -11,13 +11,13 @@ ghost use Rattle.meaning.specs.Calls.{reply, restores};
 ghost use Rattle.choices.specs.Minds.{configurationIn};
 ghost use Rattle.place.specs.Rows.{Sized};
 use crate::judge::judge_place;
-use choices::configuration::size;
 use choices::mind::Mind;
+use choices::reply::Replied;
 use layout::readers::number_at;
 use layout::readers::set_at;
+use layout::readers::size;
 use meaning::Answer;
 use meaning::Layout;
-use moves::outcome::Replied;
 
 // "plan length L at 4; … phase at 8; … beliefs at 12; goals at 28; the plan's L bytes at 44."
 fn read(p: &[u8], plan: &mut [u8; 1024]) -> Mind

@@ -15,10 +15,10 @@ ghost use Rattle.place.specs.Rows.{savedFrom};
 use card::check::row;
 use choices::configuration::judge_mind;
 use choices::mind::Mind;
+use choices::reply::Counted;
 use meaning::Answer;
 use meaning::Layout;
 use meaning::Refusal;
-use moves::outcome::Counted;
 
 // "Bytes 33 50 hex; edition 1 at 2; plan length L at 4; plan offset 44 at 6; phase at 8; zero at 10"
 fn head(n: usize, phase: u8) -> [u8; 12]

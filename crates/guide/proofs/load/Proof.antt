@@ -36,11 +36,11 @@ load-requires c κs =
     let b = now (c .before .before .before .before .before .before .args .card) in
     good-judged b _ (sym (c .before .before .before .before .check .ensures) ∙ c .before .before .v .given .1)
 
-whole-requires : tie.Need-whole-requires
-whole-requires c κs = search needs
+configuration-in-requires : tie.Need-configuration-in-requires
+configuration-in-requires c κs = search needs
 
 returns-2 : tie.Need-returns-2
-returns-2 c = ap (reply Done) (c .whole .ensures) ∙ c .before .load .ensures .0
+returns-2 c = ap (reply Done) (c .configuration-in .ensures) ∙ c .before .load .ensures .0
 
 pub load-spec : {M : Type 1} → statement M
 load-spec =
@@ -53,5 +53,5 @@ load-spec =
     answer-of-requires
     returns
     load-requires
-    whole-requires
+    configuration-in-requires
     returns-2)

@@ -38,13 +38,13 @@ restore-requires c κs =
     let b = now (c .before .before .before .before .before .before .before .args .card) in
     good-judged b _ (sym (c .before .before .before .before .check .ensures) ∙ c .before .before .v .given .1)
 
-whole-requires : tie.Need-whole-requires
-whole-requires c κs = search needs
+configuration-in-requires : tie.Need-configuration-in-requires
+configuration-in-requires c κs = search needs
 
 returns-2 : tie.Need-returns-2
 returns-2 c =
     let t = c .before .before .restore in
-    ap (reply (t .result .answer)) (c .whole .ensures) ∙ t .ensures .0
+    ap (reply (t .result .answer)) (c .configuration-in .ensures) ∙ t .ensures .0
 
 pub restore-spec : {M : Type 1} → statement M
 restore-spec =
@@ -57,5 +57,5 @@ restore-spec =
     answer-of-requires
     returns
     restore-requires
-    whole-requires
+    configuration-in-requires
     returns-2)

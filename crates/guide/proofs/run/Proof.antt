@@ -47,8 +47,8 @@ run-requires c κs =
     let b = now (c .before .before .before .before .before .before .before .before .args .card) in
     good-judged b _ (sym (c .before .before .before .before .before .before .check .ensures) ∙ c .before .before .before .before .v .given .1)
 
-whole-requires : tie.Need-whole-requires
-whole-requires c κs =
+configuration-in-requires : tie.Need-configuration-in-requires
+configuration-in-requires c κs =
     let t = c .before .run in
     let m = c .before .before .before .before .mind-of in
     ⊎-elim (λ h. omega arith) (λ e. subst (λ (x : Mind). x .length ≤ 65535) (sym e) (m .ensures .2)) (t .ensures .1)
@@ -59,7 +59,7 @@ returns-2 c =
     let b = now (a .card) in
     let t = c .before .before .run in
     let p = t .last .1 .1 .1 .0 in
-    ap (λ (x : Configuration). record { answer = t .result .answer; count = t .result .count; ending = t .result .ending; configuration = x }) (c .whole .ensures)
+    ap (λ (x : Configuration). record { answer = t .result .answer; count = t .result .count; ending = t .result .ending; configuration = x }) (c .configuration-in .ensures)
     ∙ subst (λ (x : Mind). endedIn (t .result) p ≡ runs b (configurationIn x (a .c .plan)) (a .budget)) (c .before .before .before .before .before .mind-of .ensures .0) (t .ensures .0)
 
 pub run-spec : {M : Type 1} → statement M
@@ -73,5 +73,5 @@ run-spec =
     returns
     mind-of-requires
     run-requires
-    whole-requires
+    configuration-in-requires
     returns-2)

@@ -44,8 +44,8 @@ take-requires c κs =
     let b = now (c .before .before .before .before .before .before .before .before .args .card) in
     good-judged b _ (sym (c .before .before .before .before .before .before .check .ensures) ∙ c .before .before .before .before .v .given .1)
 
-whole-requires : tie.Need-whole-requires
-whole-requires c κs =
+configuration-in-requires : tie.Need-configuration-in-requires
+configuration-in-requires c κs =
     let t = c .before .take in
     let m = c .before .before .before .before .mind-of in
     ⊎-elim (λ h. omega arith) (λ e. subst (λ (x : Mind). x .length ≤ 65535) (sym e) (m .ensures .2)) (t .ensures .1)
@@ -56,7 +56,7 @@ returns-2 c =
     let b = now (a .card) in
     let t = c .before .before .take in
     let p = t .last .1 .1 .1 .0 in
-    ap (reply (t .result .answer)) (c .whole .ensures)
+    ap (reply (t .result .answer)) (c .configuration-in .ensures)
     ∙ subst (λ (x : Mind). reply (t .result .answer) (configurationIn (t .result .mind) p) ≡ takes b (configurationIn x (a .c .plan)) (a .choice)) (c .before .before .before .before .before .mind-of .ensures .0) (t .ensures .0)
 
 pub take-spec : {M : Type 1} → statement M
@@ -70,5 +70,5 @@ take-spec =
     returns
     mind-of-requires
     take-requires
-    whole-requires
+    configuration-in-requires
     returns-2)

@@ -2,8 +2,8 @@ use Rattle.meaning.specs.declared.Answer.the-variants.{Done}
 use Rattle.meaning.proofs.Calls.{checks-good, checks-refused}
 use Rattle.meaning.proofs.Accepted.{accepted}
 use Rattle.meaning.specs.declared.Checked.{Checked}
-use Rattle.meaning.specs.Refusals.{cardAnswer, cardShort}
-use borrow.Author.Tests.{ltb-false}
+use Rattle.meaning.specs.Refusals.{cardAnswer, cardLongEnough}
+use borrow.Author.Tests.{leb-true}
 use mathlib.Core.Path.{_≡_, sym, ap, _∙_}
 use borrow.Author.Needs.{needs}
 use denote.Ref.{now}
@@ -20,11 +20,11 @@ enum-told : tie.Need-enum-told
 enum-told c = search needs
 
 read-layout-requires : tie.Need-read-layout-requires
-unfolding cardShort
+unfolding cardLongEnough
 read-layout-requires c κs =
     let b = now (c .before .before .before .before .args .card) in
     let e : cardAnswer b ≡ Done = sym (c .before .before .judge-card .ensures) ∙ c .enum-told .given .1 in
-    ltb-false _ 64 (accepted b e .long-enough)
+    leb-true 64 _ (accepted b e .long-enough)
 
 returns : tie.Need-returns
 returns c =

@@ -1,7 +1,8 @@
+use mathlib.Core.Bool.{not}
 use Rattle.card.proofs.Stair.{stops, goes-on}
 use Rattle.card.specs.Stair.{rowsFrom}
 use Rattle.meaning.specs.Refusals.{cardTable}
-use mathlib.Core.Path.{sym, _∙_}
+use mathlib.Core.Path.{sym, ap, _∙_}
 use borrow.Author.Needs.{needs}
 use denote.Ref.{now}
 use Rattle.card.proofs.check.from_mark.Statement.{statement}
@@ -23,7 +24,7 @@ returns : tie.Need-returns
 unfolding rowsFrom cardTable
 returns c =
     let b = now (c .before .before .before .before .before .args .card) in
-    stops _ _ b (c .before .before .before .marked .result) (c .before .before .before .marked .ensures) (c .before .before .row .result) (c .before .before .row .ensures) _ (c .enum-told2 .given .1)
+    stops _ _ b (c .before .before .before .marked .result) (ap not (sym (c .before .before .before .marked .ensures))) (c .before .before .row .result) (c .before .before .row .ensures) _ (c .enum-told2 .given .1)
 
 read-layout-requires : tie.Need-read-layout-requires
 read-layout-requires c κs = search needs
@@ -35,7 +36,7 @@ returns-2 : tie.Need-returns-2
 unfolding rowsFrom cardTable
 returns-2 c =
     let b = now (c .before .before .before .before .before .before .before .args .card) in
-    c .from-counts .ensures ∙ sym (goes-on _ _ b (c .before .before .before .before .before .marked .result) (c .before .before .before .before .before .marked .ensures) (c .before .before .before .before .row .result) (c .before .before .before .before .row .ensures) (c .before .before .enum-told .given .1))
+    c .from-counts .ensures ∙ sym (goes-on _ _ b (c .before .before .before .before .before .marked .result) (ap not (sym (c .before .before .before .before .before .marked .ensures))) (c .before .before .before .before .row .result) (c .before .before .before .before .row .ensures) (c .before .before .enum-told .given .1))
 
 pub from-mark-spec : {M : Type 1} → statement M
 from-mark-spec =

@@ -1,4 +1,4 @@
-use Rattle.meaning.specs.Refusals.{cardMark}
+use Rattle.meaning.specs.Refusals.{cardMarkGood}
 use borrow.Author.Needs.{needs}
 use Rattle.card.proofs.check.marked.Statement.{statement}
 use Rattle.card.proofs.check.marked.Tie as tie
@@ -13,7 +13,7 @@ shared-slice-read-result-2 : tie.Need-shared-slice-read-result-2
 shared-slice-read-result-2 c = search needs
 
 returns : tie.Need-returns
-unfolding cardMark
+unfolding cardMarkGood
 returns c = rw (c .before .before .number-at .ensures .0)
 
 pub marked-spec : {M : Type 1} → statement M

@@ -1,6 +1,6 @@
 use Rattle.moves.proofs.Making.{plan-not-empty, acts-to}
 use Rattle.moves.specs.Reached.{Reached, told, left}
-use Rattle.moves.specs.declared.outcome.Next.{Next}
+use Rattle.moves.specs.declared.outcome.Came.{Came}
 use Rattle.meaning.specs.Card.{specificationAt}
 use Rattle.paper.specs.Transitions.{σ′, γ′}
 use Rattle.paper.specs.Atoms.{_∪_, _∖_}
@@ -70,7 +70,7 @@ returns c =
     let r = p .1 .room in
     let k = length-take-le (a .m .length) d (omega arith) in
     let n : a .m .length - 1 ≡ length (drop 1 (take (a .m .length) d)) = rw (length-drop 1 (take (a .m .length) d), k) in (
-      (λ j. record { next = Next.Moved; mind = record { beliefs = beliefs j; goals = goals j; length = n j; phase = 2 } }) ∙ ap (λ (x : Reached). told x (a .m)) (sym t),
+      (λ j. record { next = Came.Moved; mind = record { beliefs = beliefs j; goals = goals j; length = n j; phase = 2 } }) ∙ ap (λ (x : Reached). told x (a .m)) (sym t),
       c .drop-front .ensures ∙ ap (λ (x : Reached). left x d) (sym t),
     )
 

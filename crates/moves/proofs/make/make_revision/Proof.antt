@@ -1,6 +1,6 @@
 use Rattle.moves.proofs.Making.{head-fits, revised-length, revises-to, revises-full}
 use Rattle.moves.specs.Reached.{Reached, told, left}
-use Rattle.moves.specs.declared.outcome.Next.{Next}
+use Rattle.moves.specs.declared.outcome.Came.{Came}
 use Rattle.card.proofs.GoodCard.{good-as}
 use Rattle.meaning.specs.Configurations.{padded}
 use Rattle.meaning.specs.Card.{plan}
@@ -79,7 +79,7 @@ returns-2 c =
     let short : c .before .before .before .before .before .before .before .before .before .before .read-span2 .result .length + (a .m .length - c .before .before .before .before .before .before .before .before .before .before .before .read-span .result .length) ≤ 1024 = omega arith in
     let t = revises-to (a .l) b (p .0) (a .m) d (p .1) (a .i) (p .2) (p .3) (rw (e2, e1) at short) in
     let n = ap₂ (λ (s s′ : Span). s .length + (a .m .length - s′ .length)) e2 e1 ∙ sym (revised-length (a .l) b (p .0) (a .m) d (p .1) (a .i) (p .2) (p .3)) in (
-      (λ j. record { next = Next.Moved; mind = record { beliefs = a .m .beliefs; goals = a .m .goals; length = n j; phase = 0 } }) ∙ ap (λ (x : Reached). told x (a .m)) (sym t),
+      (λ j. record { next = Came.Moved; mind = record { beliefs = a .m .beliefs; goals = a .m .goals; length = n j; phase = 0 } }) ∙ ap (λ (x : Reached). told x (a .m)) (sym t),
       c .replace-front .ensures ∙ ap₂ (λ (s s′ : Span). padded (plan (a .l) b s ++ drop (s′ .length) (take (a .m .length) d))) e2 e1 ∙ ap (λ (x : Reached). left x d) (sym t),
     )
 

@@ -1,6 +1,6 @@
 use Rattle.moves.proofs.Making.{plan-empty, plan-length, selects-to}
 use Rattle.moves.specs.Reached.{Reached, told, left}
-use Rattle.moves.specs.declared.outcome.Next.{Next}
+use Rattle.moves.specs.declared.outcome.Came.{Came}
 use Rattle.card.proofs.GoodCard.{good-as}
 use Rattle.meaning.specs.Configurations.{padded}
 use Rattle.meaning.specs.Card.{plan, entryAt}
@@ -54,7 +54,7 @@ returns c =
     let at = entryAt 8 (a .l .selections) (a .i) + 2 in
     let t = selects-to (a .l) b (p .0) (a .m) d (p .1) (a .i) (p .2) (p .3) in
     let n = ap (λ (s : Span). s .length) e ∙ sym (plan-length (a .l) b (p .0) (a .m) d (p .1) (a .i) 1 at (p .0 .selections (a .i) (p .2) .plan)) in (
-      (λ j. record { next = Next.Moved; mind = record { beliefs = a .m .beliefs; goals = a .m .goals; length = n j; phase = 1 } }) ∙ ap (λ (r : Reached). told r (a .m)) (sym t),
+      (λ j. record { next = Came.Moved; mind = record { beliefs = a .m .beliefs; goals = a .m .goals; length = n j; phase = 1 } }) ∙ ap (λ (r : Reached). told r (a .m)) (sym t),
       c .replace-front .ensures ∙ ap padded (append-nil _ ∙ ap (λ (s : Span). plan (a .l) b s) e) ∙ ap (λ (r : Reached). left r d) (sym t),
     )
 

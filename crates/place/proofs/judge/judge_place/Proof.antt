@@ -2,8 +2,8 @@ use borrow.Author.Tests.{leb-true}
 use lib.Dec.{leb}
 use Rattle.meaning.specs.Refusals.{placeTable}
 use Rattle.card.specs.Stair.{rowsFrom}
-use Rattle.card.proofs.Stair.{stops, goes-on, ltb-not, row-done}
-use mathlib.Core.Path.{sym, _∙_}
+use Rattle.card.proofs.Stair.{stops, goes-on, row-done}
+use mathlib.Core.Path.{refl, sym, _∙_}
 use borrow.Author.Needs.{needs}
 use denote.Ref.{now}
 use lib.ListN.{length}
@@ -23,7 +23,7 @@ returns : tie.Need-returns
 unfolding placeTable
 returns c =
     let b = now (c .before .before .before .before .args .p) in
-    stops _ _ b (leb 44 (length b)) (ltb-not (length b) 44) (c .before .before .row .result) (c .before .before .row .ensures) _ (c .enum-told2 .given .1)
+    stops _ _ b (leb 44 (length b)) refl (c .before .before .row .result) (c .before .before .row .ensures) _ (c .enum-told2 .given .1)
 
 from-mark-requires : tie.Need-from-mark-requires
 from-mark-requires c κs =
@@ -34,7 +34,7 @@ unfolding rowsFrom placeTable
 returns-2 c =
     let b = now (c .before .before .before .before .before .args .p) in
     let told = c .before .before .before .row in
-    c .from-mark .ensures ∙ sym (goes-on _ _ b (leb 44 (length b)) (ltb-not (length b) 44) (told .result) (told .ensures) (c .before .enum-told .given .1))
+    c .from-mark .ensures ∙ sym (goes-on _ _ b (leb 44 (length b)) refl (told .result) (told .ensures) (c .before .enum-told .given .1))
 
 pub judge-place-spec : {M : Type 1} → statement M
 judge-place-spec =

@@ -7,8 +7,8 @@ use Rattle.paper.specs.Transitions.{select, act, revise}
 use mathlib.Core.Path.{_≡_}
 use native.Mathlib.Omega.{arith}
 use denote.Ref.{now}
-use Rattle.moves.proofs.turn.make.Statement.{statement}
-use Rattle.moves.proofs.turn.make.Tie as tie
+use Rattle.moves.proofs.make.make.Statement.{statement}
+use Rattle.moves.proofs.make.make.Tie as tie
 
 make-selection-requires : tie.Need-make-selection-requires
 make-selection-requires c κs =
