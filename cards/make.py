@@ -95,13 +95,15 @@ def read_line(where, text):
 def read_source(path):
     """All lines of a source, "repeat" lines written out; what follows a # is a comment."""
     lines = []
-    with open(path, encoding="utf-8", errors="replace") as file:
+    with open(path, encoding="utf-8-sig", errors="replace") as file:
         for number, raw in enumerate(file, 1):
             where = "%s, line %d" % (os.path.basename(path), number)
             text = " ".join(raw.split("#")[0].split())
             repeat = REPEAT.fullmatch(text)
             if repeat:
                 first = int(repeat[2] or 0)
+                if int(repeat[1]) > MOST_NUMBER:
+                    raise Wrong("%s: %s times do not fit: at most %d" % (where, repeat[1], MOST_NUMBER))
                 texts = [counted(where, repeat[3], first + i) for i in range(int(repeat[1]))]
             else:
                 texts = [text] if text else []
@@ -391,8 +393,10 @@ def main(words):
     faults = [fault for fault in faults if fault]
     for fault in faults:
         print("make.py: %s" % fault, file=sys.stderr)
+    if faults:
+        print("make.py: no card is written for these; cards/README.md has the lines of a source", file=sys.stderr)
     if check and not faults:
-        print("%d cards are what their sources give" % len(sources))
+        print("%d of %d cards are what their sources give" % (len(sources), len(sources)))
     return 1 if faults else 0
 
 

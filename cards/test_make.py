@@ -79,6 +79,7 @@ BAD = (
     ("byte 0", 8, "byte AT = NUMBER"),
     ("repeat 2: node: {j} and {j}", 8, "no node '{j}'"),
     ("repeat 2: node: {k%0} and 0", 8, "divides by 0"),
+    ("repeat 65536: node: true", 8, "at most 65535"),
 )
 
 

@@ -112,7 +112,8 @@ extern "C" {
 /* A configuration. Atom k is in a set if bit (k modulo 8) of byte (k divided by 8) is 1. The
  * plan is the first `length` bytes of `plan`, one action each, next action first; all bytes
  * after them are zero. The phase (0, 1 or 2) is the kind of move that the guide tries first:
- * it is part of the place as much as the plan is. The empty configuration is all zeros. */
+ * it is part of the place as much as the plan is. The empty configuration is all zeros.
+ * Compare two by their members: the struct may end with padding that no call writes. */
 struct rigtemple_configuration {
     uint8_t beliefs[RIGTEMPLE_SET_BYTES];
     uint8_t goals[RIGTEMPLE_SET_BYTES];
@@ -210,7 +211,9 @@ static inline uint16_t rigtemple_take(const uint8_t *card, size_t card_len,
 
 /* Runs by itself, for `budget` moves at most, and changes `c` to the configuration reached.
  * `count` becomes the number of moves taken and `ending` why it stopped: spent, rest or full.
- * The budget is looked at first: a run of budget 0 is spent, at rest too.
+ * The budget is looked at first: a run of budget 0 is spent, at rest too. To know which move a
+ * run of budget 1 made: its kind is the phase afterwards minus 1, modulo 3, and its number the
+ * lowest of that kind in the list before it.
  * Answers 0 (with each of the three endings), or 1 to 9, or 13. A refusal leaves `c` as it came
  * in, and writes 0 to `count` and RIGTEMPLE_SPENT to `ending`. */
 static inline uint16_t rigtemple_run(const uint8_t *card, size_t card_len,

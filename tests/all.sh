@@ -14,12 +14,13 @@ seed=1
 cases=20000
 while [ $# -gt 0 ]; do
     case $1 in
-    --seed) seed=${2:?--seed takes a number}; shift ;;
-    --cases) cases=${2:?--cases takes a number}; shift ;;
+    --seed) seed=${2:-}; shift $(($# > 1)) ;;
+    --cases) cases=${2:-}; shift $(($# > 1)) ;;
     *) die "usage: all.sh [--seed N] [--cases N]" ;;
     esac
     shift
 done
+case $seed,$cases in ,* | *, | *[!0-9,]*) die "--seed and --cases take a number" ;; esac
 cd "$(dirname "$0")/.."
 # shellcheck source=tests/kit.sh
 . tests/kit.sh

@@ -8,6 +8,8 @@ set -eu
 
 die() { printf 'archive.sh: %s\n' "$*" >&2; exit 2; }
 
+[ $# -eq 0 ] || [ "$*" = --engine ] || die "usage: archive.sh [--engine]"
+
 root=$(cd "$(dirname "$0")/.." && pwd)
 if [ "${1:-}" = --engine ]; then
     names=

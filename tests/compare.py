@@ -182,7 +182,10 @@ def arguments():
     parser.add_argument("--cases", type=int, default=200000, help="how many requests")
     parser.add_argument("--largest", type=int, default=65535, help="bytes of the largest card")
     parser.add_argument("--spoil", action="store_true", help="change one answer and one line of the oracle's")
-    return parser.parse_args()
+    options = parser.parse_args()
+    if options.cases < 1:
+        parser.error("--cases takes a number from 1 on")
+    return options
 
 
 def jobs(options):

@@ -3,6 +3,7 @@
 
     .ci/run > LOG; python3 tests/edits.py LOG             a line for each edit; the last line is 'N passed, M failed'
     .ci/run > LOG; python3 tests/edits.py LOG --table     the same as a table of Markdown (docs/EDITS.md)
+    python3 tests/edits.py --sum                          a sum of the files of crates/, which the gate prints too
 
 The gate says at which line of a proof the checker first found an error. The fact is the declaration that this line belongs to, in
 the crate with the edit applied: in a function's proof `returns` is what the function ensures, `loop-again` a loop's invariant,
@@ -11,6 +12,7 @@ or if the line belongs to no such declaration.
 """
 
 import glob
+import hashlib
 import os
 import re
 import sys
@@ -24,6 +26,15 @@ DECLARED = re.compile(r"(?:  )?(?:abbrev )?([^\s:()]+) :|\s*pub ([^\s:()]+) :")
 def read(path):
     with open(path, encoding="utf-8") as file:
         return file.read()
+
+
+def summed():
+    """A sum of the files of crates/, by their paths and bytes: a log belongs to one such tree."""
+    whole = hashlib.sha256()
+    for path in sorted(glob.glob(os.path.join(TOP, "crates", "**", "*.*"), recursive=True)):
+        with open(path, "rb") as file:
+            whole.update(os.path.relpath(path, TOP).encode() + b"\0" + hashlib.sha256(file.read()).digest())
+    return whole.hexdigest()[:16]
 
 
 def edited(crate, edit, path):
@@ -65,10 +76,20 @@ def told(key, refused):
 
 def main(words):
     """Prints the edits, and how many are refused at a fact."""
+    if words == ["--sum"]:
+        print(summed())
+        return 0
     if not words or words[1:] not in ([], ["--table"]):
-        print("usage: edits.py LOG [--table]", file=sys.stderr)
+        print("usage: edits.py LOG [--table], or edits.py --sum", file=sys.stderr)
         return 2
-    refused = refusals(read(words[0]))
+    if not os.path.isfile(words[0]):
+        print("edits.py: there is no file %s" % words[0], file=sys.stderr)
+        return 2
+    log = read(words[0])
+    if ("ci: crates/ has the sum %s" % summed()) not in log:
+        print("edits.py: the gate that printed this log had other crates, or did not say which", file=sys.stderr)
+        return 2
+    refused = refusals(log)
     paths = sorted(glob.glob(os.path.join(TOP, "crates", "*", "must-fail", "*.edit")))
     keys = [(path.split(os.sep)[-3], os.path.basename(path)[: -len(".edit")]) for path in paths]
     failed = 0
@@ -76,7 +97,7 @@ def main(words):
         sentence, path, fact = told(key, refused)
         failed += fact is None
         if words[1:]:
-            print("| `%s/%s` | %s | %s |" % (*key, sentence, "`%s` `%s`" % (path, fact) if fact else "not refused"))
+            print("| `%s/%s` | %s | %s |" % (*key, sentence.replace("|", "\\|"), "`%s` `%s`" % (path, fact) if fact else "not refused"))
         else:
             print("%-36s %s" % ("/".join(key), "%s, %s" % (path, fact) if fact else "not refused"))
     print("%s%d passed, %d failed" % ("\n" if words[1:] else "", len(keys) - failed, failed))

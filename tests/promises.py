@@ -4,11 +4,13 @@
     python3 tests/promises.py [--documents DIR]    the last line is 'N passed, M failed'
     python3 tests/promises.py --lines              how many lines of definitions there are, file by file, in reading order
 
-With --documents the quoted sentences are looked for in DIR/00-letter.md and DIR/01-scope.md too. The notation is explained at the
+With --documents the quoted sentences are looked for in DIR/00-letter.md and DIR/01-scope.md too, and those that the comments of the
+crates quote in all documents of DIR. The notation is explained at the
 head of docs/PROMISES.md. Python 3.9 or later, standard library only.
 """
 
 import argparse
+import glob
 import os
 import re
 import sys
@@ -51,12 +53,12 @@ class Tally:
         self.passed = 0
         self.failed = 0
 
-    def hold(self, line, so, what):
+    def hold(self, line, so, what, path=PROMISES):
         if so:
             self.passed += 1
         else:
             self.failed += 1
-            print(f"{PROMISES}:{line}: {what}")
+            print(f"{path}:{line}: {what}")
 
 
 # ---- the page
@@ -225,6 +227,40 @@ def check_quotes(page, folder, tally):
             tally.hold(piece.line, any(re.search(parts, line) for line in paragraphs), f"not in the documents: {quote}")
 
 
+# ---- the quotations in the crates
+
+
+def remarks(path):
+    """The comments of a file, each with the line that it begins on; lines that follow each other are one."""
+    found, open_one = [], False
+    for number, line in enumerate(read(path).split("\n"), 1):
+        match = re.match(r"\s*(?:--|//|# ) ?(.*)", line)
+        if match and open_one:
+            found[-1] = (found[-1][0], found[-1][1] + " " + match[1])
+        elif match:
+            found.append((number, match[1]))
+        open_one = match is not None
+    return found
+
+
+def check_remarks(folder, tally):
+    """Every quotation in a comment stands in a document (drill.md lies beside their folder), in docs/DECISIONS.md or in the header. Those with a formula of
+    document 004 are left out: its text has the formulas in another notation."""
+    sources = sorted(glob.glob(os.path.join(folder, "*")) + glob.glob(os.path.join(folder, "..", "drill.md")))
+    sources += [os.path.join(TOP, name) for name in ("docs/DECISIONS.md", "include/rigtemple.h")]
+    texts = [re.sub(r"\s+", " ", re.sub(r"[*`]", "", read(path))) for path in sources]
+    for pattern in ("*/src/*.rt", "*/specs/*.antt", "*/must-fail/*.edit"):
+        for path in sorted(glob.glob(os.path.join(TOP, "crates", pattern))):
+            for line, text in remarks(path):
+                for quote in re.findall(r'"([^"]+)"', text):
+                    if "paper" in path and re.search(r"[^ -~…]|\(p\)|L_B", quote):
+                        continue
+                    parts = (re.sub(r"\s+", " ", part.replace("`", "").strip()) for part in quote.split("…"))
+                    wanted = ".*?".join(map(re.escape, parts))
+                    so = any(re.search(wanted, text) for text in texts)
+                    tally.hold(line, so, f"not in the documents: {quote}", os.path.relpath(path, TOP))
+
+
 # ---- the lines
 
 
@@ -256,6 +292,8 @@ def main():
     parser.add_argument("--documents", metavar="DIR", help="the folder of documents 00 and 01, for the quoted sentences")
     parser.add_argument("--lines", action="store_true", help="count the lines of definitions instead")
     options = parser.parse_args()
+    if options.documents and not os.path.isdir(options.documents):
+        parser.error("there is no folder %s" % options.documents)
     if options.lines:
         return print_lines()
     page = pieces(read(os.path.join(TOP, PROMISES)))
@@ -263,6 +301,7 @@ def main():
     check_names(page, tally)
     if options.documents:
         check_quotes(page, options.documents, tally)
+        check_remarks(options.documents, tally)
     else:
         print("the quoted sentences were not looked for: --documents DIR names the folder of documents 00 and 01")
     print(f"{tally.passed} passed, {tally.failed} failed")

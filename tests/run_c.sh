@@ -10,7 +10,10 @@ die() { printf 'run_c.sh: %s\n' "$*" >&2; exit 2; }
 # shellcheck source=tests/kit.sh
 . "$(dirname "$0")/kit.sh"
 
-set -- "$lib/ld-linux-x86-64.so.2" --library-path "$lib" "$@"
+[ -f "$1" ] || die "there is no program $1"
+program=$(cd "$(dirname "$1")" && pwd)/$(basename "$1")
+shift
+set -- "$lib/ld-linux-x86-64.so.2" --library-path "$lib" "$program" "$@"
 case $(uname -m) in
 x86_64 | amd64) ;;
 *)

@@ -4,6 +4,7 @@
 # the program, each card of cards/ is run with the proved one too, and its last line held against cards/README.md.
 # The last line is 'N passed, M failed'.
 set -u
+[ $# -eq 0 ] || { echo 'usage: script.sh' >&2; exit 2; }
 top=$(CDPATH='' cd -- "$(dirname -- "$0")/.." && pwd)
 room=$(mktemp -d) || exit 2
 trap 'chmod -R u+rwx "$room"; rm -rf "$room"' EXIT

@@ -29,7 +29,7 @@ module _ {R : Type 0} (good : R → Bool) (name : ℕ → Offender) (named : (k 
     | false ↦ let e = named n in omega arith
   ]
 
-pub verdict-narrow : (w : ℕ → ℕ) (A : Agent) (π : Plan) → length (A .PS) ≤ 256 → length (A .PR) ≤ 256 → verdictRule (verdict w A π) < 65536
+verdict-narrow : (w : ℕ → ℕ) (A : Agent) (π : Plan) → length (A .PS) ≤ 256 → length (A .PR) ≤ 256 → verdictRule (verdict w A π) < 65536
 unfolding verdict verdictRule offenderRule
 verdict-narrow w A π s r = elim (light w π) as (λ x. verdictRule (elim x [ true ↦ firstOffender (λ r. light w (r .π)) Offender.Selection 0 (A .PS) (firstOffender (lowers w) Offender.Revision 0 (A .PR) Verdict.Bounded) | false ↦ Verdict.Open Offender.InitialPlan ]) < 65536) [
   | true ↦

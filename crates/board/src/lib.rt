@@ -3,7 +3,7 @@
 ghost use mathlib.Core.Path.{_≡_};
 ghost use Prim.Native.Nat.{_≤_};
 ghost use Rattle.meaning.specs.Calls.{checks, loads, grades, lists, listLeaves, takes, runs, saves, saveLeaves, restores};
-ghost use Rattle.demands.specs.Demands.{checkedNumber};
+ghost use Rattle.meaning.specs.Numbers.{checkedNumber};
 ghost use Rattle.board.specs.Parts.{whole, replied, gradedAs, wrote, ranTo};
 use answers::answer_number;
 use answers::ending_number;

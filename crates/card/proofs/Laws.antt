@@ -11,26 +11,25 @@ use lib.Dec.{eqb, leb, ltb}
 use lib.ListN.{length, getD, set, replicate, length-set, length-replicate, getD-replicate}
 use lib.Seq.{getD-set-other}
 use Rattle.sets.proofs.Loops.{below-turn}
+use Rattle.meaning.specs.declared.Section.{Section}
 use Rattle.meaning.specs.declared.Layout.{Layout}
-use Rattle.meaning.specs.Card.{Bytes}
+use Rattle.meaning.specs.Card.{Bytes, entryAt}
 use Rattle.meaning.specs.Refusals.{all, nodesGood, containsOf, containing}
-use Rattle.meaning.proofs.Nodes.{node-rule, contains-children, contains-at}
-use Rattle.layout.specs.Laid.{kindOf, aOf, bOf}
+use Rattle.meaning.proofs.Nodes.{made-from, contains-children}
+use Rattle.layout.specs.Laid.{Laid, kindOf, aOf, bOf}
 use Rattle.card.specs.Marks.{Marks}
+use Rattle.card.specs.Entries.{sectionOf, sizeOf}
 
 -- one of two neighbours
 pub either-of : (m n : ℕ) → m ≤ n → n ≤ m + 1 → (n ≡ m) ⊎ (n ≡ m + 1)
 either-of m n h k = elim (decLe n m) [ yes e ↦ inl (omega arith) | no e ↦ inr (omega arith) ]
 
 -- what is found at node i by the marks of the lower nodes
-pub contains-next : (l : Layout) (b : Bytes) → nodesGood l b ≡ true → (kind i : ℕ) → i < l .nodes .count → (marks : List Bool)
+contains-next : (l : Layout) (b : Bytes) → nodesGood l b ≡ true → (kind i : ℕ) → i < l .nodes .count → (marks : List Bool)
     → ((j : ℕ) → j < i → getD marks j false ≡ getD (containing kind l b) j false)
     → containsOf kind (kindOf l b i) (aOf l b i) (bOf l b i) (λ j. getD marks j false) ≡ getD (containing kind l b) i false
-contains-next l b good kind i h marks same =
-    let r = node-rule l b good i h in
-    contains-children kind (kindOf l b i) (aOf l b i) (bOf l b i) (λ j. getD marks j false) (λ j. getD (containing kind l b) j false)
-    (λ k. same (aOf l b i) (r .first k)) (λ k. same (bOf l b i) (r .second k))
-    ∙ sym (contains-at l b good i h kind)
+unfolding containing
+contains-next l b good kind i h marks same = made-from l b good i h (containsOf kind) false (contains-children kind) (λ j. getD marks j false) same
 
 -- the last action and the number of actions tell the same of a byte
 pub known-by-last : (x actions : ℕ) → 1 ≤ actions → x ≤ 255 → leb x (min 255 (actions - 1)) ≡ ltb x actions
@@ -79,3 +78,10 @@ marked-all kind l b marks m i h = elim (decLt i (l .nodes .count)) [
   | yes k ↦ rw (m .1 i k, lt-ltb i (l .nodes .count) k)
   | no k ↦ rw (m .2 i (omega arith) h, le-ltb i (l .nodes .count) (omega arith))
 ]
+
+-- an entry of any kind, found by its section and its size, lies within the card
+pub entry-within : (l : Layout) (b : Bytes) → Laid l b → (kind : ℕ) (s : Section) (size i : ℕ) → s ≡ sectionOf l kind → size ≡ sizeOf kind → i < s .count
+    → entryAt size s i + sizeOf kind ≤ length b
+entry-within l b d zero s size i e f h = let k : i < l .selections .count = rw e at h in rw (e, f) (omega arith)
+entry-within l b d (suc zero) s size i e f h = let k : i < l .specifications .count = rw e at h in rw (e, f) (omega arith)
+entry-within l b d (suc (suc n)) s size i e f h = let k : i < l .revisions .count = rw e at h in rw (e, f) (omega arith)

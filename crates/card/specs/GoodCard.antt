@@ -20,20 +20,24 @@ pub record GoodCondition (l : Layout) (b : Bytes) (without node : ℕ) : Type 0 
   pub known : node < l .nodes .count
   pub kind : getD (containing without l b) node false ≡ false
 
+-- a specification of a known action and a belief condition
 pub record GoodSpecification (l : Layout) (b : Bytes) (at : ℕ) : Type 0 where
   pub action : byte b at < l .actions
   pub belief : GoodCondition l b 2 (byte b (at + 1))
 
+-- a selection rule of a belief condition, a goal condition and a plan that is not empty
 pub record GoodSelection (l : Layout) (b : Bytes) (at : ℕ) : Type 0 where
   pub belief : GoodCondition l b 2 (byte b at)
   pub goal : GoodCondition l b 1 (byte b (at + 1))
   pub plan : GoodSpan l 1 (span b (at + 2))
 
+-- a revision rule of a belief condition, a head that is not empty, and a body
 pub record GoodRevision (l : Layout) (b : Bytes) (at : ℕ) : Type 0 where
   pub belief : GoodCondition l b 2 (byte b at)
   pub head : GoodSpan l 1 (span b (at + 2))
   pub body : GoodSpan l 0 (span b (at + 6))
 
+-- 01, "Weight and grading": "Each action weighs 1 to 1,024."
 pub record GoodWeight (w : ℕ) : Type 0 where
   pub least : 1 ≤ w
   pub most : w ≤ 1024

@@ -9,6 +9,7 @@ use Rattle.meaning.specs.declared.Answer.the-variants.{Done, Refused}
 use Rattle.meaning.specs.declared.Checked.{Checked}
 use Rattle.meaning.specs.Refusals.{Row, firstGiven}
 
+-- the answer of one row, by whether it is passed
 abbrev pub rowAnswer : Bool → Refusal → Answer
 rowAnswer true r = Done
 rowAnswer false r = Refused r

@@ -114,7 +114,7 @@ fn from_counts(card: &[u8], l: Layout) -> Answer
     from_offsets(card, l)
 }
 
-// Row 2: the first two bytes and the edition.
+// Not row 2: the first two bytes and the edition are a card's.
 fn marked(card: &[u8]) -> bool
     requires { ⌜ 64 ≤ length (now card) ⌝ }
     ensures { λ r. ⌜ r ≡ cardMarkGood (now (card .entry)) ⌝ }

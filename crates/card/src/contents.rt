@@ -11,7 +11,7 @@ use layout::readers::number_at;
 use layout::readers::set_at;
 use meaning::Layout;
 
-// Row 5: every weight is from 1 to 1,024.
+// Not row 5: every weight is from 1 to 1,024.
 pub fn weights_good(card: &[u8], l: Layout) -> bool
     requires { ⌜ Laid l (now card) ⌝ }
     ensures { λ r. ⌜ r ≡ weightsGood l (now (card .entry)) ⌝ }
@@ -38,7 +38,7 @@ fn last_action(actions: usize) -> u8
     (actions - 1) as u8
 }
 
-// Whether each of n bytes from a place on is an action.
+// Whether each of n bytes from one on is an action.
 pub fn actions_good(bytes: &[u8], from: usize, n: usize, actions: usize) -> bool
     requires { ⌜ from + n ≤ length (now bytes) ⌝ }
     ensures { λ r. ⌜ r ≡ actionsGood actions (part (now (bytes .entry)) from n) ⌝ }
@@ -56,7 +56,7 @@ pub fn actions_good(bytes: &[u8], from: usize, n: usize, actions: usize) -> bool
     good
 }
 
-// Row 8: every byte of the pool is an action.
+// Not row 8: every byte of the pool is an action.
 pub fn pool_good(card: &[u8], l: Layout) -> bool
     requires { ⌜ Laid l (now card) ⌝ }
     ensures { λ r. ⌜ r ≡ actionsGood (l .actions) (pool l (now (card .entry))) ⌝ }
@@ -85,7 +85,7 @@ fn all_sets(card: &[u8], l: Layout) -> [u8; 16]
     all
 }
 
-// Row 9: no set has an atom at or above the number of atoms.
+// Not row 9: no set has an atom at or above the number of atoms.
 pub fn sets_good(card: &[u8], l: Layout) -> bool
     requires { ⌜ Laid l (now card) ⌝ }
     ensures { λ r. ⌜ r ≡ setsGood l (now (card .entry)) ⌝ }

@@ -21,7 +21,7 @@ fn kind_good(kind: u8, a: u8, b: u8, atoms: usize, i: usize) -> bool
     }
 }
 
-// Row 6: every node keeps its rule.
+// Not row 6: every node keeps its rule.
 pub fn nodes_good(card: &[u8], l: Layout) -> bool
     requires { ⌜ Laid l (now card) ⌝ }
     ensures { λ r. ⌜ r ≡ nodesGood l (now (card .entry)) ⌝ }
@@ -41,8 +41,8 @@ pub fn nodes_good(card: &[u8], l: Layout) -> bool
     good
 }
 
-// Whether an atom of a kind stands in a condition of the kind k with the parts a and b, by the marks of the lower nodes. Kinds
-// follow each other at random, so there is no jump on them.
+// Whether an atom of a kind stands in a condition of the kind k with the parts a and b, by the marks of the lower nodes. No
+// jump on the kind: in a card's check a wrong guess of it would cost more than the few bits that it saves.
 fn contains(kind: u8, k: u8, a: u8, b: u8, marks: &[bool; 256]) -> bool
     ensures { λ r. ⌜ r ≡ containsOf kind k a b (λ j. getD (now (marks .entry)) j false) ⌝ }
 {

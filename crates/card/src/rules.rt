@@ -1,12 +1,13 @@
 // Specifications, rules and the initial plan: row 7 of the refusal table.
 ghost use mathlib.Core.Path.{_≡_};
 ghost use mathlib.Core.Bool.{true, false, not, _&&_};
-ghost use Prim.Native.Nat.{_+_, _*_, _≤_, _<_};
+ghost use Prim.Native.Nat.{_+_, _≤_};
 ghost use lib.Dec.{leb};
 ghost use lib.ListN.{length, getD};
 ghost use Rattle.meaning.specs.Refusals.{within, everyEntry, nodesGood, containing, specificationGood, selectionGood, revisionGood, rulesGood};
 ghost use Rattle.layout.specs.Laid.{Laid, NarrowSpan};
 ghost use Rattle.card.specs.Marks.{Marks};
+ghost use Rattle.card.specs.Entries.{sectionOf, sizeOf, entryGood};
 use crate::nodes::all_marks;
 use crate::nodes::mark_nodes;
 use layout::header::in_range;
@@ -14,6 +15,7 @@ use layout::header::read_span;
 use layout::readers::byte_below;
 use layout::readers::number_at;
 use meaning::Layout;
+use meaning::Section;
 use meaning::Span;
 
 // A node that is not barred.
@@ -77,54 +79,66 @@ fn revision_good(card: &[u8], l: Layout, goals: &[bool; 256], at: usize) -> bool
     belief & ((first == 0) & (head & (body & (zero == 0))))
 }
 
-// Every specification.
-fn specifications_good(card: &[u8], l: Layout, goals: &[bool; 256]) -> bool
-    requires { ⌜ Laid l (now card) × Marks 2 l (now card) (now goals) ⌝ }
-    ensures { λ r. ⌜ r ≡ everyEntry 36 (l .specifications) (specificationGood (containing 2 l (now (card .entry))) l (now (card .entry))) ⌝ }
+// Where the entries of a kind lie.
+fn section_of(l: Layout, kind: u8) -> Section
+    ensures { λ r. ⌜ r ≡ sectionOf l kind ⌝ }
 {
-    let section = l.specifications;
-    let n = section.count;
-    let from = section.offset;
-    let mut good = true;
-    let mut i: usize = 0;
-    while i < n {
-        let kept = specification_good(card, l, goals, from + 36 * i);
-        good = good & kept;
-        i += 1;
+    match kind {
+        0 => l.selections,
+        1 => l.specifications,
+        _ => l.revisions,
     }
-    good
 }
 
-// Every selection rule.
-fn selections_good(card: &[u8], l: Layout, beliefs: &[bool; 256], goals: &[bool; 256]) -> bool
+// The bytes of an entry: "Selection rule, 8 bytes", "Specification, 36 bytes", "Revision rule, 12 bytes".
+fn size_of(kind: u8) -> usize
+    ensures { λ r. ⌜ r ≡ sizeOf kind ⌝ }
+{
+    match kind {
+        0 => 8,
+        1 => 36,
+        _ => 12,
+    }
+}
+
+// Whether the entry at a place keeps its kind's rule.
+fn entry_good(
+    card: &[u8],
+    l: Layout,
+    beliefs: &[bool; 256],
+    goals: &[bool; 256],
+    kind: u8,
+    at: usize,
+) -> bool
+    requires { ⌜ (at + sizeOf kind ≤ length (now card)) × Marks 1 l (now card) (now beliefs) × Marks 2 l (now card) (now goals) ⌝ }
+    ensures { λ r. ⌜ r ≡ entryGood l (now (card .entry)) kind at ⌝ }
+{
+    match kind {
+        0 => selection_good(card, l, beliefs, goals, at),
+        1 => specification_good(card, l, goals, at),
+        _ => revision_good(card, l, goals, at),
+    }
+}
+
+// Every entry of a kind.
+fn entries_good(
+    card: &[u8],
+    l: Layout,
+    beliefs: &[bool; 256],
+    goals: &[bool; 256],
+    kind: u8,
+) -> bool
     requires { ⌜ Laid l (now card) × Marks 1 l (now card) (now beliefs) × Marks 2 l (now card) (now goals) ⌝ }
-    ensures { λ r. ⌜ r ≡ everyEntry 8 (l .selections) (selectionGood (containing 1 l (now (card .entry))) (containing 2 l (now (card .entry))) l (now (card .entry))) ⌝ }
+    ensures { λ r. ⌜ r ≡ everyEntry (sizeOf kind) (sectionOf l kind) (entryGood l (now (card .entry)) kind) ⌝ }
 {
-    let section = l.selections;
+    let section = section_of(l, kind);
+    let size = size_of(kind);
     let n = section.count;
     let from = section.offset;
     let mut good = true;
     let mut i: usize = 0;
     while i < n {
-        let kept = selection_good(card, l, beliefs, goals, from + 8 * i);
-        good = good & kept;
-        i += 1;
-    }
-    good
-}
-
-// Every revision rule.
-fn revisions_good(card: &[u8], l: Layout, goals: &[bool; 256]) -> bool
-    requires { ⌜ Laid l (now card) × Marks 2 l (now card) (now goals) ⌝ }
-    ensures { λ r. ⌜ r ≡ everyEntry 12 (l .revisions) (revisionGood (containing 2 l (now (card .entry))) l (now (card .entry))) ⌝ }
-{
-    let section = l.revisions;
-    let n = section.count;
-    let from = section.offset;
-    let mut good = true;
-    let mut i: usize = 0;
-    while i < n {
-        let kept = revision_good(card, l, goals, from + 12 * i);
+        let kept = entry_good(card, l, beliefs, goals, kind, from + size * i);
         good = good & kept;
         i += 1;
     }
@@ -141,8 +155,8 @@ pub fn rules_good(card: &[u8], l: Layout) -> bool
     let mut beliefs = all_marks();
     let mut goals = all_marks();
     mark_nodes(card, l, &mut beliefs, &mut goals);
-    let specifications = specifications_good(card, l, &goals);
-    let selections = selections_good(card, l, &beliefs, &goals);
-    let revisions = revisions_good(card, l, &goals);
+    let specifications = entries_good(card, l, &beliefs, &goals, 1);
+    let selections = entries_good(card, l, &beliefs, &goals, 0);
+    let revisions = entries_good(card, l, &beliefs, &goals, 2);
     specifications & (selections & (revisions & span_good(pool.count, 0, initial)))
 }

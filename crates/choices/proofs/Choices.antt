@@ -17,7 +17,7 @@ use Rattle.meaning.proofs.Accepted.{length-entries}
 use Rattle.choices.specs.declared.enabled.Chosen.{Chosen}
 use Rattle.choices.specs.Choosing.{choiceAt, countOf, chosen, firstEnabled}
 
-abbrev pub orElse : Chosen → Chosen → Chosen
+abbrev orElse : Chosen → Chosen → Chosen
 orElse (Chosen.At k n) b = Chosen.At k n
 orElse Chosen.Nothing b = b
 

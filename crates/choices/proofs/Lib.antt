@@ -1,4 +1,3 @@
 pub mod Truths
 pub mod Enabledness
 pub mod Choices
-pub mod Zeros

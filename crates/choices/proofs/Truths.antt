@@ -13,7 +13,7 @@ use Rattle.paper.proofs.Relation.{false≢true}
 use Rattle.meaning.specs.declared.Layout.{Layout}
 use Rattle.meaning.specs.Card.{Bytes, queryOf, conditions, condition}
 use Rattle.meaning.specs.Refusals.{nodesGood, containsOf, containing}
-use Rattle.meaning.proofs.Nodes.{node-rule, made-of, contains-at, condition-at}
+use Rattle.meaning.proofs.Nodes.{node-rule, made-of, made-from, contains-at, condition-at}
 use Rattle.layout.specs.Laid.{kindOf, aOf, bOf}
 use Rattle.card.specs.GoodCard.{GoodCondition}
 use Rattle.choices.specs.Truth.{truthOf, truths}
@@ -34,11 +34,8 @@ module _ (l : Layout) (b : Bytes) (good : nodesGood l b ≡ true) (σ γ : Atoms
   -- a turn of the pass: what is marked at node i by marks that are right below it
   pub truth-next : (i : ℕ) → i < l .nodes .count → (marks : List Bool) → ((j : ℕ) → j < i → getD marks j false ≡ getD (truths l b σ γ) j false)
       → truthOf (kindOf l b i) (aOf l b i) (bOf l b i) σ γ (λ j. getD marks j false) ≡ getD (truths l b σ γ) i false
-  truth-next i h marks same =
-      let r = node-rule l b good i h in
-      truth-children σ γ (kindOf l b i) (aOf l b i) (bOf l b i) (λ j. getD marks j false) (λ j. getD (truths l b σ γ) j false)
-      (λ k. same (aOf l b i) (r .first k)) (λ k. same (bOf l b i) (r .second k))
-      ∙ sym (truth-at i h)
+  unfolding truths
+  truth-next i h marks same = made-from l b good i h (λ k a b t. truthOf k a b σ γ t) false (truth-children σ γ) (λ j. getD marks j false) same
 
 -- ---- the truth of a condition of the right kind
 

@@ -9,12 +9,15 @@ use Rattle.meaning.specs.Configurations.{padded}
 use Rattle.meaning.specs.declared.Configuration.{Configuration}
 use Rattle.choices.specs.declared.mind.Mind.{Mind}
 
+-- the paper's configuration that a mind and a plan's bytes stand for
 abbrev pub mentalOf : Mind → Bytes → Config
 mentalOf m d = ⟨ m .beliefs / take (m .length) d / m .goals ⟩
 
+-- the same with its phase
 abbrev pub stateIn : Mind → Bytes → State
 stateIn m d = record { mental = mentalOf m d; phase = m .phase }
 
+-- the mind of a state
 abbrev pub mindFor : State → Mind
 mindFor s = record { beliefs = s .mental .σ; goals = s .mental .γ; length = length (s .mental .π); phase = s .phase }
 

@@ -8,7 +8,8 @@ use Rattle.paper.specs.Atoms.{Atoms, _∈_}
 use Rattle.meaning.specs.declared.Layout.{Layout}
 use Rattle.meaning.specs.Card.{Bytes, nodes, pass}
 
--- "Kind 0 true; 1 believes a; 2 has goal a; 3 not a; 4 a and b; 5 a or b", by the truth of the children
+-- 01, "The card, edition 1": "Kind 0 true …; 1 believes a; 2 has goal a …; 3 not a …; 4 a and b; 5 a or b.", by the truth of
+-- the children. An accepted card has no other kind.
 abbrev pub truthOf : ℕ → ℕ → ℕ → Atoms → Atoms → (ℕ → Bool) → Bool
 truthOf zero a b σ γ truth = true
 truthOf (suc zero) a b σ γ truth = a ∈ σ
@@ -17,6 +18,7 @@ truthOf (suc (suc (suc zero))) a b σ γ truth = not (truth a)
 truthOf (suc (suc (suc (suc zero)))) a b σ γ truth = truth a && truth b
 truthOf (suc (suc (suc (suc (suc k))))) a b σ γ truth = truth a || truth b
 
+-- the truth of every node
 unfoldable pub truths : Layout → Bytes → Atoms → Atoms → List Bool
 truths l b σ γ = pass (λ i n truth. truthOf (n .kind) (n .a) (n .b) σ γ truth) false (nodes l b)
 

@@ -41,7 +41,7 @@ fn plan_good(plan: &[u8; 1024], n: usize, actions: usize) -> bool
     known & zeros_after(plan, n)
 }
 
-// Whether a mind and its plan, which has its 1,024 bytes, are what row 13 asks for.
+// Whether a mind and its plan, which has its 1,024 bytes, are not what row 13 refuses.
 fn mind_good(l: Layout, m: Mind, plan: &[u8; 1024]) -> bool
     requires { ⌜ l .atoms ≤ 128 ⌝ }
     ensures { λ r. ⌜ (r ≡ configurationGood l (configurationIn m (now (plan .entry)))) × (length (now (plan .entry)) ≡ 1024) ⌝ }

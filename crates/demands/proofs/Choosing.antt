@@ -37,11 +37,11 @@ pub reached : (s : State) → length (s .mental .π) ≤ 1024 → StandsFor (con
 reached s f = record { handed-out = refl; stands-for = configuration-laws .of-state s f }
 
 -- the code's move fits
-abbrev pub Fitting : Bytes → Configuration → ℕ → Type 0
+abbrev Fitting : Bytes → Configuration → ℕ → Type 0
 Fitting b c n = (k : Choice) × ((c′ : Config) × (ChosenMove b c n k c′ × (length (c′ .π) ≤ 1024)))
 
 -- the code's move leaves a plan that is too long
-abbrev pub TooLong : Bytes → Configuration → ℕ → Type 0
+abbrev TooLong : Bytes → Configuration → ℕ → Type 0
 TooLong b c n = (k : Choice) × ((c′ : Config) × (ChosenMove b c n k c′ × (1024 < length (c′ .π))))
 
 -- the code has no move

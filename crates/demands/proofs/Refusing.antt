@@ -16,7 +16,8 @@ use Rattle.meaning.specs.Card.{Bytes}
 use Rattle.meaning.specs.Configurations.{empty}
 use Rattle.meaning.specs.Refusals.{numberOf, answerNumber}
 use Rattle.meaning.proofs.Tables.{done≢refused}
-use Rattle.demands.specs.Demands.{doneOrCard, checkedNumber}
+use Rattle.meaning.specs.Numbers.{checkedNumber}
+use Rattle.demands.specs.Demands.{doneOrCard}
 use Rattle.demands.proofs.Among.{wider, card-among, configuration-among}
 use Rattle.demands.proofs.Ways.{Checking, Replying, Grading, Writing, Taking, Running, good, refused, done, no-room, not-enabled, plan-full}
 

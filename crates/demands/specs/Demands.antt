@@ -27,7 +27,8 @@ use Rattle.meaning.specs.declared.Written.{Written}
 use Rattle.meaning.specs.declared.Ran.{Ran}
 use Rattle.meaning.specs.Card.{Bytes, weight, agent, initialPlan}
 use Rattle.meaning.specs.Configurations.{stateOf, configurationOf, empty}
-use Rattle.meaning.specs.Refusals.{numberOf, answerNumber, cardAnswer, configurationAnswer}
+use Rattle.meaning.specs.Numbers.{checkedNumber}
+use Rattle.meaning.specs.Refusals.{answerNumber, cardAnswer, configurationAnswer}
 use Rattle.meaning.specs.Calls.{choice}
 use Rattle.demands.specs.Contracts.{Checks, Loads, Grades, Lists, Takes, Runs, Saves, Restores, Shaped}
 
@@ -36,11 +37,6 @@ use Rattle.demands.specs.Contracts.{Checks, Loads, Grades, Lists, Takes,
 -- 01, "Numbers the guide may answer": "done", and "the card first with 1 to 9"; a place's 1, 2, 3, 4, 8 and 9 are among them.
 unfoldable pub doneOrCard : List ℕ
 doneOrCard = 0 ∷ 1 ∷ 2 ∷ 3 ∷ 4 ∷ 5 ∷ 6 ∷ 7 ∷ 8 ∷ 9 ∷ []
-
--- 01, "Numbers the guide may answer": the number of what check answers.
-unfoldable pub checkedNumber : Checked → ℕ
-checkedNumber (Checked.Good l) = 0
-checkedNumber (Checked.Refused r) = numberOf r
 
 -- 00, demand 1, of every answer that meets a call's contract. That each call ends is proved with its code.
 pub record Demand1 : Type 0 where
@@ -114,7 +110,7 @@ pub record RoomFor (n : ℕ) (out : List ℕ) (a : Answer) : Type 0 where
   -- 01, "Numbers the guide may answer", row 12: "too short"
   pub no-room-exactly : (a ≡ Refused Refusal.NoRoom) ↔ (length out < n)
 
--- 00, demand 2: "A chosen move …, if it is such a transition": the one that the code n stands for. 01, "A configuration and its
+-- 00, demand 2: "A chosen move … such a transition": the one that the code n stands for. 01, "A configuration and its
 -- transitions": "A choice is coded as 256 times the kind (0 selection, 1 action, 2 revision) plus the number".
 pub record ChosenMove (b : Bytes) (c : Configuration) (n : ℕ) (k : Choice) (c′ : Config) : Type 0 where
   pub coded : code k ≡ n
@@ -163,7 +159,7 @@ pub record Demand2 : Type 0 where
   -- 01, "A configuration and its transitions": "A choice is coded as …": a code in the list is read as the choice it stands for.
   pub read-back : (b : Bytes) (c : Configuration) → OnAccepted b c → (k : Choice) (c′ : Config) → Transition b c k c′
       → choice (code k) ≡ some k
-  -- 01, "Numbers the guide may answer", row 10: "the code is no enabled choice": none of "the list of enabled choices".
+  -- 01, "Numbers the guide may answer", row 10: "the code is no enabled choice": none of "The list of enabled choices".
   pub offered : (b : Bytes) (c : Configuration) → OnAccepted b c → (out left : List ℕ) (r : Written) → Lists b c out r left
       → r .answer ≡ Done → (n : ℕ) (r′ : Reply) → Takes b c n r′
       → List·Memᴰ n (take (r .count) left) ↔ (r′ .answer ≡ Refused Refusal.NotEnabled → ⊥)

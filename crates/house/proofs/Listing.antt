@@ -6,12 +6,12 @@ use mathlib.Core.List.{List, [], _∷_, _++_, map, append-nil, List·Memᴰ, Lis
 use Prim.Native.Nat.{ℕ, zero, suc, _+_, _≤_}
 use native.Mathlib.Omega.{arith}
 use lib.ListN.{length}
-use Rattle.paper.specs.Language.{Agent, Config}
+use Rattle.paper.specs.Language.{Agent}
 use Rattle.paper.specs.Transitions.{Choice, select, act, revise}
 use Rattle.paper.specs.Next.{enabled}
 use Rattle.paper.proofs.Relation.{enabled-exactly}
 use Rattle.house.specs.Order.{kind, number, code, numbers, ofKind, inTurn, keep, enabledCodes}
-use Rattle.house.specs.Theorems.{Rising, nothing, one, more, Numbered, ListLaws}
+use Rattle.house.specs.Theorems.{Rising, nothing, one, more, Numbered, ListLaw}
 use Rattle.house.proofs.Order.{mem-map, tried}
 
 -- ---- members
@@ -97,7 +97,7 @@ codes-up A t h =
 
 -- ---- the list
 
-pub list-laws : (A : Agent) (c : Config) → ListLaws A c
+pub list-laws : ListLaw
 unfolding enabledCodes
 list-laws A c =
     record {

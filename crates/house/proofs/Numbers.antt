@@ -9,7 +9,7 @@ use native.Mathlib.Omega.{arith}
 use lib.ListN.{length, getD, getElem?, length-map}
 use Rattle.house.specs.Order.{numbers}
 
-pub length-numbers : (k n : ℕ) → length (numbers k n) ≡ n
+length-numbers : (k n : ℕ) → length (numbers k n) ≡ n
 unfolding numbers
 length-numbers k zero = refl
 length-numbers k (suc n) = ap suc (length-numbers (suc k) n)

@@ -13,7 +13,7 @@ use Rattle.paper.specs.Transitions.{Choice, select, act, revise, Entry, Step, e
 use Rattle.paper.specs.Next.{next}
 use Rattle.paper.proofs.Relation.{none≢some, some-inj, sound, complete}
 use Rattle.house.specs.Order.{State, kind, numbers, ofKind, inTurn, after, Move, firstMove, guide}
-use Rattle.house.specs.Theorems.{AtRest, GuideTakes, OrderLaws}
+use Rattle.house.specs.Theorems.{AtRest, GuideTakes, OrderLaw}
 
 -- ---- every choice that has a transition is tried
 
@@ -21,7 +21,7 @@ pub mem-map : {X Y : Type 0} (f : X → Y) {x : X} {xs : List X} → List·Mem�
 mem-map f (List·Memᴰ·head e) = List·Memᴰ·head (ap f e)
 mem-map f (List·Memᴰ·tail h) = List·Memᴰ·tail (mem-map f h)
 
-pub mem-numbers : (k m i : ℕ) → i < m → List·Memᴰ (k + i) (numbers k m)
+mem-numbers : (k m i : ℕ) → i < m → List·Memᴰ (k + i) (numbers k m)
 unfolding numbers
 mem-numbers k zero i h = absurd (not-suc-le-zero h)
 mem-numbers k (suc m) zero h = List·Memᴰ·head (add-zero k)
@@ -144,5 +144,5 @@ rests A s = (λ e k c′ x. no-step A (none-found A (s .mental) (inTurn A (s .ph
     nothing-next r k none h = h
     nothing-next r k (some c′) h = absurd (r k c′ (complete A (s .mental) c′ k h))
 
-pub order-laws : (A : Agent) (s : State) → OrderLaws A s
+pub order-laws : OrderLaw
 order-laws A s = record { takes = guide-takes A s; rests = rests A s }

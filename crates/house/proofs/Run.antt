@@ -33,7 +33,7 @@ module _ (A : Agent) (b : ℕ) (s : State) where
 
 -- ---- the guide's chain is a chain of the definition
 
-pub guided-chain : {A : Agent} {s s′ : State} {ks : List Choice} → Guided A s ks s′ → Chain A (s .mental) ks (s′ .mental)
+guided-chain : {A : Agent} {s s′ : State} {ks : List Choice} → Guided A s ks s′ → Chain A (s .mental) ks (s′ .mental)
 guided-chain ends = stay
 guided-chain (goes {s = s} m e h r) = _then_ (guide-takes _ s m e .step) (guided-chain r)
 

@@ -58,7 +58,9 @@ after k c = record { mental = c; phase = (kind k + 1) % 3 }
 -- A choice with the state that it leads to. Serves guide: 01, "A configuration and its transitions", The guide's order: "the
 -- lowest number is taken".
 pub record Move : Type 0 where
+  -- what is taken
   pub choice : Choice
+  -- where it leads
   pub to : State
 
 -- The first transition among some choices. Serves guide.

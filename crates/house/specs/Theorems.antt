@@ -43,6 +43,10 @@ pub record OrderLaws (A : Agent) (s : State) : Type 0 where
   -- exactly when no transition exists.
   pub rests : (guide A s ≡ none) ↔ AtRest A (s .mental)
 
+-- 00, demand 2: "The guide's own order is document 01's.", of every agent and state.
+abbrev pub OrderLaw : Type 0
+OrderLaw = (A : Agent) (s : State) → OrderLaws A s
+
 -- 01, "Numbers the guide may answer": "rising, each once": each number is over the one before it. Serves ListLaws.
 pub data Rising : List ℕ → Type 0 where
   nothing : Rising []
@@ -66,6 +70,10 @@ pub record ListLaws (A : Agent) (c : Config) : Type 0 where
   pub only : (n : ℕ) → List·Memᴰ n (enabledCodes A c) → (k : Choice) × (code k ≡ n) × ((c′ : Config) × Step A c k c′)
   -- 01, "Numbers the guide may answer": "rising, each once"
   pub rising : Numbered A → Rising (enabledCodes A c)
+
+-- The same of every agent and configuration.
+abbrev pub ListLaw : Type 0
+ListLaw = (A : Agent) (c : Config) → ListLaws A c
 
 -- 01, "A configuration and its transitions": "the definition's own chain", where each choice is the guide's and what it leaves
 -- fits. Serves Traced.

@@ -7,14 +7,17 @@ use Rattle.meaning.specs.declared.Span.{Span}
 use Rattle.meaning.specs.declared.Layout.{Layout}
 use Rattle.meaning.specs.Card.{Bytes, byte, layout, entryAt}
 
+-- a section whose count and offset are numbers of two bytes
 pub record NarrowSection (s : Section) : Type 0 where
   pub count : s .count ≤ 65535
   pub offset : s .offset ≤ 65535
 
+-- a plan whose start and length are numbers of two bytes
 pub record NarrowSpan (s : Span) : Type 0 where
   pub start : s .start ≤ 65535
   pub length : s .length ≤ 65535
 
+-- 01, "The card, edition 1": "Numbers are two bytes", of every number of a layout
 pub record Narrow (l : Layout) : Type 0 where
   pub atoms : l .atoms ≤ 65535
   pub actions : l .actions ≤ 65535

@@ -56,7 +56,7 @@ pub fn in_range(low: usize, high: usize, n: usize) -> bool
     (low <= n) & (n <= high)
 }
 
-// Row 3: every count is in its range.
+// Not row 3: every count is in its range.
 pub fn counts_good(l: Layout) -> bool
     ensures { λ r. ⌜ r ≡ countsGood l ⌝ }
 {
@@ -73,7 +73,7 @@ pub fn counts_good(l: Layout) -> bool
                         & ((revisions.count <= 256) & (pool.count <= 8192))))))
 }
 
-// Row 4: every offset, and the length n of the whole, is the required one.
+// Not row 4: every offset, and the length n of the whole, is the required one.
 pub fn offsets_good(l: Layout, n: usize) -> bool
     requires { ⌜ Narrow l ⌝ }
     ensures { λ r. ⌜ r ≡ offsetsGood l n ⌝ }

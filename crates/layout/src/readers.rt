@@ -1,4 +1,4 @@
-// Readers of bytes, a card's or a place's: a number or a set from a place on.
+// Readers of bytes, a card's or a place's: a number or a set from an offset on.
 ghost use mathlib.Core.Path.{_≡_};
 ghost use Prim.Native.Nat.{_+_, _*_, _≤_};
 ghost use lib.Dec.{ltb};
@@ -12,7 +12,7 @@ fn joined(low: u8, high: u8) -> usize
     (low as usize) + 256 * (high as usize)
 }
 
-// The number at a place.
+// The number at an offset.
 pub fn number_at(bytes: &[u8], at: usize) -> usize
     requires { ⌜ at + 2 ≤ length (now bytes) ⌝ }
     ensures { λ r. ⌜ (r ≡ numberAt (now (bytes .entry)) at) × (r ≤ 65535) ⌝ }
@@ -27,7 +27,7 @@ pub fn byte_below(x: u8, n: usize) -> bool
     (x as usize) < n
 }
 
-// The set at a place.
+// The set at an offset.
 pub fn set_at(bytes: &[u8], at: usize) -> [u8; 16]
     requires { ⌜ at + 16 ≤ length (now bytes) ⌝ }
     ensures { λ r. ⌜ r ≡ part (now (bytes .entry)) at 16 ⌝ }

@@ -17,7 +17,7 @@ use Rattle.meaning.specs.declared.Section.{Section}
 use Rattle.meaning.specs.declared.Layout.{Layout}
 use Rattle.meaning.specs.Card.{Bytes, layout, entryAt, entries, weightAt, weights, weight, agentOf, agentFor, agent, initialPlan}
 use Rattle.meaning.specs.Refusals.{all, within, countsGood, weightsGood, cardTable, cardAnswer}
-use Rattle.meaning.specs.Theorems.{Accepted, CardLaws}
+use Rattle.meaning.specs.Theorems.{Accepted, CardLaw}
 use Rattle.meaning.proofs.Tables.{passes}
 
 pub accepted : (b : Bytes) → cardAnswer b ≡ Done → Accepted b
@@ -107,11 +107,11 @@ at-least-one f [] a e = omega arith
 at-least-one f (n ∷ ns) zero e = within-low 1 1024 (f n) (both (within 1 1024 (f n)) _ e .0)
 at-least-one f (n ∷ ns) (suc a) e = at-least-one f ns a (both (within 1 1024 (f n)) _ e .1)
 
-pub weighs-something : (b : Bytes) → weightsGood (layout b) b ≡ true → (a : ℕ) → 1 ≤ weight b a
+weighs-something : (b : Bytes) → weightsGood (layout b) b ≡ true → (a : ℕ) → 1 ≤ weight b a
 unfolding weight weights weightsGood
 weighs-something b e a = at-least-one (weightAt b) (numbers 0 (layout b .actions)) a e
 
-pub card-laws : (b : Bytes) → cardAnswer b ≡ Done → CardLaws b
+pub card-laws : CardLaw
 card-laws b e =
     let a = accepted b e in
     record {

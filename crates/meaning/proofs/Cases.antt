@@ -2,12 +2,12 @@
 use mathlib.Core.Path.{refl}
 use mathlib.Core.List.{flatten}
 use Rattle.meaning.specs.Stripe.{assembled, set, specification, selection, revision, stripeWith, stripe, stripe-P4, stripe-P5, stripe-P9, stripe-P10, stripe-P13}
-use Rattle.meaning.specs.Numbers.{endingNumber, verdictNumber, verdictOffender, verdictRule, offenderNumber, offenderRule}
+use Rattle.meaning.specs.Numbers.{checkedNumber, endingNumber, verdictNumber, verdictOffender, verdictRule, offenderNumber, offenderRule}
 use Rattle.meaning.specs.Cases.{shown, shownCheck, shownReply, shownGrade, shownWritten, shownRun, configuration, loaded, afterSteps, guideCode, stepLine, takenInTurn, placeP7, resting, PCases}
 use Rattle.meaning.proofs.Computing.{computing}
 
 pub P-cases : PCases
-unfolding computing flatten assembled set specification selection revision stripeWith stripe stripe-P4 stripe-P5 stripe-P9 stripe-P10 stripe-P13 endingNumber verdictNumber verdictOffender verdictRule offenderNumber offenderRule shown shownCheck shownReply shownGrade shownWritten shownRun configuration loaded afterSteps guideCode stepLine takenInTurn placeP7 resting
+unfolding computing checkedNumber flatten assembled set specification selection revision stripeWith stripe stripe-P4 stripe-P5 stripe-P9 stripe-P10 stripe-P13 endingNumber verdictNumber verdictOffender verdictRule offenderNumber offenderRule shown shownCheck shownReply shownGrade shownWritten shownRun configuration loaded afterSteps guideCode stepLine takenInTurn placeP7 resting
 P-cases =
     record {
       accepted = refl;

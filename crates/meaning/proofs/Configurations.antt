@@ -6,7 +6,7 @@ use Prim.Native.Nat.{ℕ, _-_, _≤_}
 use native.Mathlib.Omega.{arith}
 use lib.Dec.{leb, eqb}
 use lib.ListN.{length, take, drop, replicate, length-drop, take-append-drop}
-use lib.Seq.{take-append-seam, length-take-le}
+use lib.Seq.{take-at, length-take-le}
 use borrow.Author.Tests.{leb-true, eqb-true}
 use Rattle.paper.specs.Language.{⟨_/_/_⟩}
 use Rattle.paper.proofs.Relation.{both}
@@ -17,9 +17,10 @@ use Rattle.meaning.specs.Configurations.{padded, stateOf, configurationO
 use Rattle.meaning.specs.Refusals.{all, actionsGood, setGood, configurationGood}
 use Rattle.meaning.specs.Theorems.{ConfigurationLaws}
 
-pub take-padded : (π : List ℕ) → take (length π) (padded π) ≡ π
+-- the plan is what stands before the end
+pub take-padded : (π : List ℕ) (n : ℕ) → length π ≡ n → take n (padded π) ≡ π
 unfolding padded
-take-padded π = take-append-seam π (replicate (1024 - length π) 0)
+take-padded π n e = take-at π (replicate (1024 - length π) 0) n e
 
 all-zero : (xs : List ℕ) → all (λ x. eqb x 0) xs ≡ true → xs ≡ replicate (length xs) 0
 all-zero [] e = refl
@@ -56,7 +57,7 @@ good l c e0 =
 
 of-state : (s : State) → length (s .mental .π) ≤ 1024 → stateOf (configurationOf s) ≡ s
 unfolding stateOf configurationOf
-of-state s h = λ i. record { mental = ⟨ s .mental .σ / take-padded (s .mental .π) i / s .mental .γ ⟩; phase = s .phase }
+of-state s h = λ i. record { mental = ⟨ s .mental .σ / take-padded (s .mental .π) (length (s .mental .π)) refl i / s .mental .γ ⟩; phase = s .phase }
 
 of-configuration : (l : Layout) (c : Configuration) → length (c .plan) ≡ 1024 → configurationGood l c ≡ true → configurationOf (stateOf c) ≡ c
 unfolding stateOf configurationOf

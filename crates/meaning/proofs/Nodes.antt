@@ -1,6 +1,7 @@
 -- The nodes of a card that keep their rule: where their children are, and what a pass makes of each.
-use mathlib.Core.Path.{_≡_, refl, ap, ap₂, _∙_}
+use mathlib.Core.Path.{_≡_, refl, ap, ap₂, _∙_, sym}
 use mathlib.Core.Bool.{Bool, true, false, _||_}
+use mathlib.Core.List.{List}
 use Prim.Native.Nat.{ℕ, zero, suc, _+_, _≤_, _<_}
 use native.Mathlib.Nat.{zero-add}
 use native.Mathlib.Omega.{arith}
@@ -76,8 +77,10 @@ module _ (l : Layout) (b : Bytes) where
     -- what a pass makes of node i, if it looks at the children that the kind has
     module _ {X : Type 0} (make : ℕ → ℕ → ℕ → (ℕ → X) → X) (other : X)
         (children : (k a b : ℕ) (q q′ : ℕ → X) → (3 ≤ k → q a ≡ q′ a) → (4 ≤ k → q b ≡ q′ b) → make k a b q ≡ make k a b q′) where
-      pub made-of : getD (pass (λ i n q. make (n .kind) (n .a) (n .b) q) other (nodes l b)) i other
-          ≡ make (kindOf i) (aOf i) (bOf i) (λ j. getD (pass (λ i n q. make (n .kind) (n .a) (n .b) q) other (nodes l b)) j other)
+      abbrev made : List X
+      made = pass (λ i n q. make (n .kind) (n .a) (n .b) q) other (nodes l b)
+
+      pub made-of : getD made i other ≡ make (kindOf i) (aOf i) (bOf i) (λ j. getD made j other)
       unfolding nodeAt
       made-of =
           let d = nodeAt b (entryAt 4 (l .nodes) i) in
@@ -86,6 +89,12 @@ module _ (l : Layout) (b : Bytes) where
           let p = pass-at (λ i n q. make (n .kind) (n .a) (n .b) q) other (nodes l b) i d (rw length-nodes h)
           (rw e (λ q q′ same. children (kindOf i) (aOf i) (bOf i) q q′ (λ k. same (aOf i) (r .first k)) (λ k. same (bOf i) (r .second k)))) in
           rw e at p
+
+      -- the same, from what is right below node i
+      pub made-from : (q : ℕ → X) → ((j : ℕ) → j < i → q j ≡ getD made j other) → make (kindOf i) (aOf i) (bOf i) q ≡ getD made i other
+      made-from q same =
+          let r = node-rule in
+          children (kindOf i) (aOf i) (bOf i) q (λ j. getD made j other) (λ k. same (aOf i) (r .first k)) (λ k. same (bOf i) (r .second k)) ∙ sym made-of
 
 -- ---- what is made of a node looks at the children that its kind has
 

@@ -17,15 +17,6 @@ module _ {X : Type 0} (make : ℕ → Node → (ℕ → X) → X) (other : X) wh
       keeps (made ++ (m ∷ [])) ns i (rw (length-append made (m ∷ [])) (omega arith))
       ∙ List·getD-append made (m ∷ []) other i h
 
-  length-on : (made : List X) (ns : List Node) → length (passOn make other made ns) ≡ length made + length ns
-  length-on made [] = sym (add-zero (length made))
-  length-on made (n ∷ ns) =
-      let m = make (length made) n (λ j. getD made j other) in
-      length-on (made ++ (m ∷ [])) ns ∙ (rw (length-append made (m ∷ [])) (omega arith))
-
-  pub length-pass : (ns : List Node) → length (pass make other ns) ≡ length ns
-  length-pass ns = length-on [] ns ∙ zero-add (length ns)
-
   -- what was made of node i, from what was made of those below it
   record Made (all : List X) (n : Node) (i : ℕ) : Type 0 where
     below : ℕ → X

@@ -1,5 +1,6 @@
 -- A place saved and restored is the same state; an accepted place, restored and saved, is the same bytes.
 use mathlib.Core.Path.{_≡_, refl, ap, ap₂, _∙_, sym}
+use mathlib.Core.Bool.{true}
 use mathlib.Core.List.{[], _∷_, _++_}
 use Prim.Native.Nat.{ℕ, zero, suc, _+_, _*_, _/_, _%_, _≤_, _<_}
 use native.Mathlib.Nat.{add-zero, mod-eq-of-lt}
@@ -16,7 +17,7 @@ use Rattle.meaning.specs.declared.Layout.{Layout}
 use Rattle.meaning.specs.declared.Answer.the-variants.{Done}
 use Rattle.meaning.specs.Card.{Bytes, byte, numberAt, part}
 use Rattle.meaning.specs.Place.{placeHeader, place, placed}
-use Rattle.meaning.specs.Refusals.{firstGiven, placeTable}
+use Rattle.meaning.specs.Refusals.{firstGiven, placeTable, actionsGood, setGood}
 use Rattle.meaning.specs.Theorems.{PlaceLaws}
 use Rattle.meaning.proofs.Tables.{passes}
 
@@ -47,46 +48,59 @@ front p k (suc n) h =
     let e : suc k + n ≡ k + suc n = omega arith in
     drop-cons p k 0 (omega arith) ∙ ap (λ xs. byte p k ∷ xs) (front p (suc k) n (omega arith) ∙ ap (λ m. bytesFrom p (suc k) n ++ drop m p) e)
 
--- what the rows of a place's header leave of it
-record Header (p : Bytes) : Type 0 where
-  long-enough : 44 ≤ length p
-  mark0 : byte p 0 ≡ 0x33
-  mark1 : byte p 1 ≡ 0x50
-  edition : numberAt p 2 ≡ 1
-  short-plan : numberAt p 4 ≤ 1024
-  phase : numberAt p 8 ≤ 2
-  zeros : numberAt p 10 ≡ 0
-  offset : numberAt p 6 ≡ 44
-  ends : length p ≡ 44 + numberAt p 4
+-- what its rows leave of a place
+pub record GoodPlace (l : Layout) (p : Bytes) : Type 0 where
+  pub long-enough : 44 ≤ length p
+  pub mark0 : byte p 0 ≡ 0x33
+  pub mark1 : byte p 1 ≡ 0x50
+  pub edition : numberAt p 2 ≡ 1
+  pub fits : numberAt p 4 ≤ 1024
+  pub phase : numberAt p 8 ≤ 2
+  pub zeros : numberAt p 10 ≡ 0
+  pub offset : numberAt p 6 ≡ 44
+  pub ends : length p ≡ 44 + numberAt p 4
+  pub actions : actionsGood (l .actions) (drop 44 p) ≡ true
+  pub beliefs : setGood (l .atoms) (part p 12 16) ≡ true
+  pub goals : setGood (l .atoms) (part p 28 16) ≡ true
 
-header : (y : Layout) (p : Bytes) → firstGiven (placeTable y) p ≡ Done → Header p
+pub good-place : (l : Layout) (p : Bytes) → firstGiven (placeTable l) p ≡ Done → GoodPlace l p
 unfolding placeTable
-header y p e0 =
+good-place l p e0 =
     let (h1, e1) = passes _ _ p e0 in
     let (h2, e2) = passes _ _ p e1 in
     let (h3, e3) = passes _ _ p e2 in
     let (h4, e4) = passes _ _ p e3 in
+    let (h5, e5) = passes _ _ p e4 in
+    let (h6, e6) = passes _ _ p e5 in
     let (m0, m) = both (eqb (byte p 0) 0x33) _ (not-false _ h2) in
     let (m1, m2) = both (eqb (byte p 1) 0x50) _ m in
-    let (l, r) = both (leb (numberAt p 4) 1024) _ (not-false _ h3) in
+    let (n, r) = both (leb (numberAt p 4) 1024) _ (not-false _ h3) in
     let (f, z) = both (leb (numberAt p 8) 2) _ r in
     let (o, t) = both (eqb (numberAt p 6) 44) _ (not-false _ h4) in
+    let (s, g) = both (setGood (l .atoms) (part p 12 16)) _ (not-false _ h6) in
     record {
       long-enough = leb-true _ _ (not-false _ h1);
       mark0 = eqb-true _ _ m0;
       mark1 = eqb-true _ _ m1;
       edition = eqb-true _ _ m2;
-      short-plan = leb-true _ _ l;
+      fits = leb-true _ _ n;
       phase = leb-true _ _ f;
       zeros = eqb-true _ _ z;
       offset = eqb-true _ _ o;
       ends = eqb-true _ _ t;
+      actions = not-false _ h5;
+      beliefs = s;
+      goals = g;
     }
 
-same-header : (p : Bytes) → AreBytes p → Header p → (n f : ℕ) → n ≡ numberAt p 4 → f ≡ numberAt p 8 → placeHeader n f ≡ bytesFrom p 0 12
+same-header : (y : Layout) (p : Bytes) → AreBytes p → GoodPlace y p → (n f : ℕ) → n ≡ numberAt p 4 → f ≡ numberAt p 8 → placeHeader n f ≡ bytesFrom p 0 12
 unfolding placeHeader bytesFrom
-same-header p bs h n f l k =
-    let record { long-enough = _; mark0 = m0; mark1 = m1; edition = d; short-plan = s; phase = q; zeros = z; offset = o; ends = _ } = h in
+same-header y p bs h n f l k =
+    let d = h .edition in
+    let s = h .fits in
+    let q = h .phase in
+    let z = h .zeros in
+    let o = h .offset in
     let b4 = bs 4 in
     let e2 : 1 ≡ byte p 2 = omega arith in
     let e3 : 0 ≡ byte p 3 = omega arith in
@@ -100,14 +114,14 @@ same-header p bs h n f l k =
     let e9 : f / 256 % 256 ≡ byte p 9 = omega arith in
     let e10 : 0 ≡ byte p 10 = omega arith in
     let e11 : 0 ≡ byte p 11 = omega arith in
-    λ i. sym m0 i ∷ sym m1 i ∷ e2 i ∷ e3 i ∷ e4 i ∷ e5 i ∷ e6 i ∷ e7 i ∷ e8 i ∷ e9 i ∷ e10 i ∷ e11 i ∷ []
+    λ i. sym (h .mark0) i ∷ sym (h .mark1) i ∷ e2 i ∷ e3 i ∷ e4 i ∷ e5 i ∷ e6 i ∷ e7 i ∷ e8 i ∷ e9 i ∷ e10 i ∷ e11 i ∷ []
 
 restored-saved : (y : Layout) (p : Bytes) → AreBytes p → firstGiven (placeTable y) p ≡ Done → place (placed p) ≡ p
 unfolding placed place part
 restored-saved y p bs e =
-    let h = header y p e in
+    let h = good-place y p e in
     let l : length (drop 44 p) ≡ numberAt p 4 = length-drop 44 p ∙ (let t = h .ends in omega arith) in
-    let q : placeHeader (length (drop 44 p)) (numberAt p 8) ≡ bytesFrom p 0 12 = same-header p bs h (length (drop 44 p)) (numberAt p 8) l refl in
+    let q : placeHeader (length (drop 44 p)) (numberAt p 8) ≡ bytesFrom p 0 12 = same-header y p bs h (length (drop 44 p)) (numberAt p 8) l refl in
     let r : take 16 (drop 28 p) ++ drop 44 p ≡ drop 28 p = ap (λ x. take 16 (drop 28 p) ++ x) (sym (drop-drop 16 28 p)) ∙ take-append-drop 16 (drop 28 p) in
     let s : take 16 (drop 12 p) ++ drop 28 p ≡ drop 12 p = ap (λ x. take 16 (drop 12 p) ++ x) (sym (drop-drop 16 12 p)) ∙ take-append-drop 16 (drop 12 p) in
     let n = h .long-enough in

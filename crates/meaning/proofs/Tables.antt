@@ -9,7 +9,7 @@ use Rattle.meaning.specs.declared.Refusal.{Refusal}
 use Rattle.meaning.specs.declared.Answer.{Answer}
 use Rattle.meaning.specs.declared.Answer.the-variants.{Done, Refused}
 use Rattle.meaning.specs.Refusals.{numberOf, Row, firstGiven, cardTable, placeTable, configurationTable, andThen}
-use Rattle.meaning.specs.Theorems.{FirstRow, TableLaws, TableOrder}
+use Rattle.meaning.specs.Theorems.{FirstRow, TableLaw, TableOrder}
 
 pub done≢refused : {r : Refusal} → _≡_ {A = Answer} Done (Refused r) → ⊥
 done≢refused e = let z : _≡_ {A = ℕ} 0 1 = cc in omega arith
@@ -85,8 +85,8 @@ module _ {X : Type 0} (x : X) where
   all-passed [] h = refl
   all-passed (q ∷ rows) h = not-given q rows x (h q (List·Memᴰ·head refl)) ∙ all-passed rows (λ p i. h p (List·Memᴰ·tail i))
 
-pub table-laws : {X : Type 0} (rows : List (Row X)) (x : X) → TableLaws rows x
-table-laws rows x =
+pub table-laws : TableLaw
+table-laws X rows x =
     record {
       refused-exactly = λ r. (first-row x rows r, row-first x rows r);
       done-exactly = (none-holds x rows, all-passed x rows);

@@ -12,7 +12,7 @@ use Rattle.meaning.specs.declared.Layout.{Layout}
 abbrev pub Bytes : Type 0
 Bytes = List ℕ
 
--- The byte at a place; 0 past the end. Serves numberAt and the entries: 01, "The card, edition 1": "a kind, a, b, an action, a
+-- The byte at an offset; 0 past the end. Serves numberAt and the entries: 01, "The card, edition 1": "a kind, a, b, an action, a
 -- node and a plain 0 are one byte each".
 abbrev pub byte : Bytes → ℕ → ℕ
 byte b at = getD b at 0
@@ -21,7 +21,7 @@ byte b at = getD b at 0
 abbrev pub numberAt : Bytes → ℕ → ℕ
 numberAt b at = byte b at + 256 * byte b (at + 1)
 
--- n bytes from a place on. Serves the sets (01, "The card, edition 1": "A set of atoms is 16 bytes") and plan.
+-- n bytes from an offset on. Serves the sets (01, "The card, edition 1": "A set of atoms is 16 bytes") and plan.
 unfoldable pub part : Bytes → ℕ → ℕ → Bytes
 part b at n = take n (drop at b)
 
@@ -73,8 +73,11 @@ weights l b = map (weightAt b) (numbers 0 (l .actions))
 
 -- 01, "The card, edition 1": "Node, 4 bytes: kind, a, b, 0."
 pub record Node : Type 0 where
+  -- what it is: 01, "The card, edition 1": "Kind 0 true …; 1 believes a; 2 has goal a …; 3 not a …; 4 a and b; 5 a or b."
   pub kind : ℕ
+  -- an atom or a node
   pub a : ℕ
+  -- a node
   pub b : ℕ
   -- the fourth byte, which is to be 0
   pub last : ℕ

@@ -16,8 +16,8 @@ use Rattle.meaning.specs.declared.Written.{Written}
 use Rattle.meaning.specs.declared.Ran.{Ran}
 use Rattle.meaning.specs.Card.{Bytes, weight, agent}
 use Rattle.meaning.specs.Configurations.{padded, stateOf}
-use Rattle.meaning.specs.Refusals.{numberOf, answerNumber}
-use Rattle.meaning.specs.Numbers.{endingNumber, verdictNumber, verdictOffender, verdictRule}
+use Rattle.meaning.specs.Refusals.{answerNumber}
+use Rattle.meaning.specs.Numbers.{checkedNumber, endingNumber, verdictNumber, verdictOffender, verdictRule}
 use Rattle.meaning.specs.Calls.{checks, loads, grades, lists, listLeaves, takes, runs, saves, saveLeaves, restores}
 use Rattle.meaning.specs.Stripe.{set, stripe, stripe-P4, stripe-P5, stripe-P9, stripe-P10, stripe-P13}
 
@@ -29,8 +29,7 @@ shown c = c .beliefs ++ (c .goals ++ (c .phase ∷ ListN.take (c .length) (c .pl
 
 -- What check answers in numbers: 01, "Numbers the guide may answer": "no.". Serves PCases.
 unfoldable pub shownCheck : Checked → List ℕ
-shownCheck (Checked.Good l) = 0 ∷ []
-shownCheck (Checked.Refused r) = numberOf r ∷ []
+shownCheck v = checkedNumber v ∷ []
 
 -- What load, take and restore answer in numbers: 01, "Numbers the guide may answer": "no."; then the configuration. Serves
 -- PCases.

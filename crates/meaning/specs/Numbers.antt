@@ -1,10 +1,17 @@
 -- 01, "Expected forms by place": "Where an answer is an enum, a definition gives this paper's number and values for each of its
--- cases". The numbers of the refusals are in Refusals; these are of endings, verdicts and offenders, as include/rigtemple.h has
--- them.
+-- cases". The numbers of the refusals are in Refusals; these are of what check answers, of endings, verdicts and offenders, as
+-- include/rigtemple.h has them.
 use Prim.Native.Nat.{ℕ}
 use Rattle.house.specs.declared.Ending.{Ending}
 use Rattle.house.specs.declared.Offender.{Offender}
 use Rattle.house.specs.declared.Verdict.{Verdict}
+use Rattle.meaning.specs.declared.Checked.{Checked}
+use Rattle.meaning.specs.Refusals.{numberOf}
+
+-- 01, "Numbers the guide may answer": the number of what check answers.
+unfoldable pub checkedNumber : Checked → ℕ
+checkedNumber (Checked.Good l) = 0
+checkedNumber (Checked.Refused r) = numberOf r
 
 -- 01, "A configuration and its transitions": "one of three endings", in the order in which they stand there.
 unfoldable pub endingNumber : Ending → ℕ

@@ -140,7 +140,7 @@ nodesGood l b = every (l .nodes .count) (λ i. nodeGood (l .atoms) i (nodeAt b (
 
 -- 01, "A configuration and its transitions": "A belief condition contains no goal atom, and a goal condition no belief atom.":
 -- whether an atom of a kind (1 believes, 2 has goal) stands in a node's condition, by form (docs/DECISIONS.md, "Condition of
--- the wrong kind").
+-- the wrong kind"). A kind past 5 counts as "or"; no accepted card has one.
 abbrev pub containsOf : ℕ → ℕ → ℕ → ℕ → (ℕ → Bool) → Bool
 containsOf kind zero a b contains = false
 containsOf kind (suc zero) a b contains = eqb kind 1

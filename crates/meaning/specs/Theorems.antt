@@ -15,7 +15,7 @@ use Rattle.meaning.specs.declared.Configuration.{Configuration}
 use Rattle.meaning.specs.Card.{Bytes, layout, weight, agent, initialPlan}
 use Rattle.meaning.specs.Configurations.{stateOf, configurationOf}
 use Rattle.meaning.specs.Place.{place, placed}
-use Rattle.meaning.specs.Refusals.{numberOf, Row, firstGiven, cardTable, configurationTable, cardLongEnough, cardMarkGood, countsGood, offsetsGood, weightsGood, nodesGood, containing, rulesGood, pool, actionsGood, setsGood, placeTable, configurationGood}
+use Rattle.meaning.specs.Refusals.{numberOf, cardAnswer, Row, firstGiven, cardTable, configurationTable, cardLongEnough, cardMarkGood, countsGood, offsetsGood, weightsGood, nodesGood, containing, rulesGood, pool, actionsGood, setsGood, placeTable, configurationGood}
 
 -- 01, "Numbers the guide may answer": "given exactly when" and "tested in the table's order": a row answers when what it is
 -- given for holds and nothing of the rows before it does.
@@ -41,6 +41,10 @@ pub record TableLaws {X : Type 0} (rows : List (Row X)) (x : X) : Type 0 where
   pub refused-exactly : (r : Refusal) → (firstGiven rows x ≡ Refused r) ↔ FirstRow rows x r
   -- 01, "Numbers the guide may answer", row 0: "none below holds"
   pub done-exactly : (firstGiven rows x ≡ Done) ↔ ((q : Row X) → List·Memᴰ q rows → q .when x ≡ false)
+
+-- The same of every table and what is asked of it.
+abbrev pub TableLaw : Type 1
+TableLaw = (X : Type 0) (rows : List (Row X)) (x : X) → TableLaws rows x
 
 -- The rows of a table by their numbers: 01, "Numbers the guide may answer": "no.". Serves TableOrder.
 abbrev pub rowNumbers : {X : Type 0} → List (Row X) → List ℕ
@@ -86,6 +90,10 @@ pub record CardLaws (b : Bytes) : Type 0 where
   pub numbered : Numbered (agent b)
   -- 00, demand 3: "A card is graded bounded exactly if …", and what holds "Under such a card".
   pub graded : GradeLaws (weight b) (agent b) (initialPlan b)
+
+-- 00, demands 2 and 3: "On an accepted card": each of them.
+abbrev pub CardLaw : Type 0
+CardLaw = (b : Bytes) → cardAnswer b ≡ Done → CardLaws b
 
 -- 00, demand 2: "On an accepted card and configuration": one that passes row 13 is known by its state, and a state that fits by
 -- its configuration.

@@ -8,7 +8,7 @@ use native.Mathlib.Numerals.{add-one}
 use native.Mathlib.Omega.{arith}
 use borrow.Author.Tests.{le-leb, lt-leb}
 use lib.ListN.{length, getD, take, drop, set, length-set}
-use lib.Seq.{take-suc, take-suc-set, length-take-le, drop-cons, set-at, append-snoc}
+use lib.Seq.{take-suc-set, length-take-le}
 use Rattle.paper.specs.Language.{Config}
 use Rattle.paper.specs.Transitions.{Choice}
 use Rattle.paper.specs.Next.{enabled}
@@ -23,6 +23,7 @@ use Rattle.meaning.specs.Configurations.{stateOf}
 use Rattle.meaning.specs.Refusals.{configurationAnswer}
 use Rattle.meaning.specs.Calls.{written, lists, listLeaves}
 use Rattle.meaning.proofs.Calls.{writes-room, writes-no-room}
+use Rattle.sets.proofs.Loops.{filled, filled-turn}
 use Rattle.layout.specs.Laid.{Laid}
 use Rattle.choices.specs.declared.mind.Mind.{Mind}
 use Rattle.choices.specs.Minds.{mentalOf, mindOf}
@@ -136,7 +137,7 @@ at-most-256 l b d (suc (suc k)) = d .revisions
 -- ---- codes written over a lent list
 
 pub record Writing (codes out₀ : List ℕ) (i : ℕ) (out : List ℕ) : Type 0 where
-  pub so-far : out ≡ take i codes ++ drop i out₀
+  pub so-far : out ≡ filled codes out₀ i
   pub long : length out ≡ length out₀
 
 pub writing-none : (codes out₀ : List ℕ) → Writing codes out₀ 0 out₀
@@ -144,12 +145,7 @@ writing-none codes out₀ = record { so-far = refl; long = refl }
 
 pub writing-more : (codes out₀ : List ℕ) (i : ℕ) (out : List ℕ) → Writing codes out₀ i out → i < length codes → i < length out₀ → Writing codes out₀ (i + 1) (set out i (getD codes i 0))
 writing-more codes out₀ i out w h g = record {
-  so-far =
-      ap (λ (x : List ℕ). set x i (getD codes i 0)) (w .so-far ∙ ap (λ (x : List ℕ). take i codes ++ x) (drop-cons out₀ i 0 g))
-      ∙ set-at (take i codes) (getD out₀ i 0) (drop (suc i) out₀) (getD codes i 0) i (length-take-le i codes (omega arith))
-      ∙ sym (append-snoc (take i codes) (getD codes i 0) (drop (suc i) out₀))
-      ∙ ap (λ (x : List ℕ). x ++ drop (suc i) out₀) (sym (take-suc codes i 0 h))
-      ∙ ap (λ (k : ℕ). take k codes ++ drop k out₀) (sym (add-one i));
+  so-far = ap (λ (x : List ℕ). set x i (getD codes i 0)) (w .so-far) ∙ filled-turn codes out₀ i 0 (getD codes i 0) h g refl;
   long = length-set out i (getD codes i 0) ∙ w .long;
 }
 

@@ -22,7 +22,8 @@ use Rattle.house.proofs.Run.{run-rests, run-is-full, run-goes-on}
 use Rattle.meaning.specs.declared.Layout.{Layout}
 use Rattle.meaning.specs.Card.{Bytes}
 use Rattle.meaning.specs.Configurations.{padded}
-use Rattle.plans.proofs.Laws.{take-padded, length-padded}
+use Rattle.meaning.proofs.Configurations.{take-padded}
+use Rattle.plans.proofs.Laws.{length-padded}
 use Rattle.choices.specs.declared.mind.Mind.{Mind}
 use Rattle.choices.specs.declared.enabled.Chosen.{Chosen}
 use Rattle.moves.specs.declared.outcome.Came.{Came}
@@ -119,19 +120,19 @@ module _ (A : Agent) (s : State) where
 
 -- ---- a state, held in a mind and a plan
 
-pub held-mind : (m : Mind) (d : Bytes) → Held m d → mindFor (stateIn m d) ≡ m
+held-mind : (m : Mind) (d : Bytes) → Held m d → mindFor (stateIn m d) ≡ m
 held-mind m d h =
     let f = h .fits in
     let r = h .room in
     let n : length (take (m .length) d) ≡ m .length = length-take-le (m .length) d (omega arith) in
     λ i. record { beliefs = m .beliefs; goals = m .goals; length = n i; phase = m .phase }
 
-pub holds-state : (s : State) → length (s .mental .π) ≤ 1024 → Held (mindFor s) (padded (s .mental .π))
+holds-state : (s : State) → length (s .mental .π) ≤ 1024 → Held (mindFor s) (padded (s .mental .π))
 holds-state s h =
     let t = take-padded (s .mental .π) (length (s .mental .π)) refl in
     record { fits = h; zeros = ap padded (sym t); room = length-padded (s .mental .π) h }
 
-pub state-back : (s : State) → stateIn (mindFor s) (padded (s .mental .π)) ≡ s
+state-back : (s : State) → stateIn (mindFor s) (padded (s .mental .π)) ≡ s
 state-back s = λ i. record { mental = ⟨ s .mental .σ / take-padded (s .mental .π) (length (s .mental .π)) refl i / s .mental .γ ⟩; phase = s .phase }
 
 -- ---- what a move comes to

@@ -26,6 +26,7 @@ pub data Reached : Type 0 where
   nothing full : Reached
   to : State → Reached
 
+-- a state, if its plan fits
 unfoldable pub fitting : State → Reached
 fitting s = elim (fits s) [ true ↦ to s | false ↦ full ]
 

@@ -1,4 +1,4 @@
-// The list: "The list of enabled choices goes as two-byte numbers, rising, each once."
+// The list: "The list of enabled choices goes as two-byte numbers, rising, each once, into the lent list".
 ghost use mathlib.Core.Path.{_≡_};
 ghost use mathlib.Core.List.{_++_};
 ghost use Prim.Native.Nat.{_+_, _≤_, _<_};
@@ -24,7 +24,7 @@ use meaning::Answer;
 use meaning::Layout;
 use meaning::Refusal;
 
-// The codes of a kind's enabled choices, from a place in the codes on; answers where the next may go.
+// The codes of a kind's enabled choices, from an entry of the codes on; answers where the next may go.
 fn gather_kind(
     card: &[u8],
     l: Layout,

@@ -1,4 +1,4 @@
-// A run: "at most budget transitions", each the guide's own.
+// A run: "A run takes a budget of 0 to 65,535 transitions", each the guide's own.
 ghost use mathlib.Core.Path.{_≡_};
 ghost use mathlib.Core.Logic.{_⊎_};
 ghost use Prim.Native.Nat.{_≤_};

@@ -1,4 +1,4 @@
-// Taking a choice: "A choice is taken exactly if it is a transition and its plan fits."
+// Taking a choice: "A chosen move is taken exactly if it is such a transition and its plan fits."
 ghost use mathlib.Core.Path.{_≡_};
 ghost use mathlib.Core.Logic.{_⊎_};
 ghost use Prim.Native.Nat.{_≤_, _<_};

@@ -11,7 +11,7 @@ use lib.ListN.{length, drop, getElem?}
 use Rattle.paper.specs.Language.{Plan, Letter, Query, Specification, Selection, Revision, Agent, Config, ⟨_/_/_⟩}
 use Rattle.paper.specs.Transitions.{_⊨_, Choice, select, act, revise, Entry, σ′, γ′, Step, execute, apply-PS, apply-PR}
 use Rattle.paper.specs.Next.{isEmpty, startsWith, isPrefix, canSelect, selected, canAct, acted, canRevise, revised, outcome, next, isSome, enabled}
-use Rattle.paper.specs.Theorems.{Agree}
+use Rattle.paper.specs.Theorems.{AgreeLaw}
 
 -- ---- truth values and options
 
@@ -41,7 +41,7 @@ prefix-append : (h π : Plan) → isPrefix h (h ++ π) ≡ true
 prefix-append [] π = refl
 prefix-append (a ∷ h) π = rw (T→≡ (eqb a a) (eqb-refl a)) (prefix-append h π)
 
-pub drop-append : (h π : Plan) → drop (length h) (h ++ π) ≡ π
+drop-append : (h π : Plan) → drop (length h) (h ++ π) ≡ π
 drop-append [] π = refl
 drop-append (a ∷ h) π = drop-append h π
 
@@ -154,5 +154,5 @@ pub enabled-exactly : (A : Agent) (c : Config) (k : Choice) → (enabled A c k �
 unfolding enabled
 enabled-exactly A c k = (λ e. (let (c′, h) = is-some (next A c k) e in (c′, complete A c c′ k h)), λ s. rw (sound (s .1)))
 
-pub agree : (A : Agent) → Agree A
-agree A = record { sound = sound; complete = complete A; unique = unique; enabled-exactly = enabled-exactly A }
+pub agree : AgreeLaw
+agree A = record { none-missing = sound; none-added = complete A; unique = unique; enabled-exactly = enabled-exactly A }

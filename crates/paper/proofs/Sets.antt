@@ -43,13 +43,13 @@ two-digits P a b c d zero (suc (suc v)) h k = absurd (omega arith)
 two-digits P a b c d (suc zero) (suc (suc v)) h k = absurd (omega arith)
 two-digits P a b c d (suc (suc u)) v h k = absurd (omega arith)
 
-pub bit-or : (i x y : ℕ) → bit i (bitOr x y) ≡ bit i x || bit i y
+bit-or : (i x y : ℕ) → bit i (bitOr x y) ≡ bit i x || bit i y
 unfolding bit
 bit-or i x y =
     rw (digit-or i x y)
     (two-digits (λ u v. eqb (bitOr u v) 1 ≡ eqb u 1 || eqb v 1) refl refl refl refl (digit i x) (digit i y) (digit-lt i x) (digit-lt i y))
 
-pub bit-minus : (i x y : ℕ) → bit i (bitXor x (bitAnd x y)) ≡ bit i x && not (bit i y)
+bit-minus : (i x y : ℕ) → bit i (bitXor x (bitAnd x y)) ≡ bit i x && not (bit i y)
 unfolding bit
 bit-minus i x y =
     rw (digit-xor i x (bitAnd x y), digit-and i x y)

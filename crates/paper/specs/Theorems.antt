@@ -41,10 +41,14 @@ pub record ActionLaws : Type 0 where
 -- and the function agree in both directions, and a choice has at most one outcome.
 pub record Agree (A : Agent) : Type 0 where
   -- 00, demand 2: "none missing"
-  pub sound : {c c′ : Config} {k : Choice} → Step A c k c′ → next A c k ≡ some c′
+  pub none-missing : {c c′ : Config} {k : Choice} → Step A c k c′ → next A c k ≡ some c′
   -- 00, demand 2: "none added"
-  pub complete : (c c′ : Config) (k : Choice) → next A c k ≡ some c′ → Step A c k c′
+  pub none-added : (c c′ : Config) (k : Choice) → next A c k ≡ some c′ → Step A c k c′
   -- 01, "What the contracts settle": "the contract determines the answer"
   pub unique : {c c′ c″ : Config} {k : Choice} → Step A c k c′ → Step A c k c″ → c′ ≡ c″
   -- 01, "A configuration and its transitions": "Enabled if …": exactly if the definitions have a transition by that choice.
   pub enabled-exactly : (c : Config) (k : Choice) → (enabled A c k ≡ true) ↔ ((c′ : Config) × Step A c k c′)
+
+-- 00, demand 2, of every agent.
+abbrev pub AgreeLaw : Type 0
+AgreeLaw = (A : Agent) → Agree A

@@ -4,23 +4,23 @@ use mathlib.Core.Bool.{Bool, true, false}
 use mathlib.Core.List.{_++_}
 use Prim.Native.Nat.{ℕ, _+_, _≤_}
 use native.Mathlib.Omega.{arith}
-use borrow.Author.Tests.{leb-true, eqb-true, not-false}
-use lib.Dec.{leb, eqb}
+use borrow.Author.Tests.{leb-true}
+use lib.Dec.{leb}
 use lib.ListN.{length, take, drop, length-append}
 use lib.Seq.{length-take-le}
-use Rattle.paper.proofs.Relation.{both}
 use Rattle.meaning.specs.declared.Refusal.{Refusal}
 use Rattle.meaning.specs.declared.Layout.{Layout}
 use Rattle.meaning.specs.declared.Configuration.{Configuration}
 use Rattle.meaning.specs.declared.Answer.{Answer}
 use Rattle.meaning.specs.declared.Answer.the-variants.{Done, Refused}
-use Rattle.meaning.specs.Card.{Bytes, numberAt, layout}
+use Rattle.meaning.specs.Card.{Bytes, layout}
 use Rattle.meaning.specs.Place.{placeHeader, place, placed}
 use Rattle.meaning.specs.Configurations.{stateOf, configurationOf, empty}
 use Rattle.meaning.specs.Refusals.{firstGiven, placeTable, andThen, cardAnswer, placeAnswer, configurationTable, configurationGood, configurationAnswer}
 use Rattle.meaning.specs.Calls.{reply, restores, written, roomFor, writeAnswer, saves, saveLeaves}
-use Rattle.meaning.proofs.Tables.{passes, and-then-done, done≢refused}
+use Rattle.meaning.proofs.Tables.{and-then-done, done≢refused}
 use Rattle.meaning.proofs.Configurations.{Good, good}
+use Rattle.meaning.proofs.Places.{good-place}
 use Rattle.meaning.proofs.Calls as Calls
 use Rattle.meaning.proofs.Calls.{written-done, written-refused}
 use Rattle.card.specs.Stair.{rowAnswer}
@@ -33,16 +33,9 @@ few-atoms b l ok q = good-card l b ok q .laid .atoms
 
 -- what the rows of a place's header leave of it
 pub sized : (l : Layout) (p : Bytes) → firstGiven (placeTable l) p ≡ Done → Sized p
-unfolding placeTable
-sized l p e0 =
-    let (h1, e1) = passes _ _ p e0 in
-    let (h2, e2) = passes _ _ p e1 in
-    let (h3, e3) = passes _ _ p e2 in
-    let (h4, e4) = passes _ _ p e3 in
-    let (n, r) = both (leb (numberAt p 4) 1024) _ (not-false _ h3) in
-    let (f, z) = both (leb (numberAt p 8) 2) _ r in
-    let (o, t) = both (eqb (numberAt p 6) 44) _ (not-false _ h4) in
-    record { fits = leb-true _ _ n; phase = leb-true _ _ f; ends = eqb-true _ _ t }
+sized l p e =
+    let g = good-place l p e in
+    record { fits = g .fits; phase = g .phase; ends = g .ends }
 
 -- what the two rows of a save leave
 pub saved-good : (l : Layout) (c : Configuration) (room : ℕ) → savedFrom l c room ≡ Done → Good l c × (44 + c .length ≤ room)

@@ -13,7 +13,7 @@ use meaning::Answer;
 use meaning::Layout;
 use meaning::Refusal;
 
-// Row 9: "a set has a bit at or above the number of atoms". The beliefs stand at 12, the goals at 28.
+// Not row 9: "a set has a bit at or above the number of atoms". The beliefs stand at 12, the goals at 28.
 fn sets_good(p: &[u8], atoms: usize) -> bool
     requires { ⌜ (44 ≤ length (now p)) × (atoms ≤ 128) ⌝ }
     ensures { λ r. ⌜ r ≡ placeSetsGood atoms (now (p .entry)) ⌝ }
@@ -29,7 +29,7 @@ fn from_sets(l: Layout, p: &[u8]) -> Answer
     row(sets_good(p, l.atoms), Refusal::Atom)
 }
 
-// Row 8: "a pool or plan byte is not below the number of actions".
+// Not row 8: "a pool or plan byte is not below the number of actions".
 fn plan_good(p: &[u8], actions: usize) -> bool
     requires { ⌜ 44 ≤ length (now p) ⌝ }
     ensures { λ r. ⌜ r ≡ actionsGood actions (drop 44 (now (p .entry))) ⌝ }
@@ -49,7 +49,7 @@ fn from_plan(l: Layout, p: &[u8]) -> Answer
     from_sets(l, p)
 }
 
-// Row 4: "an offset or the total length is not the required one". "plan offset 44 at 6 … Exactly 44 + L bytes."
+// Not row 4: "an offset or the total length is not the required one". "plan offset 44 at 6 … Exactly 44 + L bytes."
 fn offsets_good(p: &[u8]) -> bool
     requires { ⌜ 44 ≤ length (now p) ⌝ }
     ensures { λ r. ⌜ r ≡ placeOffsetsGood (now (p .entry)) ⌝ }
@@ -71,7 +71,7 @@ fn from_offsets(l: Layout, p: &[u8]) -> Answer
     from_plan(l, p)
 }
 
-// Row 3: "in a place L over 1,024, phase over 2, or bytes 10 and 11 not zero".
+// Not row 3: "in a place L over 1,024, phase over 2, or bytes 10 and 11 not zero".
 fn counts_good(p: &[u8]) -> bool
     requires { ⌜ 44 ≤ length (now p) ⌝ }
     ensures { λ r. ⌜ r ≡ placeCountsGood (now (p .entry)) ⌝ }
@@ -94,7 +94,7 @@ fn from_counts(l: Layout, p: &[u8]) -> Answer
     from_offsets(l, p)
 }
 
-// Row 2: "first two bytes or edition differ". "Bytes 33 50 hex; edition 1 at 2".
+// Not row 2: "first two bytes or edition differ". "Bytes 33 50 hex; edition 1 at 2".
 fn mark_good(p: &[u8]) -> bool
     requires { ⌜ 44 ≤ length (now p) ⌝ }
     ensures { λ r. ⌜ r ≡ placeMarkGood (now (p .entry)) ⌝ }

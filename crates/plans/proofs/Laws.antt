@@ -17,14 +17,13 @@ use Rattle.paper.proofs.Relation.{both, false≢true}
 use Rattle.meaning.specs.Card.{part}
 use Rattle.meaning.specs.Configurations.{padded}
 use Rattle.meaning.specs.Refusals.{every}
-use Rattle.meaning.proofs.Configurations as Configurations
 use Rattle.meaning.proofs.Every.{both-true, same-truth, every-at, every-of}
 use Rattle.meaning.proofs.Parts.{length-part, part-at}
 
 -- ---- bytes that are copied over others
 
 -- what stands behind the copy is as it was
-pub getD-after : (d : List ℕ) (at : ℕ) (s : List ℕ) (n k : ℕ) → at + n ≤ k → at ≤ length d → n ≤ length s → getD (paste d at s n) k 0 ≡ getD d k 0
+getD-after : (d : List ℕ) (at : ℕ) (s : List ℕ) (n k : ℕ) → at + n ≤ k → at ≤ length d → n ≤ length s → getD (paste d at s n) k 0 ≡ getD d k 0
 getD-after d at s n k h hd hs =
     let p : List ℕ = take at d ++ take n s in
     let lp : length p ≡ at + n = length-paste-head d at s n hd hs in
@@ -36,14 +35,14 @@ getD-after d at s n k h hd hs =
     ∙ ap (λ (x : ℕ). getD d x 0) f
 
 -- and so is what stands before it
-pub getD-before : (d : List ℕ) (at : ℕ) (s : List ℕ) (n k : ℕ) → k < at → at ≤ length d → getD (paste d at s n) k 0 ≡ getD d k 0
+getD-before : (d : List ℕ) (at : ℕ) (s : List ℕ) (n k : ℕ) → k < at → at ≤ length d → getD (paste d at s n) k 0 ≡ getD d k 0
 getD-before d at s n k h hd =
     let l : length (take at d) ≡ at = length-take-le at d hd in
     List·getD-append (take at d ++ take n s) (drop (at + n) d) 0 k (omega (arith, length-append (take at d) (take n s)))
     ∙ List·getD-append (take at d) (take n s) 0 k (omega arith)
     ∙ getD-take at d k 0 h
 
-pub drop-after : (d : List ℕ) (at : ℕ) (s : List ℕ) (n k : ℕ) → at + n ≤ k → at ≤ length d → n ≤ length s → drop k (paste d at s n) ≡ drop k d
+drop-after : (d : List ℕ) (at : ℕ) (s : List ℕ) (n k : ℕ) → at + n ≤ k → at ≤ length d → n ≤ length s → drop k (paste d at s n) ≡ drop k d
 drop-after d at s n k h hd hs =
     let e : at + n + (k - (at + n)) ≡ k = omega arith in
     ap (λ (x : ℕ). drop x (paste d at s n)) (sym e)
@@ -113,12 +112,12 @@ clear-more d from to i h ht hd =
 
 -- ---- zeros after the end
 
-pub drop-replicate : (m n a : ℕ) → drop m (replicate n a) ≡ replicate (n - m) a
+drop-replicate : (m n a : ℕ) → drop m (replicate n a) ≡ replicate (n - m) a
 drop-replicate zero n a = rw sub-zero
 drop-replicate (suc m) zero a = rw zero-sub
 drop-replicate (suc m) (suc n) a = rw (suc-sub-suc n m) (drop-replicate m n a)
 
-pub drop-zeros : (d : List ℕ) (len k : ℕ) → length d ≡ 1024 → d ≡ padded (take len d) → len ≤ k → len ≤ 1024 → drop k d ≡ replicate (1024 - k) 0
+drop-zeros : (d : List ℕ) (len k : ℕ) → length d ≡ 1024 → d ≡ padded (take len d) → len ≤ k → len ≤ 1024 → drop k d ≡ replicate (1024 - k) 0
 unfolding padded
 drop-zeros d len k ld z h hl =
     let l : length (take len d) ≡ len = length-take-le len d (omega arith) in
@@ -136,16 +135,7 @@ pub length-padded : (p : List ℕ) → length p ≤ 1024 → length (padded p) �
 unfolding padded
 length-padded p h = simp (length-append, length-replicate) (omega arith)
 
--- the plan is what stands before the end
-pub take-padded : (p : List ℕ) (n : ℕ) → length p ≡ n → take n (padded p) ≡ p
-unfolding padded
-take-padded p n e = ap (λ k. take k (padded p)) (sym e) ∙ Configurations.take-padded p
-
-pub padded-at : (p : List ℕ) (i : ℕ) → i < length p → getD (padded p) i 0 ≡ getD p i 0
-unfolding padded
-padded-at p i h = List·getD-append p (replicate (1024 - length p) 0) 0 i h
-
-pub drop-take : (m n : ℕ) (l : List ℕ) → drop m (take n l) ≡ take (n - m) (drop m l)
+drop-take : (m n : ℕ) (l : List ℕ) → drop m (take n l) ≡ take (n - m) (drop m l)
 drop-take zero n l = rw sub-zero
 drop-take (suc m) zero l = rw zero-sub
 drop-take (suc m) (suc n) [] = sym (take-nil (suc n - suc m))
@@ -268,7 +258,7 @@ abbrev pub Agree : List ℕ → List ℕ → ℕ → ℕ → Type 0
 Agree c d s i = (j : ℕ) → j < i → getD c (s + j) 0 ≡ getD d j 0
 
 -- m bytes of c from `at` on are those of d from `from` on
-abbrev pub block : List ℕ → List ℕ → ℕ → ℕ → ℕ → Bool
+abbrev block : List ℕ → List ℕ → ℕ → ℕ → ℕ → Bool
 block c d at from m = every m (λ j. eqb (getD c (at + j) 0) (getD d (from + j) 0))
 
 -- a head of n bytes of c from s on, and a plan in the first len of d, compared by parts

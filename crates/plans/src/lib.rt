@@ -96,7 +96,7 @@ pub fn replace_front(
     put(plan, card, bstart, blen);
 }
 
-// n bytes from a place on become the plan, whatever it was.
+// n bytes from an offset on become the plan, whatever it was.
 pub fn fill(plan: &mut [u8; 1024], bytes: &[u8], start: usize, n: usize)
     requires { ⌜ (n ≤ 1024) × (length (now plan) ≡ 1024) × (start + n ≤ length (now bytes)) ⌝ }
     ensures { λ r. ⌜ now (plan .exit) ≡ padded (part (now (bytes .entry)) start n) ⌝ }

@@ -17,14 +17,14 @@ use Rattle.meaning.specs.Refusals.{all, every}
 abbrev pub filled : {A : Type 0} → List A → List A → ℕ → List A
 filled X d i = take i X ++ drop i d
 
-module _ {A : Type 0} (X d : List A) (same : length X ≡ length d) where
-  pub filled-turn : (i : ℕ) (z v : A) → i < length d → v ≡ getD X i z → set (filled X d i) i v ≡ filled X d (i + 1)
-  filled-turn i z v h e =
-      rw (e, add-one, drop-cons d i z h, set-at (take i X) (getD d i z) (drop (suc i) d) (getD X i z) i (length-take-le i X (omega arith)), take-suc X i z (omega arith))
+module _ {A : Type 0} (X d : List A) where
+  pub filled-turn : (i : ℕ) (z v : A) → i < length X → i < length d → v ≡ getD X i z → set (filled X d i) i v ≡ filled X d (i + 1)
+  filled-turn i z v g h e =
+      rw (e, add-one, drop-cons d i z h, set-at (take i X) (getD d i z) (drop (suc i) d) (getD X i z) i (length-take-le i X (omega arith)), take-suc X i z g)
       (sym (append-snoc (take i X) (getD X i z) (drop (suc i) d)))
 
-  pub filled-all : (i : ℕ) → length d ≤ i → filled X d i ≡ X
-  filled-all i h = rw (take-all i X (omega arith), drop-of-length-le d h) (append-nil X)
+  pub filled-all : (i : ℕ) → length X ≤ i → length d ≤ i → filled X d i ≡ X
+  filled-all i g h = rw (take-all i X g, drop-of-length-le d h) (append-nil X)
 
 -- ---- an array of which what stands below i is known
 
@@ -35,18 +35,18 @@ module _ {A : Type 0} (f : ℕ → A) (l : List A) (i : ℕ) (v z : A) where
       (λ j hj. getD-set-other l i j v z (omega arith) ∙ low j hj)
       (getD-set-same l i v z h ∙ e)
 
--- ---- a question asked of every element of a list: what was found of the first i, and what is left to ask
+-- ---- a question asked of every element of a list from the n-th on: what was found up to the i-th, and what is left to ask
 
-module _ {A : Type 0} (t : A → Bool) (xs : List A) where
+module _ {A : Type 0} (t : A → Bool) (xs : List A) (n : ℕ) where
   abbrev pub Found : Bool → ℕ → Type 0
-  Found ok i = ok && all t (drop i xs) ≡ all t xs
+  Found ok i = ok && all t (drop i xs) ≡ all t (drop n xs)
 
   pub found-turn : (ok : Bool) (i : ℕ) (z : A) → i < length xs → Found ok i → Found (ok && t (getD xs i z)) (i + 1)
   found-turn ok i z h e =
       let s : all t (drop i xs) ≡ t (getD xs i z) && all t (drop (i + 1) xs) = rw (add-one, drop-cons xs i z h) in
       and-assoc ok (t (getD xs i z)) (all t (drop (i + 1) xs)) ∙ ap (λ b. ok && b) (sym s) ∙ e
 
-  pub found-all : (ok : Bool) (i : ℕ) → length xs ≤ i → Found ok i → ok ≡ all t xs
+  pub found-all : (ok : Bool) (i : ℕ) → length xs ≤ i → Found ok i → ok ≡ all t (drop n xs)
   found-all ok i h e =
       let s : all t (drop i xs) ≡ true = rw (drop-of-length-le xs h) in
       sym (ap (λ b. ok && b) s ∙ and-true ok) ∙ e

@@ -1,4 +1,4 @@
-use Rattle.demands.specs.Demands.{checkedNumber}
+use Rattle.meaning.specs.Numbers.{checkedNumber}
 use mathlib.Core.Path.{sym, ap, _∙_}
 use borrow.Author.Needs.{needs}
 use Rattle.board.proofs.rigtemple_check_parts.Statement.{statement}

@@ -41,13 +41,13 @@ loop-again c =
     let l = c .before .before .before .loop in
     let n = c .before .before .before .before .args .n in
     let at : getD (below n) (l .i) 0 ≡ lowBits (n - 8 * l .i) = at-below n (l .i) (omega arith) in
-    (omega arith, rw (l .inv .1) (filled-turn (below n) (replicate 16 0) (length-below n) (l .i) 0 _ (omega arith) (c .low-bits .ensures ∙ ap lowBits (c .before .past .ensures) ∙ sym at)))
+    (omega arith, rw (l .inv .1) (filled-turn (below n) (replicate 16 0) (l .i) 0 _ (omega (arith, length-below n)) (omega arith) (c .low-bits .ensures ∙ ap lowBits (c .before .past .ensures) ∙ sym at)))
 
 returns : tie.Need-returns Inv-loop μ-loop
 returns c =
     let l = c .before .loop in
     let n = c .before .before .args .n in
-    l .inv .1 ∙ filled-all (below n) (replicate 16 0) (length-below n) (l .i) (omega arith)
+    l .inv .1 ∙ filled-all (below n) (replicate 16 0) (l .i) (omega (arith, length-below n)) (omega arith)
 
 pub below-number-spec : {M : Type 1} → statement M
 below-number-spec =

@@ -8,7 +8,7 @@ use Rattle.sets.proofs.is_empty.Statement.{statement}
 use Rattle.sets.proofs.is_empty.Tie as tie
 
 abbrev Inv-loop : tie.InvT-loop
-Inv-loop s empty₀ i₀ empty i = (i ≤ 16) × Found (λ x. eqb x 0) s empty i
+Inv-loop s empty₀ i₀ empty i = (i ≤ 16) × Found (λ x. eqb x 0) s 0 empty i
 
 abbrev μ-loop : tie.MeasureT-loop
 μ-loop s empty₀ i₀ empty i = 16 - i
@@ -29,13 +29,13 @@ loop-again : tie.Need-loop-again Inv-loop μ-loop
 loop-again c =
     let s = c .before .before .args .t1 in
     let l = c .before .loop in
-    (omega arith, found-turn (λ x. eqb x 0) s (l .empty) (l .i) 0 (omega arith) (l .inv .1))
+    (omega arith, found-turn (λ x. eqb x 0) s 0 (l .empty) (l .i) 0 (omega arith) (l .inv .1))
 
 returns : tie.Need-returns Inv-loop μ-loop
 returns c =
     let s = c .before .before .args .t1 in
     let l = c .before .loop in
-    found-all (λ x. eqb x 0) s (l .empty) (l .i) (omega arith) (l .inv .1)
+    found-all (λ x. eqb x 0) s 0 (l .empty) (l .i) (omega arith) (l .inv .1)
 
 pub is-empty-spec : {M : Type 1} → statement M
 is-empty-spec =

@@ -41,7 +41,7 @@ loop-again c =
     let la : length a ≡ 16 = omega arith in
     let lb : length b ≡ 16 = omega arith in
     let same : length (a ∪ b) ≡ length a = length-∪ a b (la ∙ sym lb) in
-    (omega arith, rw (l .inv .1) (filled-turn (a ∪ b) a same (l .i) 0 _ (omega arith) (sym (at-∪ a b (l .i)))))
+    (omega arith, rw (l .inv .1) (filled-turn (a ∪ b) a (l .i) 0 _ (omega arith) (omega arith) (sym (at-∪ a b (l .i)))))
 
 returns : tie.Need-returns Inv-loop μ-loop
 returns c =
@@ -51,7 +51,7 @@ returns c =
     let la : length a ≡ 16 = omega arith in
     let lb : length b ≡ 16 = omega arith in
     let same : length (a ∪ b) ≡ length a = length-∪ a b (la ∙ sym lb) in
-    l .inv .1 ∙ filled-all (a ∪ b) a same (l .i) (omega arith)
+    l .inv .1 ∙ filled-all (a ∪ b) a (l .i) (omega arith) (omega arith)
 
 pub union-spec : {M : Type 1} → statement M
 union-spec =

@@ -15,7 +15,7 @@ use Rattle.card.proofs.contents.actions_good.Statement.{statement}
 use Rattle.card.proofs.contents.actions_good.Tie as tie
 
 abbrev Inv-loop : tie.InvT-loop
-Inv-loop bytes from n actions last good₀ i₀ good i = (i ≤ n) × Found (λ a. ltb a actions) (part bytes from n) good i
+Inv-loop bytes from n actions last good₀ i₀ good i = (i ≤ n) × Found (λ a. ltb a actions) (part bytes from n) 0 good i
 
 abbrev μ-loop : tie.MeasureT-loop
 μ-loop bytes from n actions last good₀ i₀ good i = n - i
@@ -58,7 +58,7 @@ loop-again c =
     let x = getD b (a .from + l .i) 0 in
     let e : leb x (c .before .before .before .last-action .result) ≡ t (getD p (l .i) 0) =
     ap (leb x) (c .before .before .before .last-action .ensures) ∙ known-by-last x (a .actions) (omega arith) (omega (arith, c .shared-slice-known2 .given (a .from + l .i))) ∙ ap t (sym (part-at b (a .from) (a .n) (l .i) (omega arith))) in
-    (omega arith, rw e (found-turn t p (l .good) (l .i) 0 (rw (length-part b (a .from) (a .n) (omega arith)) (omega arith)) (l .inv .1)))
+    (omega arith, rw e (found-turn t p 0 (l .good) (l .i) 0 (rw (length-part b (a .from) (a .n) (omega arith)) (omega arith)) (l .inv .1)))
 
 returns-2 : tie.Need-returns-2 Inv-loop μ-loop
 unfolding actionsGood
@@ -66,7 +66,7 @@ returns-2 c =
     let a = c .before .before .before .before .before .args in
     let l = c .before .loop in
     let b = now (a .bytes) in
-    found-all (λ x. ltb x (a .actions)) (part b (a .from) (a .n)) (l .good) (l .i) (rw (length-part b (a .from) (a .n) (omega arith)) (omega arith)) (l .inv .1)
+    found-all (λ x. ltb x (a .actions)) (part b (a .from) (a .n)) 0 (l .good) (l .i) (rw (length-part b (a .from) (a .n) (omega arith)) (omega arith)) (l .inv .1)
 
 pub actions-good-spec : {M : Type 1} → statement M
 actions-good-spec =

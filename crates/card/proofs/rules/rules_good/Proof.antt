@@ -12,21 +12,21 @@ all-marks-requires-2 c κs = search needs
 mark-nodes-requires : tie.Need-mark-nodes-requires
 mark-nodes-requires c κs = search needs
 
-specifications-good-requires : tie.Need-specifications-good-requires
-specifications-good-requires c κs = search needs
+entries-good-requires : tie.Need-entries-good-requires
+entries-good-requires c κs = search needs
 
-selections-good-requires : tie.Need-selections-good-requires
-selections-good-requires c κs = search needs
+entries-good-requires-2 : tie.Need-entries-good-requires-2
+entries-good-requires-2 c κs = search needs
 
-revisions-good-requires : tie.Need-revisions-good-requires
-revisions-good-requires c κs = search needs
+entries-good-requires-3 : tie.Need-entries-good-requires-3
+entries-good-requires-3 c κs = search needs
 
 span-good-requires : tie.Need-span-good-requires
 span-good-requires c κs = search needs
 
 returns : tie.Need-returns
 unfolding rulesGood
-returns c = rw (c .before .before .before .before .before .before .specifications-good .ensures, c .before .before .before .selections-good .ensures, c .before .revisions-good .ensures, c .span-good .ensures)
+returns c = rw (c .before .before .before .before .before .before .before .entries-good .ensures, c .before .before .before .before .entries-good2 .ensures, c .before .entries-good3 .ensures, c .span-good .ensures)
 
 pub rules-good-spec : {M : Type 1} → statement M
 rules-good-spec =
@@ -35,8 +35,8 @@ rules-good-spec =
     all-marks-requires
     all-marks-requires-2
     mark-nodes-requires
-    specifications-good-requires
-    selections-good-requires
-    revisions-good-requires
+    entries-good-requires
+    entries-good-requires-2
+    entries-good-requires-3
     span-good-requires
     returns)

@@ -1,15 +1,20 @@
-use Rattle.choices.proofs.Zeros.{regrouped}
 use Rattle.meaning.specs.Refusals.{configurationGood, actionsGood, setGood, all}
 use lib.Dec.{leb, eqb}
 use borrow.Author.Tests.{lt-leb, le-leb}
-use mathlib.Core.Bool.{true, false, and-assoc}
-use mathlib.Core.Path.{_≡_}
+use mathlib.Core.Bool.{Bool, true, false, _&&_, and-true, and-false, and-assoc}
+use mathlib.Core.Path.{_≡_, refl, ap, _∙_, sym}
 use native.Mathlib.Omega.{arith}
 use borrow.Author.Needs.{needs}
 use denote.Ref.{now}
 use lib.ListN.{length, take, drop}
 use Rattle.choices.proofs.configuration.mind_good.Statement.{statement}
 use Rattle.choices.proofs.configuration.mind_good.Tie as tie
+
+-- row 13's clauses in the order in which they are asked
+regrouped : (known zeros beliefs goals phase : Bool) → (known && zeros) && (beliefs && (goals && phase)) ≡ known && (beliefs && (goals && (phase && zeros)))
+regrouped false z b g p = refl
+regrouped true true b g p = ap (λ x. b && (g && x)) (sym (and-true p))
+regrouped true false b g p = sym (ap (λ x. b && (g && x)) (and-false p) ∙ ap (λ x. b && x) (and-false g) ∙ and-false b)
 
 size-requires : tie.Need-size-requires
 size-requires c κs = search needs

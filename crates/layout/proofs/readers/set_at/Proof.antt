@@ -39,14 +39,14 @@ loop-again c =
     let l = c .before .before .loop in
     let a = c .before .before .before .args in
     let b = now (a .bytes) in
-    (omega arith, rw (l .inv .1) (filled-turn (part b (a .at) 16) (replicate 16 0) (length-part b (a .at) 16 (omega arith)) (l .i) 0 _ (omega arith) (sym (part-at b (a .at) 16 (l .i) (omega arith)))))
+    (omega arith, rw (l .inv .1) (filled-turn (part b (a .at) 16) (replicate 16 0) (l .i) 0 _ (omega (arith, length-part b (a .at) 16 (omega arith))) (omega arith) (sym (part-at b (a .at) 16 (l .i) (omega arith)))))
 
 returns : tie.Need-returns Inv-loop μ-loop
 returns c =
     let l = c .before .loop in
     let a = c .before .before .args in
     let b = now (a .bytes) in
-    l .inv .1 ∙ filled-all (part b (a .at) 16) (replicate 16 0) (length-part b (a .at) 16 (omega arith)) (l .i) (omega arith)
+    l .inv .1 ∙ filled-all (part b (a .at) 16) (replicate 16 0) (l .i) (omega (arith, length-part b (a .at) 16 (omega arith))) (omega arith)
 
 pub set-at-spec : {M : Type 1} → statement M
 set-at-spec =
