@@ -1,5 +1,6 @@
 #!/usr/bin/env python3
-"""Holds docs/PROMISES.md against the tree: every file, name and edit in it is there, and every edit of the tree is in it.
+"""Holds docs/PROMISES.md against the tree: every file, name and edit in it is there, and every edit of the tree is in it; and the lines
+of definitions that docs/TRUSTED.md counts.
 
     python3 tests/promises.py [--documents DIR]    the last line is 'N passed, M failed'
     python3 tests/promises.py --lines              how many lines of definitions there are, file by file, in reading order
@@ -17,7 +18,7 @@ import sys
 from typing import NamedTuple
 
 TOP = os.path.dirname(os.path.dirname(os.path.abspath(__file__)))
-PROMISES = "docs/PROMISES.md"
+PROMISES, TRUSTED = "docs/PROMISES.md", "docs/TRUSTED.md"
 DOCUMENTS = ("00-letter.md", "01-scope.md")
 THEOREMS = "## The theorems"
 
@@ -270,6 +271,14 @@ def counted(path):
     return sum(1 for line in lines if line and not line.startswith(("--", "//", "use ", "ghost use ")))
 
 
+def check_lines(tally):
+    """The table of docs/TRUSTED.md has as many lines of definitions as there are."""
+    trusted = read(os.path.join(TOP, TRUSTED))
+    for title, files in READING:
+        number = sum(map(counted, files))
+        tally.hold(1, f"| {number} | {title} |" in trusted, f"{title} has {number} lines", TRUSTED)
+
+
 def print_lines():
     total, listed = 0, set()
     for title, files in READING:
@@ -299,6 +308,7 @@ def main():
     page = pieces(read(os.path.join(TOP, PROMISES)))
     tally = Tally()
     check_names(page, tally)
+    check_lines(tally)
     if options.documents:
         check_quotes(page, options.documents, tally)
         check_remarks(options.documents, tally)
