@@ -25,7 +25,7 @@ sys.dont_write_bytecode = True
 import cases  # noqa: E402
 import drill  # noqa: E402
 
-DEFINITIONS = ("paper", "house", "meaning")
+DEFINITIONS = ("paper", "runs", "meaning")
 CALLS = ("check", "load", "grade", "list", "take", "run", "save", "restore")
 # The checker computes a run step by step, so longer budgets are cut to this.
 LONGEST_RUN = 200
@@ -46,9 +46,9 @@ DRILL = """-- The answers of the eight calls as the drill writes them.
 use mathlib.Core.List.{List, [], _∷_, _++_, map, flatten}
 use Prim.Native.Nat.{ℕ, zero, suc}
 use lib.ListN.{length, replicate}
-use Rattle.house.specs.declared.Ending.{Ending}
-use Rattle.house.specs.declared.Offender.{Offender}
-use Rattle.house.specs.declared.Verdict.{Verdict}
+use Rattle.runs.specs.declared.Ending.{Ending}
+use Rattle.runs.specs.declared.Offender.{Offender}
+use Rattle.runs.specs.declared.Verdict.{Verdict}
 use Rattle.meaning.specs.declared.Answer.{Answer}
 use Rattle.meaning.specs.declared.Answer.the-variants.{Done, Refused}
 use Rattle.meaning.specs.declared.Configuration.{Configuration}
@@ -73,7 +73,7 @@ trimmed [] = []
 trimmed (x ∷ xs) = before x (trimmed xs)
 
 abbrev withPlan : Configuration → Bytes → Bytes
-withPlan c plan = c .beliefs ++ (c .goals ++ (twoBytes (c .length) ++ (c .phase ∷ (twoBytes (length plan) ++ plan))))
+withPlan c plan = c .mind .beliefs ++ (c .mind .goals ++ (twoBytes (c .mind .length) ++ (c .mind .phase ∷ (twoBytes (length plan) ++ plan))))
 
 unfoldable pub image : Configuration → Bytes
 image c = withPlan c (trimmed (c .plan))
@@ -171,8 +171,8 @@ def image_term(request):
     m = two(request, 36)
     plan = f"({literal(request[38:38 + m])} ++ replicate {1024 - m} 0)"
     term = (
-        f"(record {{ beliefs = {literal(request[1:17])}; goals = {literal(request[17:33])}; "
-        f"plan = {plan}; length = {two(request, 33)}; phase = {request[35]} }})"
+        f"(record {{ mind = record {{ beliefs = {literal(request[1:17])}; goals = {literal(request[17:33])}; "
+        f"length = {two(request, 33)}; phase = {request[35]} }}; plan = {plan} }})"
     )
     return term, 38 + m
 
@@ -325,8 +325,8 @@ def main():
     prepare(root)
     chunks = [gathered[i : i + PER_CRATE] for i in range(0, len(gathered), PER_CRATE)]
     names = [write_crate(root, i, chunk) for i, chunk in enumerate(chunks)]
-    listed = ["paper:", "house: paper", "meaning: paper house"]
-    listed += [f"{name}: paper house meaning" for name in names]
+    listed = ["paper:", "runs: paper", "meaning: paper runs"]
+    listed += [f"{name}: paper runs meaning" for name in names]
     write(os.path.join(root, "crates.txt"), "\n".join(listed) + "\n")
     refused, trouble = hold(root, chunks)
     if not options.keep:

@@ -2,13 +2,14 @@
 """Tells at which fact each must-fail edit was first refused, from what the gate printed.
 
     .ci/run > LOG; python3 tests/edits.py LOG             a line for each edit; the last line is 'N passed, M failed'
-    .ci/run > LOG; python3 tests/edits.py LOG --table     the same as a table of Markdown (docs/EDITS.md)
+    .ci/run > LOG; python3 tests/edits.py LOG --table     the same as a table of Markdown, with the sentence that each edit breaks
     python3 tests/edits.py --sum                          a sum of the files of crates/, which the gate prints too
 
 The gate says at which line of a proof the checker first found an error. The fact is the declaration that this line belongs to, in
 the crate with the edit applied: in a function's proof `returns` is what the function ensures, `loop-again` a loop's invariant,
-`NAME-requires` what a call requires; in the other files it is a law or a theorem. An edit fails here if the gate did not refuse it,
-or if the line belongs to no such declaration.
+`NAME-requires` what a call requires; in the other files it is a law or a theorem. Where a function needs no proof file, the line is the
+function's own, and the fact is what it ensures. An edit fails here if the gate did not refuse it, or if the line belongs to no such
+declaration.
 """
 
 import glob
@@ -21,6 +22,7 @@ TOP = os.path.dirname(os.path.dirname(os.path.abspath(__file__)))
 REFUSED = re.compile(r"rt: must-fail (\w+)/(\w+): refused.*\(first at ([^:]+):(\d+):")
 # A declaration: at the left, in a module, or marked `pub`; what a `where` declares lies further in and is no fact by itself.
 DECLARED = re.compile(r"(?:  )?(?:abbrev )?([^\s:()]+) :|\s*pub ([^\s:()]+) :")
+FUNCTION = re.compile(r"(?:pub )?(?:extern \"C\" )?fn (\w+)")
 
 
 def read(path):
@@ -50,12 +52,13 @@ def edited(crate, edit, path):
     return text.split("\n")
 
 
-def fact_at(lines, number):
+def fact_at(path, lines, number):
     """The declaration at the top of a file that a line belongs to."""
+    declared = FUNCTION if path.startswith("src/") else DECLARED
     for line in reversed(lines[:number]):
-        match = DECLARED.match(line)
+        match = declared.match(line)
         if match:
-            return match[1] or match[2]
+            return next(filter(None, match.groups()))
     return None
 
 
@@ -71,7 +74,7 @@ def told(key, refused):
     if key not in refused:
         return lines[0][2:], None, None
     path, number = refused[key]
-    return lines[0][2:], path, fact_at(edited(crate, lines, path), number)
+    return lines[0][2:], path, fact_at(path, edited(crate, lines, path), number)
 
 
 def main(words):

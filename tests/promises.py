@@ -26,15 +26,15 @@ THEOREMS = "## The theorems"
 READING = (
     ("the agent and its transitions", ("paper/specs/Atoms.antt", "paper/specs/Language.antt", "paper/specs/Transitions.antt")),
     ("the transitions as a function", ("paper/specs/Next.antt",)),
-    ("the order, a run, the grade", ("house/src/lib.rt", "house/specs/Order.antt", "house/specs/Run.antt", "house/specs/Weight.antt")),
+    ("the order, a run, the grade", ("runs/src/lib.rt", "runs/specs/Order.antt", "runs/specs/Step.antt", "runs/specs/Run.antt", "runs/specs/Weight.antt")),
     ("a card's bytes, a configuration, a place", ("meaning/src/lib.rt", "meaning/specs/Card.antt", "meaning/specs/Configurations.antt",
                                                   "meaning/specs/Place.antt")),
     ("the refusals and the eight answers", ("meaning/specs/Refusals.antt", "meaning/specs/Calls.antt", "meaning/specs/Numbers.antt")),
-    ("what is proved of the definitions", ("paper/specs/Theorems.antt", "house/specs/Theorems.antt", "meaning/specs/Theorems.antt")),
+    ("what is proved of the definitions", ("paper/specs/Theorems.antt", "runs/specs/Theorems.antt", "meaning/specs/Theorems.antt")),
     ("the letter's demands", ("demands/specs/Contracts.antt", "demands/specs/Demands.antt")),
     ("the cases", ("paper/specs/Cases.antt", "meaning/specs/Stripe.antt", "meaning/specs/Cases.antt")),
 )
-READ_CRATES = ("paper", "house", "meaning", "demands")
+READ_CRATES = ("paper", "runs", "meaning", "demands")
 
 
 class Piece(NamedTuple):

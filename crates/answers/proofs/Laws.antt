@@ -6,9 +6,9 @@ use Prim.Native.Nat.{ℕ, suc, _+_, _≤_, _<_}
 use native.Mathlib.Omega.{arith}
 use lib.ListN.{length}
 use Rattle.paper.specs.Language.{Plan, Agent}
-use Rattle.house.specs.declared.Offender.{Offender}
-use Rattle.house.specs.declared.Verdict.{Verdict}
-use Rattle.house.specs.Weight.{light, lowers, firstOffender, verdict}
+use Rattle.runs.specs.declared.Offender.{Offender}
+use Rattle.runs.specs.declared.Verdict.{Verdict}
+use Rattle.runs.specs.Weight.{light, lowers, firstOffender, verdict}
 use Rattle.meaning.specs.declared.Answer.{Answer}
 use Rattle.meaning.specs.declared.Answer.the-variants.{Done, Refused}
 use Rattle.meaning.specs.declared.Graded.{Graded}
@@ -44,7 +44,7 @@ grades-narrow b = go (cardAnswer b) refl
   where
     go : (a : Answer) → cardAnswer b ≡ a → verdictRule (grades b .verdict) < 65536
     go Done e =
-        let l = good-card (layout b) b e refl .laid in
-        let v = verdict-narrow (weight b) (agent b) (initialPlan b) (rw (length-entries _ 8 (layout b .selections)) (l .selections)) (rw (length-entries _ 12 (layout b .revisions)) (l .revisions)) in
+        let l = good-card (layout b) b e refl .layout in
+        let v = verdict-narrow (weight b) (agent b) (initialPlan b) (rw (length-entries _ (layout b .selections)) (l .selections)) (rw (length-entries _ (layout b .revisions)) (l .revisions)) in
         subst (λ (x : Graded). verdictRule (x .verdict) < 65536) (sym (grades-good b e)) v
     go (Refused r) e = subst (λ (x : Graded). verdictRule (x .verdict) < 65536) (sym (grades-refused b r e)) (omega arith)

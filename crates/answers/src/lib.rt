@@ -3,11 +3,11 @@ ghost use mathlib.Core.Path.{_≡_};
 ghost use Prim.Native.Nat.{_<_};
 ghost use Rattle.meaning.specs.Refusals.{numberOf, answerNumber};
 ghost use Rattle.meaning.specs.Numbers.{endingNumber, verdictNumber, offenderNumber, offenderRule, verdictOffender, verdictRule};
-use house::Ending;
-use house::Offender;
-use house::Verdict;
 use meaning::Answer;
 use meaning::Refusal;
+use runs::Ending;
+use runs::Offender;
+use runs::Verdict;
 
 // A refusal's number.
 pub fn refusal_number(r: Refusal) -> u16

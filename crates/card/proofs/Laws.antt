@@ -11,14 +11,13 @@ use lib.Dec.{eqb, leb, ltb}
 use lib.ListN.{length, getD, set, replicate, length-set, length-replicate, getD-replicate}
 use lib.Seq.{getD-set-other}
 use Rattle.sets.proofs.Loops.{below-turn}
-use Rattle.meaning.specs.declared.Section.{Section}
 use Rattle.meaning.specs.declared.Layout.{Layout}
-use Rattle.meaning.specs.Card.{Bytes, entryAt}
+use Rattle.meaning.specs.Card.{Bytes, entryAt, nodeAt, specificationAt}
 use Rattle.meaning.specs.Refusals.{all, nodesGood, containsOf, containing}
+use Rattle.meaning.proofs.Parts.{length-part}
 use Rattle.meaning.proofs.Nodes.{made-from, contains-children}
-use Rattle.layout.specs.Laid.{Laid, kindOf, aOf, bOf}
+use Rattle.layout.specs.GoodLayout.{GoodLayout}
 use Rattle.card.specs.Marks.{Marks}
-use Rattle.card.specs.Entries.{sectionOf, sizeOf}
 
 -- one of two neighbours
 pub either-of : (m n : ℕ) → m ≤ n → n ≤ m + 1 → (n ≡ m) ⊎ (n ≡ m + 1)
@@ -27,7 +26,7 @@ either-of m n h k = elim (decLe n m) [ yes e ↦ inl (omega arith) | no e ↦ in
 -- what is found at node i by the marks of the lower nodes
 contains-next : (l : Layout) (b : Bytes) → nodesGood l b ≡ true → (kind i : ℕ) → i < l .nodes .count → (marks : List Bool)
     → ((j : ℕ) → j < i → getD marks j false ≡ getD (containing kind l b) j false)
-    → containsOf kind (kindOf l b i) (aOf l b i) (bOf l b i) (λ j. getD marks j false) ≡ getD (containing kind l b) i false
+    → containsOf kind (nodeAt l b i .kind) (nodeAt l b i .a) (nodeAt l b i .b) (λ j. getD marks j false) ≡ getD (containing kind l b) i false
 unfolding containing
 contains-next l b good kind i h marks same = made-from l b good i h (containsOf kind) false (contains-children kind) (λ j. getD marks j false) same
 
@@ -65,7 +64,7 @@ pub marked-start : (kind : ℕ) (l : Layout) (b : Bytes) (marks : List Bool) →
 marked-start kind l b marks e = (ap length e ∙ length-replicate 256 true, λ j h. absurd (omega arith), λ j h k. ap (λ m. getD m j false) e ∙ getD-replicate 256 j true false k)
 
 pub marked-turn : (kind : ℕ) (l : Layout) (b : Bytes) → nodesGood l b ≡ true → (marks : List Bool) (i : ℕ) (mark : Bool) → i < l .nodes .count → i < 256
-    → mark ≡ containsOf kind (kindOf l b i) (aOf l b i) (bOf l b i) (λ j. getD marks j false)
+    → mark ≡ containsOf kind (nodeAt l b i .kind) (nodeAt l b i .a) (nodeAt l b i .b) (λ j. getD marks j false)
     → MarkedTo kind l b marks i → MarkedTo kind l b (set marks i mark) (i + 1)
 marked-turn kind l b good marks i mark h k e m = (
   simp length-set (m .0),
@@ -79,9 +78,10 @@ marked-all kind l b marks m i h = elim (decLt i (l .nodes .count)) [
   | no k ↦ rw (m .2 i (omega arith) h, le-ltb i (l .nodes .count) (omega arith))
 ]
 
--- an entry of any kind, found by its section and its size, lies within the card
-pub entry-within : (l : Layout) (b : Bytes) → Laid l b → (kind : ℕ) (s : Section) (size i : ℕ) → s ≡ sectionOf l kind → size ≡ sizeOf kind → i < s .count
-    → entryAt size s i + sizeOf kind ≤ length b
-entry-within l b d zero s size i e f h = let k : i < l .selections .count = rw e at h in rw (e, f) (omega arith)
-entry-within l b d (suc zero) s size i e f h = let k : i < l .specifications .count = rw e at h in rw (e, f) (omega arith)
-entry-within l b d (suc (suc n)) s size i e f h = let k : i < l .revisions .count = rw e at h in rw (e, f) (omega arith)
+-- both sets of a specification are 16 bytes
+pub sets-long : (l : Layout) (b : Bytes) → GoodLayout l b → (i : ℕ) → i < l .specifications .count
+    → (length (specificationAt l b i .add) ≡ 16) × (length (specificationAt l b i .del) ≡ 16)
+unfolding specificationAt
+sets-long l b d i h =
+    let at = entryAt 36 (l .specifications) i in
+    (length-part b (at + 4) 16 (omega arith), length-part b (at + 20) 16 (omega arith))

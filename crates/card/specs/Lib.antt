@@ -1,4 +1,4 @@
 pub mod Marks
 pub mod Entries
-pub mod Stair
+pub mod Rows
 pub mod GoodCard

@@ -1,4 +1,4 @@
--- The nodes that no condition of a kind may name.
+-- The nodes that contain an atom of a kind, marked.
 use mathlib.Core.Path.{_≡_}
 use mathlib.Core.Bool.{Bool, false, not}
 use mathlib.Core.List.{List}
@@ -8,6 +8,7 @@ use Rattle.meaning.specs.declared.Layout.{Layout}
 use Rattle.meaning.specs.Card.{Bytes}
 use Rattle.meaning.specs.Refusals.{containing, conditionGood}
 
--- Marks bar nodes from a condition: the unknown ones, and those in whose condition an atom of a kind stands.
+-- Marked are the nodes in whose condition an atom of a kind stands, and the unknown ones: those that no condition of the other
+-- kind may name.
 abbrev pub Marks : ℕ → Layout → Bytes → List Bool → Type 0
 Marks kind l b marks = (i : ℕ) → i < 256 → not (getD marks i false) ≡ conditionGood l (containing kind l b) i

@@ -5,19 +5,19 @@ ghost use mathlib.Core.Bool.{true};
 ghost use Prim.Native.Nat.{_≤_};
 ghost use lib.ListN.{length};
 ghost use Rattle.meaning.specs.Card.{layout};
-ghost use Rattle.meaning.specs.Refusals.{cardMarkGood, countsGood, nodesGood, cardTable, cardAnswer};
+ghost use Rattle.meaning.specs.Refusals.{countsGood, nodesGood, cardTable, cardAnswer};
 ghost use Rattle.meaning.specs.Calls.{checks};
-ghost use Rattle.layout.specs.Laid.{Narrow, NarrowSpan, Laid};
-ghost use Rattle.card.specs.Stair.{rowAnswer, rowsFrom, answerOf};
+ghost use Rattle.layout.specs.GoodLayout.{TwoByteLayout, TwoByteSpan, GoodLayout};
+ghost use Rattle.card.specs.Rows.{rowAnswer, rowsFrom, answerOf};
 use crate::contents::pool_good;
 use crate::contents::sets_good;
 use crate::contents::weights_good;
 use crate::nodes::nodes_good;
 use crate::rules::rules_good;
+use layout::bytes::mark_good;
 use layout::header::counts_good;
 use layout::header::offsets_good;
 use layout::header::read_layout;
-use layout::readers::number_at;
 use meaning::Answer;
 use meaning::Checked;
 use meaning::Layout;
@@ -36,7 +36,7 @@ pub fn row(good: bool, refusal: Refusal) -> Answer
 
 // Row 9.
 fn from_sets(card: &[u8], l: Layout) -> Answer
-    requires { ⌜ Laid l (now card) ⌝ }
+    requires { ⌜ GoodLayout l (now card) ⌝ }
     ensures { λ r. ⌜ r ≡ rowsFrom 8 cardTable (now (card .entry)) ⌝ }
 {
     row(sets_good(card, l), Refusal::Atom)
@@ -44,7 +44,7 @@ fn from_sets(card: &[u8], l: Layout) -> Answer
 
 // Row 8, then 9.
 fn from_pool(card: &[u8], l: Layout) -> Answer
-    requires { ⌜ Laid l (now card) ⌝ }
+    requires { ⌜ GoodLayout l (now card) ⌝ }
     ensures { λ r. ⌜ r ≡ rowsFrom 7 cardTable (now (card .entry)) ⌝ }
 {
     let a = row(pool_good(card, l), Refusal::ActionByte);
@@ -56,7 +56,7 @@ fn from_pool(card: &[u8], l: Layout) -> Answer
 
 // Row 7, then 8 and 9.
 fn from_rules(card: &[u8], l: Layout) -> Answer
-    requires { ⌜ Laid l (now card) × (nodesGood l (now card) ≡ true) × NarrowSpan (l .initial) ⌝ }
+    requires { ⌜ GoodLayout l (now card) × (nodesGood l (now card) ≡ true) × TwoByteSpan (l .initial) ⌝ }
     ensures { λ r. ⌜ r ≡ rowsFrom 6 cardTable (now (card .entry)) ⌝ }
 {
     let a = row(rules_good(card, l), Refusal::Rule);
@@ -68,7 +68,7 @@ fn from_rules(card: &[u8], l: Layout) -> Answer
 
 // Row 6, then 7 to 9.
 fn from_nodes(card: &[u8], l: Layout) -> Answer
-    requires { ⌜ Laid l (now card) × NarrowSpan (l .initial) ⌝ }
+    requires { ⌜ GoodLayout l (now card) × TwoByteSpan (l .initial) ⌝ }
     ensures { λ r. ⌜ r ≡ rowsFrom 5 cardTable (now (card .entry)) ⌝ }
 {
     let a = row(nodes_good(card, l), Refusal::Node);
@@ -80,7 +80,7 @@ fn from_nodes(card: &[u8], l: Layout) -> Answer
 
 // Row 5, then 6 to 9.
 fn from_weights(card: &[u8], l: Layout) -> Answer
-    requires { ⌜ Laid l (now card) × NarrowSpan (l .initial) ⌝ }
+    requires { ⌜ GoodLayout l (now card) × TwoByteSpan (l .initial) ⌝ }
     ensures { λ r. ⌜ r ≡ rowsFrom 4 cardTable (now (card .entry)) ⌝ }
 {
     let a = row(weights_good(card, l), Refusal::Weight);
@@ -92,7 +92,7 @@ fn from_weights(card: &[u8], l: Layout) -> Answer
 
 // Row 4, then 5 to 9.
 fn from_offsets(card: &[u8], l: Layout) -> Answer
-    requires { ⌜ (l ≡ layout (now card)) × Narrow l × (countsGood l ≡ true) ⌝ }
+    requires { ⌜ (l ≡ layout (now card)) × TwoByteLayout l × (countsGood l ≡ true) ⌝ }
     ensures { λ r. ⌜ r ≡ rowsFrom 3 cardTable (now (card .entry)) ⌝ }
 {
     let a = row(offsets_good(l, card.len()), Refusal::Offsets);
@@ -104,7 +104,7 @@ fn from_offsets(card: &[u8], l: Layout) -> Answer
 
 // Row 3, then 4 to 9.
 fn from_counts(card: &[u8], l: Layout) -> Answer
-    requires { ⌜ (l ≡ layout (now card)) × Narrow l ⌝ }
+    requires { ⌜ (l ≡ layout (now card)) × TwoByteLayout l ⌝ }
     ensures { λ r. ⌜ r ≡ rowsFrom 2 cardTable (now (card .entry)) ⌝ }
 {
     let a = row(counts_good(l), Refusal::Count);
@@ -114,21 +114,12 @@ fn from_counts(card: &[u8], l: Layout) -> Answer
     from_offsets(card, l)
 }
 
-// Not row 2: the first two bytes and the edition are a card's.
-fn marked(card: &[u8]) -> bool
-    requires { ⌜ 64 ≤ length (now card) ⌝ }
-    ensures { λ r. ⌜ r ≡ cardMarkGood (now (card .entry)) ⌝ }
-{
-    let edition = number_at(card, 2);
-    (card[0] == 0x33) & ((card[1] == 0x41) & (edition == 1))
-}
-
-// Row 2, then 3 to 9.
+// Row 2, then 3 to 9: "bytes 33 41 hex".
 fn from_mark(card: &[u8]) -> Answer
     requires { ⌜ 64 ≤ length (now card) ⌝ }
     ensures { λ r. ⌜ r ≡ rowsFrom 1 cardTable (now (card .entry)) ⌝ }
 {
-    let a = row(marked(card), Refusal::Mark);
+    let a = row(mark_good(card, 0x41), Refusal::Mark);
     let Answer::Done = a else {
         return a;
     };

@@ -3,6 +3,7 @@ ghost use mathlib.Core.Path.{_≡_};
 ghost use mathlib.Core.List.{[]};
 ghost use Rattle.meaning.specs.Configurations.{padded, empty};
 use meaning::Configuration;
+use meaning::Mind;
 
 // No action.
 fn no_plan() -> [u8; 1024]
@@ -16,11 +17,14 @@ pub fn empty_configuration() -> Configuration
     ensures { λ r. ⌜ r ≡ empty ⌝ }
 {
     let plan = no_plan();
-    Configuration {
+    let mind = Mind {
         beliefs: [0u8; 16],
         goals: [0u8; 16],
-        plan: plan,
         length: 0,
         phase: 0,
+    };
+    Configuration {
+        mind: mind,
+        plan: plan,
     }
 }

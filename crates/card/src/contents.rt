@@ -1,26 +1,28 @@
 // What the sections hold: rows 5, 8 and 9 of the refusal table.
 ghost use mathlib.Core.Path.{_≡_};
 ghost use mathlib.Core.Bool.{true};
-ghost use Prim.Native.Nat.{_+_, _-_, _*_, _≤_, _<_, min};
+ghost use Prim.Native.Nat.{_+_, _-_, _≤_, _<_, min};
 ghost use lib.ListN.{length};
 ghost use Rattle.meaning.specs.Card.{part};
 ghost use Rattle.meaning.specs.Refusals.{weightsGood, actionsGood, pool, setGood, setsGood};
-ghost use Rattle.layout.specs.Laid.{Laid};
+ghost use Rattle.layout.specs.GoodLayout.{GoodLayout};
+use layout::entries::initial_beliefs;
+use layout::entries::initial_goals;
+use layout::entries::read_specification;
+use layout::entries::read_weight;
 use layout::header::in_range;
-use layout::readers::number_at;
-use layout::readers::set_at;
 use meaning::Layout;
 
 // Not row 5: every weight is from 1 to 1,024.
 pub fn weights_good(card: &[u8], l: Layout) -> bool
-    requires { ⌜ Laid l (now card) ⌝ }
+    requires { ⌜ GoodLayout l (now card) ⌝ }
     ensures { λ r. ⌜ r ≡ weightsGood l (now (card .entry)) ⌝ }
 {
     let n = l.actions;
     let mut good = true;
     let mut a: usize = 0;
     while a < n {
-        let kept = in_range(1, 1024, number_at(card, 64 + 2 * a));
+        let kept = in_range(1, 1024, read_weight(card, l, a));
         good = good & kept;
         a += 1;
     }
@@ -58,7 +60,7 @@ pub fn actions_good(bytes: &[u8], from: usize, n: usize, actions: usize) -> bool
 
 // Not row 8: every byte of the pool is an action.
 pub fn pool_good(card: &[u8], l: Layout) -> bool
-    requires { ⌜ Laid l (now card) ⌝ }
+    requires { ⌜ GoodLayout l (now card) ⌝ }
     ensures { λ r. ⌜ r ≡ actionsGood (l .actions) (pool l (now (card .entry))) ⌝ }
 {
     let pool = l.pool;
@@ -67,17 +69,18 @@ pub fn pool_good(card: &[u8], l: Layout) -> bool
 
 // The atoms of all the card's sets: the initial beliefs and goals, and each Add and Del.
 fn all_sets(card: &[u8], l: Layout) -> [u8; 16]
-    requires { ⌜ Laid l (now card) ⌝ }
+    requires { ⌜ GoodLayout l (now card) ⌝ }
     ensures { λ r. ⌜ setGood (l .atoms) r ≡ setsGood l (now (card .entry)) ⌝ }
 {
     let section = l.specifications;
     let n = section.count;
-    let from = section.offset;
-    let mut all = sets::union(set_at(card, 32), set_at(card, 48));
+    let mut all = sets::union(initial_beliefs(card), initial_goals(card));
     let mut i: usize = 0;
     while i < n {
-        let at = from + 36 * i;
-        let both = sets::union(set_at(card, at + 4), set_at(card, at + 20));
+        let e = read_specification(card, l, i);
+        let add = e.add;
+        let del = e.del;
+        let both = sets::union(add, del);
         let more = sets::union(all, both);
         all = more;
         i += 1;
@@ -87,7 +90,7 @@ fn all_sets(card: &[u8], l: Layout) -> [u8; 16]
 
 // Not row 9: no set has an atom at or above the number of atoms.
 pub fn sets_good(card: &[u8], l: Layout) -> bool
-    requires { ⌜ Laid l (now card) ⌝ }
+    requires { ⌜ GoodLayout l (now card) ⌝ }
     ensures { λ r. ⌜ r ≡ setsGood l (now (card .entry)) ⌝ }
 {
     sets::known(all_sets(card, l), l.atoms)

@@ -1,3 +1,4 @@
 pub mod Truths
-pub mod Enabledness
-pub mod Choices
+pub mod Asking
+pub mod First
+pub mod Accepting

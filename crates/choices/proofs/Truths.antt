@@ -11,10 +11,9 @@ use Rattle.paper.specs.Language.{Letter, 𝐁, 𝐆, Query, ⊤, Config}
 use Rattle.paper.specs.Transitions.{_⊨_}
 use Rattle.paper.proofs.Relation.{false≢true}
 use Rattle.meaning.specs.declared.Layout.{Layout}
-use Rattle.meaning.specs.Card.{Bytes, queryOf, conditions, condition}
+use Rattle.meaning.specs.Card.{Bytes, nodeAt, queryOf, conditions, condition}
 use Rattle.meaning.specs.Refusals.{nodesGood, containsOf, containing}
 use Rattle.meaning.proofs.Nodes.{node-rule, made-of, made-from, contains-at, condition-at}
-use Rattle.layout.specs.Laid.{kindOf, aOf, bOf}
 use Rattle.card.specs.GoodCard.{GoodCondition}
 use Rattle.choices.specs.Truth.{truthOf, truths}
 
@@ -27,13 +26,13 @@ truth-children σ γ (suc (suc (suc (suc zero)))) a b t t′ f s = ap₂ _&&_ (f
 truth-children σ γ (suc (suc (suc (suc (suc k))))) a b t t′ f s = ap₂ _||_ (f (omega arith)) (s (omega arith))
 
 module _ (l : Layout) (b : Bytes) (good : nodesGood l b ≡ true) (σ γ : Atoms) where
-  truth-at : (i : ℕ) → i < l .nodes .count → getD (truths l b σ γ) i false ≡ truthOf (kindOf l b i) (aOf l b i) (bOf l b i) σ γ (λ j. getD (truths l b σ γ) j false)
+  truth-at : (i : ℕ) → i < l .nodes .count → getD (truths l b σ γ) i false ≡ truthOf (nodeAt l b i .kind) (nodeAt l b i .a) (nodeAt l b i .b) σ γ (λ j. getD (truths l b σ γ) j false)
   unfolding truths
   truth-at i h = made-of l b good i h (λ k a b t. truthOf k a b σ γ t) false (truth-children σ γ)
 
   -- a turn of the pass: what is marked at node i by marks that are right below it
   pub truth-next : (i : ℕ) → i < l .nodes .count → (marks : List Bool) → ((j : ℕ) → j < i → getD marks j false ≡ getD (truths l b σ γ) j false)
-      → truthOf (kindOf l b i) (aOf l b i) (bOf l b i) σ γ (λ j. getD marks j false) ≡ getD (truths l b σ γ) i false
+      → truthOf (nodeAt l b i .kind) (nodeAt l b i .a) (nodeAt l b i .b) σ γ (λ j. getD marks j false) ≡ getD (truths l b σ γ) i false
   unfolding truths
   truth-next i h marks same = made-from l b good i h (λ k a b t. truthOf k a b σ γ t) false (truth-children σ γ) (λ j. getD marks j false) same
 
@@ -76,10 +75,10 @@ module _ (l : Layout) (b : Bytes) (good : nodesGood l b ≡ true) (L : Letter) (
   below (suc m) n h k e =
       let r = node-rule l b good n k in
       truth-at l b good (c .σ) (c .γ) n k
-      ∙ node-truth L c (kindOf l b n) (aOf l b n) (bOf l b n) (r .kinds) (λ j. getD (truths l b (c .σ) (c .γ)) j false) (λ j. getD (conditions L l b) j ⊤) (λ j. getD (containing (other L) l b) j false)
+      ∙ node-truth L c (nodeAt l b n .kind) (nodeAt l b n .a) (nodeAt l b n .b) (r .kinds) (λ j. getD (truths l b (c .σ) (c .γ)) j false) (λ j. getD (conditions L l b) j ⊤) (λ j. getD (containing (other L) l b) j false)
       (sym (contains-at l b good n k (other L)) ∙ e)
-      (λ x y. (let z = r .first x in below m (aOf l b n) (omega arith) (omega arith) y))
-      (λ x y. (let z = r .second x in below m (bOf l b n) (omega arith) (omega arith) y))
+      (λ x y. (let z = r .first x in below m (nodeAt l b n .a) (omega arith) (omega arith) y))
+      (λ x y. (let z = r .second x in below m (nodeAt l b n .b) (omega arith) (omega arith) y))
       ∙ ap (λ φ. c ⊨ φ) (sym (condition-at l b good n k L))
 
   pub condition-truth : (n : ℕ) → GoodCondition l b (other L) n → getD (truths l b (c .σ) (c .γ)) n false ≡ (c ⊨ condition (conditions L l b) n)

@@ -1,3 +1,4 @@
 pub mod Truth
-pub mod Minds
-pub mod Choosing
+pub mod Ready
+pub mod Asking
+pub mod InPlace

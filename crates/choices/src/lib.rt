@@ -1,6 +1,5 @@
-// Choices: conditions judged in one pass, a configuration judged by row 13, which choices are enabled, and the first of them.
+// Choices: a configuration judged by row 13, conditions judged in one pass, whether a choice is open, and the guide's own choice.
+pub mod ask;
 pub mod configuration;
-pub mod enabled;
-pub mod mind;
-pub mod reply;
+pub mod in_place;
 pub mod truth;

@@ -48,13 +48,13 @@ outside (x ∷ xs) n e i = go (eqb n x) refl (outside xs n)
 
 -- ---- tables
 
-among : {X : Type 0} (rows : List (Row X)) (x : X) → List·Memᴰ (answerNumber (firstGiven rows x)) (0 ∷ rowNumbers rows)
+among : {X : Type 0} (rows : List (Row X)) (x : X) → List·Memᴰ (answerNumber (firstGiven rows x)) (0 ∷ rowNumbers rows x)
 unfolding firstGiven answerNumber
 among [] x = List·Memᴰ·head refl
 among (q ∷ rows) x = go (q .when x) refl (among rows x)
   where
-    go : (t : Bool) → q .when x ≡ t → List·Memᴰ (answerNumber (firstGiven rows x)) (0 ∷ rowNumbers rows)
-        → List·Memᴰ (answerNumber (firstGiven (q ∷ rows) x)) (0 ∷ rowNumbers (q ∷ rows))
+    go : (t : Bool) → q .when x ≡ t → List·Memᴰ (answerNumber (firstGiven rows x)) (0 ∷ rowNumbers rows x)
+        → List·Memᴰ (answerNumber (firstGiven (q ∷ rows) x)) (0 ∷ rowNumbers (q ∷ rows) x)
     go true h ih = rw (given q rows x h) (List·Memᴰ·tail (List·Memᴰ·head refl))
     go false h ih = rw (not-given q rows x h) (⊎-elim List·Memᴰ·head (λ m. List·Memᴰ·tail (List·Memᴰ·tail m)) (List·Memᴰ·cases-cons ih))
 
@@ -63,18 +63,18 @@ and-then-among Done a′ ns h g = g
 and-then-among (Refused r) a′ ns h g = h
 
 -- the numbers of a table's rows, as they are listed
-listed : {X : Type 0} (rows : List (Row X)) (x : X) (ns : List ℕ) → rowNumbers rows ≡ ns → List·Memᴰ (answerNumber (firstGiven rows x)) (0 ∷ ns)
+listed : {X : Type 0} (rows : List (Row X)) (x : X) (ns : List ℕ) → rowNumbers rows x ≡ ns → List·Memᴰ (answerNumber (firstGiven rows x)) (0 ∷ ns)
 listed rows x ns e = rw e at (among rows x)
 
 pub card-among : (b : Bytes) → List·Memᴰ (answerNumber (cardAnswer b)) doneOrCard
 unfolding cardAnswer doneOrCard
-card-among b = listed cardTable b _ (table-order .card)
+card-among b = listed cardTable b _ (table-order .card b)
 
 pub place-among : (b p : Bytes) → List·Memᴰ (answerNumber (placeAnswer b p)) doneOrCard
 unfolding placeAnswer doneOrCard
 place-among b p =
     let rows = placeTable (layout b) in
-    and-then-among (cardAnswer b) (firstGiven rows p) doneOrCard (card-among b) (wider _ doneOrCard refl (listed rows p _ (table-order .place (layout b))))
+    and-then-among (cardAnswer b) (firstGiven rows p) doneOrCard (card-among b) (wider _ doneOrCard refl (listed rows p _ (table-order .place (layout b) p)))
 
 pub configuration-among : (b : Bytes) (c : Configuration) → List·Memᴰ (answerNumber (configurationAnswer b c)) (doneOrCard ++ (13 ∷ []))
 unfolding configurationAnswer doneOrCard
@@ -82,4 +82,4 @@ configuration-among b c =
     let rows = configurationTable (layout b) in
     let numbers = doneOrCard ++ (13 ∷ []) in
     and-then-among (cardAnswer b) (firstGiven rows c) numbers (wider doneOrCard numbers refl (card-among b))
-    (wider _ numbers refl (listed rows c _ (table-order .configuration (layout b))))
+    (wider _ numbers refl (listed rows c _ (table-order .configuration (layout b) c)))

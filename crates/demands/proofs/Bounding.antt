@@ -1,16 +1,15 @@
 -- Demand 3: a card that is graded bounded is, and bounds its runs.
-use mathlib.Core.Path.{_≡_, refl, ap, _∙_, sym}
+use mathlib.Core.Path.{_≡_, refl, _∙_, sym}
 use mathlib.Core.Logic.{_↔_}
 use mathlib.Core.List.{[], _∷_, _++_}
-use Prim.Native.Nat.{ℕ, _≤_, _<_}
+use Prim.Native.Nat.{ℕ, _≤_}
 use native.Mathlib.Omega.{arith}
 use lib.ListN.{length}
-use Rattle.house.specs.declared.Ending.{Ending}
-use Rattle.house.specs.declared.Verdict.{Verdict}
-use Rattle.house.specs.Order.{State, after}
-use Rattle.house.specs.Run.{stay, _then_}
-use Rattle.house.specs.Weight.{weigh, Bounded, verdict}
-use Rattle.house.specs.Theorems as House
+use Rattle.runs.specs.declared.Ending.{Ending}
+use Rattle.runs.specs.declared.Verdict.{Verdict}
+use Rattle.runs.specs.Run.{stay, _then_}
+use Rattle.runs.specs.Weight.{weigh, Bounded, verdict}
+use Rattle.runs.specs.Theorems as Runs
 use Rattle.meaning.specs.declared.Refusal.{Refusal}
 use Rattle.meaning.specs.declared.Answer.the-variants.{Done, Refused}
 use Rattle.meaning.specs.declared.Configuration.{Configuration}
@@ -21,12 +20,11 @@ use Rattle.meaning.specs.Card.{Bytes, weight, agent, initialPlan}
 use Rattle.meaning.specs.Configurations.{stateOf}
 use Rattle.meaning.specs.Refusals.{numberOf, answerNumber, cardAnswer, configurationAnswer}
 use Rattle.meaning.proofs.Tables.{done≢refused}
-use Rattle.house.proofs.Weight.{open≢bounded}
+use Rattle.runs.proofs.Weight.{open≢bounded}
 use Rattle.meaning.proofs.Accepted.{card-laws}
 use Rattle.demands.specs.Contracts.{Grades}
 use Rattle.demands.specs.Demands.{doneOrCard}
 use Rattle.demands.proofs.Among.{outside, configuration-among}
-use Rattle.demands.proofs.Codes.{led}
 use Rattle.demands.proofs.Choosing.{full≢not-enabled}
 use Rattle.demands.proofs.Ways.{Grading, Running, Taking, refused, not-enabled, plan-full, done, grading}
 
@@ -59,7 +57,7 @@ module _ (b : Bytes) (g : Graded) (e : Grades b g) (v : g .verdict ≡ Verdict.B
   pub bounded : verdict (weight b) (agent b) (initialPlan b) ≡ Verdict.Bounded
   bounded = its-verdict b g (grading b g e) v .1
 
-  pub law : House.GradeLaws (weight b) (agent b) (initialPlan b)
+  pub law : Runs.GradeLaws (weight b) (agent b) (initialPlan b)
   law = card-laws b accepted .graded
 
   module _ (c : Configuration) (w : weigh (weight b) (stateOf c .mental .π) ≤ 1024) where
@@ -68,13 +66,9 @@ module _ (b : Bytes) (g : Graded) (e : Grades b g) (v : g .verdict ≡ Verdict.B
     never-full budget r (done h) f = law .never-full bounded (stateOf c) budget w f
 
     pub never-plan-full : (n : ℕ) (r : Reply) → Taking b c n r → r .answer ≡ Refused Refusal.PlanFull → ⊥
-    unfolding after
     never-plan-full n r (refused h) f = never-by-configuration b c (h ∙ f)
     never-plan-full n r (not-enabled h l) f = full≢not-enabled (sym f)
-    never-plan-full n r (plan-full h s l t) f =
-        let m = led (agent b) (stateOf c) n s l in
-        let e : s .mental .π ≡ m .to .π = ap (λ (x : State). x .mental .π) (m .state) in
-        let k : length (m .to .π) ≤ 1024 = law .never-too-long bounded w (_then_ (m .step) stay) in
-        let j : 1024 < length (m .to .π) = rw e at t in
+    never-plan-full n r (plan-full h k c′ m l) f =
+        let j : length (c′ .π) ≤ 1024 = law .never-too-long bounded w (_then_ (m .transition) stay) in
         omega arith
-    never-plan-full n r (done h s l t) f = done≢refused f
+    never-plan-full n r (done h k c′ m l) f = done≢refused f

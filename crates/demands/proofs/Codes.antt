@@ -1,20 +1,22 @@
--- A code and the choice that it stands for; where a code leads.
-use mathlib.Core.Path.{_≡_, refl, _∙_, sym}
-use mathlib.Core.Option.{Option, none, some}
+-- A code and the choice that it stands for.
+use mathlib.Core.Path.{_≡_, refl, _∙_}
+use mathlib.Core.Option.{some}
 use Prim.Native.Nat.{ℕ, zero, suc, _+_, _*_, _/_, _%_, _≤_, _<_}
 use native.Mathlib.Omega.{arith}
 use lib.ListN.{length}
 use Rattle.paper.specs.Language.{Agent, Config}
 use Rattle.paper.specs.Transitions.{Choice, select, act, revise, Step, execute, apply-PS, apply-PR}
-use Rattle.paper.specs.Next.{next}
-use Rattle.paper.proofs.Relation.{none≢some, some-inj, complete}
-use Rattle.house.specs.Order.{State, kind, number, code, after}
-use Rattle.house.proofs.Order.{entry-lt}
+use Rattle.paper.proofs.Relation.{none≢some, some-inj}
+use Rattle.runs.specs.Order.{kind, number, code}
+use Rattle.runs.proofs.Order.{entry-lt}
 use Rattle.meaning.specs.declared.Answer.the-variants.{Done}
 use Rattle.meaning.specs.Card.{Bytes, layout, agentOf, agentFor, agent}
-use Rattle.meaning.specs.Refusals.{cardAnswer}
-use Rattle.meaning.specs.Calls.{choiceOf, choice, leadsTo}
+use Rattle.meaning.specs.declared.Configuration.{Configuration}
+use Rattle.meaning.specs.Refusals.{firstGiven, cardAnswer, configurationTable, configurationAnswer}
+use Rattle.meaning.specs.Calls.{choiceOf, choice}
+use Rattle.meaning.proofs.Tables.{and-then-done}
 use Rattle.meaning.proofs.Accepted.{accepted, counts, length-entries, card-laws}
+use Rattle.demands.specs.Demands.{OnAccepted, Transition, ChosenMove}
 
 -- ---- codes
 
@@ -53,43 +55,20 @@ step-number A s a r (apply-PR π {n = n} e p) = let h = entry-lt (A .PR) n e in 
 -- 01, "The card, edition 1": "revision rules", 0..256
 revisions-numbered : (b : Bytes) → cardAnswer b ≡ Done → length (agent b .PR) ≤ 256
 unfolding agent agentFor agentOf
-revisions-numbered b e = rw (length-entries _ 12 (layout b .revisions)) (counts (layout b) (accepted b e .counts) .revisions)
+revisions-numbered b e = rw (length-entries _ (layout b .revisions)) (counts (layout b) (accepted b e .counts) .revisions)
 
-pub read-back : (b : Bytes) → cardAnswer b ≡ Done → {c c′ : Config} {k : Choice} → Step (agent b) c k c′ → choice (code k) ≡ some k
-read-back b e {k = k} s =
-    let n = card-laws b e .numbered in
-    read k (step-number (agent b) (n .selections) (n .specifications) (revisions-numbered b e) s)
+-- ---- the code of a move, on an accepted card and configuration
 
--- ---- where a code leads
+pub card-accepted : (b : Bytes) (c : Configuration) → OnAccepted b c → cardAnswer b ≡ Done
+unfolding configurationAnswer
+card-accepted b c e = and-then-done (cardAnswer b) (firstGiven (configurationTable (layout b)) c) e .0
 
-module _ (A : Agent) (s : State) (n : ℕ) where
-  pub no-choice : choice n ≡ none → leadsTo A s n ≡ none
-  unfolding leadsTo
-  no-choice e = rw (e, leadsTo)
+module _ (b : Bytes) (c : Configuration) (on : OnAccepted b c) where
+  pub read-back : {k : Choice} {c′ : Config} → Transition b c k c′ → choice (code k) ≡ some k
+  read-back {k} s =
+      let e = card-accepted b c on in
+      let n = card-laws b e .numbered in
+      read k (step-number (agent b) (n .selections) (n .specifications) (revisions-numbered b e) s)
 
-  pub no-next : (k : Choice) → choice n ≡ some k → next A (s .mental) k ≡ none → leadsTo A s n ≡ none
-  unfolding leadsTo
-  no-next k e f = rw (e, leadsTo, f)
-
-  pub leads : (k : Choice) (c′ : Config) → choice n ≡ some k → next A (s .mental) k ≡ some c′ → leadsTo A s n ≡ some (after k c′)
-  unfolding leadsTo
-  leads k c′ e f = rw (e, leadsTo, f)
-
-  -- the transition by which a code leads to a state
-  pub record Led (s′ : State) : Type 0 where
-    pub by : Choice
-    pub to : Config
-    pub chosen : choice n ≡ some by
-    pub step : Step A (s .mental) by to
-    pub state : s′ ≡ after by to
-
-  pub led : (s′ : State) → leadsTo A s n ≡ some s′ → Led s′
-  led s′ e = go (choice n) refl
-    where
-      on : (k : Choice) → choice n ≡ some k → (o : Option Config) → next A (s .mental) k ≡ o → Led s′
-      on k h none f = absurd (none≢some (sym (no-next k h f) ∙ e))
-      on k h (some c′) f = record { by = k; to = c′; chosen = h; step = complete A (s .mental) c′ k f; state = some-inj (sym e ∙ leads k c′ h f) }
-
-      go : (o : Option Choice) → choice n ≡ o → Led s′
-      go none h = absurd (none≢some (sym (no-choice h) ∙ e))
-      go (some k) h = on k h (next A (s .mental) k) refl
+  pub chosen : {n : ℕ} {k : Choice} {c′ : Config} → ChosenMove b c n k c′ → choice n ≡ some k
+  chosen m = rw (m .coded) at (read-back (m .transition))

@@ -1,7 +1,7 @@
 -- The three demands, each field from the file that proves its sentence; and that a contract leaves one answer.
 use mathlib.Core.Path.{_≡_, _∙_, sym}
-use Rattle.house.specs.Order.{enabledCodes}
-use Rattle.house.proofs.Order.{order-laws}
+use Rattle.runs.specs.Order.{enabledCodes}
+use Rattle.runs.proofs.Order.{order-laws}
 use Rattle.meaning.specs.Card.{agent}
 use Rattle.meaning.specs.Configurations.{stateOf}
 use Rattle.demands.specs.Demands.{Demand1, Demand2, Demand3, Determined}
@@ -49,7 +49,7 @@ demand-2 =
       taken-to = λ b c on n r h. Choosing.taken-to b c on n r (taking b c n r h);
       not-enabled-exactly = λ b c on n r h. Choosing.not-enabled-exactly b c on n r (taking b c n r h);
       plan-full-exactly = λ b c on n r h. Choosing.plan-full-exactly b c on n r (taking b c n r h);
-      read-back = λ b c on k c′ s. Codes.read-back b (Choosing.card-accepted b c on) s;
+      read-back = λ b c on k c′ s. Codes.read-back b c on s;
       offered = λ b c on out left r h e n r′ g. Offering.offered b c on _ (Moving.listed b c on out left r (listing b c out left r h) e .moves) n r′ (taking b c n r′ g);
       own-move = λ b s. order-laws (agent b) s;
       own-order = λ b c on budget r h. Ordering.own-order b c on budget r (running b c budget r h);

@@ -1,7 +1,7 @@
 pub mod Among
+pub mod Codes
 pub mod Ways
 pub mod Refusing
-pub mod Codes
 pub mod Choosing
 pub mod Moving
 pub mod Offering

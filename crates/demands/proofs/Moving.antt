@@ -6,9 +6,9 @@ use Prim.Native.Nat.{ℕ, _<_}
 use native.Mathlib.Omega.{arith}
 use lib.ListN.{length, take, drop}
 use lib.Seq.{take-append-seam, drop-append-seam}
-use Rattle.house.specs.Order.{enabledCodes}
-use Rattle.house.specs.Theorems.{Rising, nothing, one, more}
-use Rattle.house.proofs.Listing.{list-laws}
+use Rattle.runs.specs.Order.{enabledCodes}
+use Rattle.runs.specs.Theorems.{Rising, no-number, one-number, more-numbers}
+use Rattle.runs.proofs.Listing.{list-laws}
 use Rattle.meaning.specs.declared.Answer.the-variants.{Done}
 use Rattle.meaning.specs.declared.Configuration.{Configuration}
 use Rattle.meaning.specs.declared.Written.{Written}
@@ -18,18 +18,18 @@ use Rattle.meaning.specs.Calls.{over}
 use Rattle.meaning.proofs.Tables.{done≢refused}
 use Rattle.meaning.proofs.Accepted.{card-laws}
 use Rattle.demands.specs.Demands.{OnAccepted, AllMoves, ListedMoves, RoomFor}
-use Rattle.demands.proofs.Choosing.{card-accepted}
+use Rattle.demands.proofs.Codes.{card-accepted}
 use Rattle.demands.proofs.Ways.{Writing, refused, no-room, done}
 
 -- ---- a rising list is known by its members
 
 behind : {n : ℕ} {ns : List ℕ} → Rising (n ∷ ns) → Rising ns
-behind one = nothing
-behind (more h r) = r
+behind one-number = no-number
+behind (more-numbers h r) = r
 
 first-lowest : {n m : ℕ} {ns : List ℕ} → Rising (n ∷ ns) → List·Memᴰ m ns → n < m
-first-lowest one i = absurd (List·Memᴰ·not-nil i)
-first-lowest {n} {m} (more {n = k} h r) i =
+first-lowest one-number i = absurd (List·Memᴰ·not-nil i)
+first-lowest {n} {m} (more-numbers {n = k} h r) i =
     ⊎-elim (λ (e : m ≡ k). (let l : n < m = omega arith in l)) (λ j. (let g : k < m = first-lowest r j in let l : n < m = omega arith in l)) (List·Memᴰ·cases-cons i)
 
 abbrev Within : List ℕ → List ℕ → Type 0

@@ -10,15 +10,15 @@ use Rattle.meaning.specs.declared.Reply.{Reply}
 use Rattle.meaning.specs.Card.{Bytes}
 use Rattle.meaning.proofs.Tables.{done≢refused}
 use Rattle.demands.specs.Demands.{OnAccepted, AllMoves}
-use Rattle.demands.proofs.Choosing.{not-enabled-exactly, fitting, too-long}
+use Rattle.demands.proofs.Choosing.{not-enabled-exactly}
 use Rattle.demands.proofs.Ways.{Taking, refused, not-enabled, plan-full, done}
 
 module _ (b : Bytes) (c : Configuration) (on : OnAccepted b c) (ns : List ℕ) (moves : AllMoves b c ns) (n : ℕ) where
   in-list : (r : Reply) → Taking b c n r → (r .answer ≡ Refused Refusal.NotEnabled → ⊥) → List·Memᴰ n ns
   in-list r (refused h) f = absurd (done≢refused (sym on ∙ h))
   in-list r (not-enabled h l) f = absurd (f refl)
-  in-list r (plan-full h s l t) f = let (k, (c′, (m, g))) = too-long b c on n s l t in rw (m .coded) at (moves .none-missing k c′ (m .transition))
-  in-list r (done h s l t) f = let (k, (c′, (m, g))) = fitting b c on n s l t in rw (m .coded) at (moves .none-missing k c′ (m .transition))
+  in-list r (plan-full h k c′ m l) f = rw (m .coded) at (moves .none-missing k c′ (m .transition))
+  in-list r (done h k c′ m l) f = rw (m .coded) at (moves .none-missing k c′ (m .transition))
 
   pub offered : (r : Reply) → Taking b c n r → List·Memᴰ n ns ↔ (r .answer ≡ Refused Refusal.NotEnabled → ⊥)
   offered r t =

@@ -9,12 +9,13 @@ use lib.ListN.{length, length-take}
 use borrow.Author.Tests.{not-false}
 use Rattle.paper.specs.Language.{Agent}
 use Rattle.paper.specs.Transitions.{Choice}
-use Rattle.house.specs.declared.Ending.{Ending}
-use Rattle.house.specs.Order.{State}
-use Rattle.house.specs.Run.{Outcome, run}
-use Rattle.house.specs.Theorems.{AtRest, Guided, ends, goes}
-use Rattle.house.specs.Theorems as House
-use Rattle.house.proofs.Run.{run-law}
+use Rattle.runs.specs.declared.Ending.{Ending}
+use Rattle.runs.specs.Order.{State}
+use Rattle.runs.specs.Step.{after}
+use Rattle.runs.specs.Run.{Outcome, run}
+use Rattle.runs.specs.Theorems.{AtRest, Guided, ends, goes}
+use Rattle.runs.specs.Theorems as Runs
+use Rattle.runs.proofs.Run.{run-law}
 use Rattle.meaning.specs.declared.Answer.the-variants.{Done}
 use Rattle.meaning.specs.declared.Configuration.{Configuration}
 use Rattle.meaning.specs.declared.Ran.{Ran}
@@ -38,13 +39,14 @@ passed-good b c e =
 pub plan-fits : (b : Bytes) (c : Configuration) → OnAccepted b c → length (stateOf c .mental .π) ≤ 1024
 unfolding stateOf
 plan-fits b c e =
-    let g : c .length ≤ 1024 = good (layout b) c (passed-good b c e) .fits in
-    rw (length-take (c .length) (c .plan)) (omega arith)
+    let g : c .mind .length ≤ 1024 = good (layout b) c (passed-good b c e) .fits in
+    rw (length-take (c .mind .length) (c .plan)) (omega arith)
 
 -- what the guide reaches from a plan that fits has one that fits
 guided-fits : {A : Agent} {s s′ : State} {ks : List Choice} → Guided A s ks s′ → length (s .mental .π) ≤ 1024 → length (s′ .mental .π) ≤ 1024
+unfolding after
 guided-fits ends h = h
-guided-fits (goes m e f r) h = guided-fits r f
+guided-fits (goes e x f r) h = guided-fits r f
 
 -- ---- the run
 
@@ -52,7 +54,7 @@ module _ (b : Bytes) (c : Configuration) (on : OnAccepted b c) (budget : ℕ) wh
   run-fits : length ((run (agent b) budget (stateOf c)) .state .mental .π) ≤ 1024
   run-fits = guided-fits (run-law (agent b) budget (stateOf c) .guided) (plan-fits b c on)
 
-  pub own-order : (r : Ran) → Running b c budget r → (o : Outcome) × (House.Traced (agent b) budget (stateOf c) o × Tells r o)
+  pub own-order : (r : Ran) → Running b c budget r → (o : Outcome) × (Runs.Traced (agent b) budget (stateOf c) o × Tells r o)
   own-order r (refused h) = absurd (done≢refused (sym on ∙ h))
   own-order r (done h) =
       let o = run (agent b) budget (stateOf c) in

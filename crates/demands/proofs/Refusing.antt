@@ -11,7 +11,7 @@ use Rattle.meaning.specs.declared.Reply.{Reply}
 use Rattle.meaning.specs.declared.Graded.{Graded}
 use Rattle.meaning.specs.declared.Written.{Written}
 use Rattle.meaning.specs.declared.Ran.{Ran}
-use Rattle.house.specs.Order.{State}
+use Rattle.runs.specs.Order.{State}
 use Rattle.meaning.specs.Card.{Bytes}
 use Rattle.meaning.specs.Configurations.{empty}
 use Rattle.meaning.specs.Refusals.{numberOf, answerNumber}
@@ -51,8 +51,8 @@ pub taken-among : (b : Bytes) (c : Configuration) (n : ℕ) (r : Reply) → Taki
 unfolding doneOrCard answerNumber numberOf
 taken-among b c n r (refused h) = wider (doneOrCard ++ (13 ∷ [])) _ refl (at-answer _ h (configuration-among b c))
 taken-among b c n r (not-enabled h l) = wider (10 ∷ []) _ refl (List·Memᴰ·head refl)
-taken-among b c n r (plan-full h s l f) = wider (11 ∷ []) _ refl (List·Memᴰ·head refl)
-taken-among b c n r (done h s l f) = wider (0 ∷ []) _ refl (List·Memᴰ·head refl)
+taken-among b c n r (plan-full h k c′ m l) = wider (11 ∷ []) _ refl (List·Memᴰ·head refl)
+taken-among b c n r (done h k c′ m l) = wider (0 ∷ []) _ refl (List·Memᴰ·head refl)
 
 pub ran-among : (b : Bytes) (c : Configuration) (budget : ℕ) (r : Ran) → Running b c budget r → List·Memᴰ (answerNumber (r .answer)) (doneOrCard ++ (13 ∷ []))
 ran-among b c budget r (refused h) = at-answer _ h (configuration-among b c)
@@ -77,8 +77,8 @@ written-refused b c xs out left r (done h l) q e = absurd (done≢refused e)
 pub taken-refused : (b : Bytes) (c : Configuration) (n : ℕ) (r : Reply) → Taking b c n r → (q : Refusal) → r .answer ≡ Refused q → r .configuration ≡ c
 taken-refused b c n r (refused h) q e = refl
 taken-refused b c n r (not-enabled h l) q e = refl
-taken-refused b c n r (plan-full h s l f) q e = refl
-taken-refused b c n r (done h s l f) q e = absurd (done≢refused e)
+taken-refused b c n r (plan-full h k c′ m l) q e = refl
+taken-refused b c n r (done h k c′ m l) q e = absurd (done≢refused e)
 
 pub ran-refused : (b : Bytes) (c : Configuration) (budget : ℕ) (r : Ran) → Running b c budget r → (q : Refusal) → r .answer ≡ Refused q
     → (r .configuration ≡ c) × (r .count ≡ 0)

@@ -47,7 +47,7 @@ configuration-read l p g =
     let a : actionsGood (l .actions) (take (length π) (padded π)) ≡ true = rw (take-padded π (length π) refl) (g .actions) in
     let z : all (λ x. eqb x 0) (drop (length π) (padded π)) ≡ true = rw d (all-zeros (1024 - length π)) in
     both-true _ _ (le-leb _ _ (plan-fits l p g))
-    (both-true _ _ a (both-true _ _ (g .beliefs) (both-true _ _ (g .goals) (both-true _ _ (le-leb _ _ (g .phase)) z))))
+    (both-true _ _ a (both-true _ _ (both-true _ _ (g .beliefs) (g .goals)) (both-true _ _ (le-leb _ _ (g .phase)) z)))
 
 -- p is written where there is room
 resaved : (b : Bytes) (c : Configuration) (p out left : Bytes) (r : Written) → OnAccepted b c → length p ≤ length out → Writing b c p out r left

@@ -8,7 +8,7 @@ use lib.Dec.{leb, eqb}
 use lib.ListN.{length, take, drop, length-append}
 use lib.Seq.{take-append-seam, drop-append-seam, length-take-le}
 use borrow.Author.Tests.{le-leb, eq-eqb}
-use Rattle.house.specs.Order.{State}
+use Rattle.runs.specs.Order.{State}
 use Rattle.meaning.specs.declared.Answer.the-variants.{Done}
 use Rattle.meaning.specs.declared.Layout.{Layout}
 use Rattle.meaning.specs.declared.Configuration.{Configuration}
@@ -25,7 +25,7 @@ use Rattle.meaning.proofs.Places.{place-laws}
 use Rattle.meaning.proofs.Configurations.{good, configuration-laws}
 use Rattle.demands.specs.Contracts.{Shaped, Restores}
 use Rattle.demands.specs.Demands.{OnAccepted}
-use Rattle.demands.proofs.Choosing.{card-accepted}
+use Rattle.demands.proofs.Codes.{card-accepted}
 use Rattle.demands.proofs.Ordering.{passed-good, plan-fits}
 use Rattle.meaning.proofs.Calls.{restores-good}
 use Rattle.demands.proofs.Ways.{Writing, refused, no-room, done}
@@ -169,16 +169,16 @@ saved-restored b c h out left r (done on l) e r′ f =
 
 -- ---- 44 + L bytes, and no others
 
-pub saved-length : (b : Bytes) (c : Configuration) → Shaped c → OnAccepted b c → length (place (stateOf c)) ≡ 44 + c .length
+pub saved-length : (b : Bytes) (c : Configuration) → Shaped c → OnAccepted b c → length (place (stateOf c)) ≡ 44 + c .mind .length
 unfolding stateOf
 saved-length b c h on =
-    let f : c .length ≤ 1024 = good (layout b) c (passed-good b c on) .fits in
+    let f : c .mind .length ≤ 1024 = good (layout b) c (passed-good b c on) .fits in
     let p : length (c .plan) ≡ 1024 = h .plan .0 in
-    let n : length (take (c .length) (c .plan)) ≡ c .length = length-take-le (c .length) (c .plan) (omega arith) in
+    let n : length (take (c .mind .length) (c .plan)) ≡ c .mind .length = length-take-le (c .mind .length) (c .plan) (omega arith) in
     length-place (layout b) (stateOf c) (kept b c on h) ∙ ap (λ k. 44 + k) n
 
 pub saved : (b : Bytes) (c : Configuration) → Shaped c → (out left : Bytes) (r : Written) → Writing b c (place (stateOf c)) out r left → r .answer ≡ Done
-    → (r .count ≡ 44 + c .length) × (drop (r .count) left ≡ drop (r .count) out)
+    → (r .count ≡ 44 + c .mind .length) × (drop (r .count) left ≡ drop (r .count) out)
 saved b c h out left r (refused w) e = absurd (done≢refused (sym e))
 saved b c h out left r (no-room w l) e = absurd (done≢refused (sym e))
 saved b c h out left r (done on l) e = (saved-length b c h on, drop-append-seam (place (stateOf c)) (drop (length (place (stateOf c))) out))

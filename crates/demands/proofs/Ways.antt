@@ -1,5 +1,5 @@
 -- The ways in which each call may answer, with what holds in each.
-use mathlib.Core.Path.{_≡_, refl, _∙_}
+use mathlib.Core.Path.{_≡_, refl, ap, _∙_, sym}
 use mathlib.Core.Bool.{Bool, true, false}
 use mathlib.Core.List.{List}
 use mathlib.Core.Option.{Option, none, some}
@@ -7,12 +7,17 @@ use Prim.Native.Nat.{ℕ, _≤_, _<_}
 use lib.Dec.{leb}
 use lib.ListN.{length}
 use borrow.Author.Tests.{leb-true, leb-false}
-use Rattle.house.specs.declared.Ending.{Ending}
-use Rattle.house.specs.declared.Offender.{Offender}
-use Rattle.house.specs.declared.Verdict.{Verdict}
-use Rattle.house.specs.Order.{State, enabledCodes}
-use Rattle.house.specs.Run.{fits, run}
-use Rattle.house.specs.Weight.{verdict}
+use Rattle.paper.specs.Language.{Config}
+use Rattle.paper.specs.Transitions.{Choice}
+use Rattle.paper.proofs.Relation.{none≢some, some-inj}
+use Rattle.runs.specs.declared.Ending.{Ending}
+use Rattle.runs.specs.declared.Offender.{Offender}
+use Rattle.runs.specs.declared.Verdict.{Verdict}
+use Rattle.runs.specs.Order.{State, enabledCodes}
+use Rattle.runs.specs.Step.{after, Reached, stepBy}
+use Rattle.runs.specs.Run.{run}
+use Rattle.runs.specs.Weight.{verdict}
+use Rattle.runs.proofs.Step.{StepsTo, none-there, too-long, taken, steps-to}
 use Rattle.meaning.specs.declared.Refusal.{Refusal}
 use Rattle.meaning.specs.declared.Answer.{Answer}
 use Rattle.meaning.specs.declared.Answer.the-variants.{Done, Refused}
@@ -26,10 +31,11 @@ use Rattle.meaning.specs.Card.{Bytes, layout, weight, agent, initialPlan, start
 use Rattle.meaning.specs.Configurations.{stateOf, configurationOf, empty}
 use Rattle.meaning.specs.Place.{place, placed}
 use Rattle.meaning.specs.Refusals.{cardAnswer, placeAnswer, configurationAnswer}
-use Rattle.meaning.specs.Calls.{reply, graded, written, over, writes, leaves, lists, listLeaves, leadsTo, ran, saves, saveLeaves}
-use Rattle.meaning.proofs.Calls.{checks-good, checks-refused, loads-good, loads-refused, grades-good, grades-refused}
-use Rattle.meaning.proofs.Calls.{writes-refused, writes-room, writes-no-room, takes-refused, takes-nothing, takes-full, takes-move, runs-refused, runs-good, restores-good, restores-refused}
+use Rattle.meaning.specs.Calls.{reply, graded, written, over, writes, leaves, lists, listLeaves, choice, ran, saves, saveLeaves}
+use Rattle.meaning.proofs.Calls.{checks-good, checks-refused, loads-good, loads-refused, grades-good, grades-refused, writes-refused, writes-room, writes-no-room, takes-refused, takes-nothing, takes-full, takes-to, runs-refused, runs-good, restores-good, restores-refused}
 use Rattle.demands.specs.Contracts.{Checks, Loads, Grades, Lists, Takes, Runs, Saves, Restores}
+use Rattle.demands.specs.Demands.{OnAccepted, ChosenMove}
+use Rattle.demands.proofs.Codes.{coded, chosen}
 
 -- ---- check, load, grade, restore
 
@@ -104,26 +110,25 @@ saving b c out left r (e, f) = writing b c (place (stateOf c)) out left r e f
 
 pub data Taking (b : Bytes) (c : Configuration) (n : ℕ) : Reply → Type 0 where
   refused : {q : Refusal} → configurationAnswer b c ≡ Refused q → Taking b c n (reply (Refused q) c)
-  not-enabled : configurationAnswer b c ≡ Done → leadsTo (agent b) (stateOf c) n ≡ none → Taking b c n (reply (Refused Refusal.NotEnabled) c)
-  plan-full : configurationAnswer b c ≡ Done → (s : State) → leadsTo (agent b) (stateOf c) n ≡ some s → 1024 < length (s .mental .π)
-      → Taking b c n (reply (Refused Refusal.PlanFull) c)
-  done : configurationAnswer b c ≡ Done → (s : State) → leadsTo (agent b) (stateOf c) n ≡ some s → length (s .mental .π) ≤ 1024
-      → Taking b c n (reply Done (configurationOf s))
+  not-enabled : OnAccepted b c → ((k : Choice) (c′ : Config) → ChosenMove b c n k c′ → ⊥) → Taking b c n (reply (Refused Refusal.NotEnabled) c)
+  plan-full : OnAccepted b c → (k : Choice) (c′ : Config) → ChosenMove b c n k c′ → 1024 < length (c′ .π) → Taking b c n (reply (Refused Refusal.PlanFull) c)
+  done : OnAccepted b c → (k : Choice) (c′ : Config) → ChosenMove b c n k c′ → length (c′ .π) ≤ 1024
+      → Taking b c n (reply Done (configurationOf (after (stateOf c) k c′)))
 
 pub taking : (b : Bytes) (c : Configuration) (n : ℕ) (r : Reply) → Takes b c n r → Taking b c n r
-unfolding fits
 taking b c n r e = go (configurationAnswer b c) refl
   where
-    fitting : configurationAnswer b c ≡ Done → (s : State) → leadsTo (agent b) (stateOf c) n ≡ some s → (t : Bool) → fits s ≡ t → Taking b c n r
-    fitting k s l true f = rw (e ∙ takes-move b c k n s l f) (done k s l (leb-true _ _ f))
-    fitting k s l false f = rw (e ∙ takes-full b c k n s l f) (plan-full k s l (leb-false _ _ f))
+    by : OnAccepted b c → (k : Choice) → choice n ≡ some k → {o : Reached} → stepBy (agent b) (stateOf c) (choice n) ≡ o → StepsTo (agent b) (stateOf c) k o → Taking b c n r
+    by on k h q (none-there x) = rw (e ∙ takes-nothing b c on n q) (not-enabled on (λ j c′ m. x c′ (rw (some-inj (sym (chosen b c on m) ∙ h)) at (m .transition))))
+    by on k h q (too-long c′ s l) = rw (e ∙ takes-full b c on n q) (plan-full on k c′ (record { coded = coded n k h; transition = s }) l)
+    by on k h q (taken c′ s l) = rw (e ∙ takes-to b c on n k _ q) (done on k c′ (record { coded = coded n k h; transition = s }) l)
 
-    led : configurationAnswer b c ≡ Done → (o : Option State) → leadsTo (agent b) (stateOf c) n ≡ o → Taking b c n r
-    led k none l = rw (e ∙ takes-nothing b c k n l) (not-enabled k l)
-    led k (some s) l = fitting k s l (fits s) refl
+    read : OnAccepted b c → (o : Option Choice) → choice n ≡ o → Taking b c n r
+    read on none h = rw (e ∙ takes-nothing b c on n (ap (stepBy (agent b) (stateOf c)) h)) (not-enabled on (λ k c′ m. none≢some (sym h ∙ chosen b c on m)))
+    read on (some k) h = by on k h (ap (stepBy (agent b) (stateOf c)) h) (steps-to (agent b) (stateOf c) k)
 
     go : (a : Answer) → configurationAnswer b c ≡ a → Taking b c n r
-    go Done h = led h (leadsTo (agent b) (stateOf c) n) refl
+    go Done h = read h (choice n) refl
     go (Refused q) h = rw (e ∙ takes-refused b c n q h) (refused h)
 
 -- ---- run

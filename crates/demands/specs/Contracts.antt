@@ -49,12 +49,12 @@ Restores b p r = r ≡ restores b p
 -- What the types of its fields say of any configuration that is handed in.
 pub record Shaped (c : Configuration) : Type 0 where
   -- 01, "The card, edition 1": "A set of atoms is 16 bytes"
-  pub beliefs : (length (c .beliefs) ≡ 16) × AreBytes (c .beliefs)
+  pub beliefs : (length (c .mind .beliefs) ≡ 16) × AreBytes (c .mind .beliefs)
   -- 01, "The card, edition 1": "A set of atoms is 16 bytes"
-  pub goals : (length (c .goals) ≡ 16) × AreBytes (c .goals)
+  pub goals : (length (c .mind .goals) ≡ 16) × AreBytes (c .mind .goals)
   -- 00, the machine: "A plan holds up to 1,024 actions."
   pub plan : (length (c .plan) ≡ 1024) × AreBytes (c .plan)
   -- the plan's length is a number of two bytes
-  pub length : c .length < 65536
+  pub length : c .mind .length < 65536
   -- the phase is a byte
-  pub phase : c .phase < 256
+  pub phase : c .mind .phase < 256

@@ -9,13 +9,14 @@ use lib.ListN.{length, take, drop}
 use Rattle.paper.specs.Language.{Config}
 use Rattle.paper.specs.Transitions.{Choice, Step}
 use Rattle.paper.specs.Theorems.{AreBytes}
-use Rattle.house.specs.declared.Ending.{Ending}
-use Rattle.house.specs.declared.Verdict.{Verdict}
-use Rattle.house.specs.Order.{State, code, after}
-use Rattle.house.specs.Run.{Chain, Outcome}
-use Rattle.house.specs.Weight.{weigh, Bounded, selections}
-use Rattle.house.specs.Theorems.{AtRest, Rising}
-use Rattle.house.specs.Theorems as House
+use Rattle.runs.specs.declared.Ending.{Ending}
+use Rattle.runs.specs.declared.Verdict.{Verdict}
+use Rattle.runs.specs.Order.{State, code}
+use Rattle.runs.specs.Step.{after}
+use Rattle.runs.specs.Run.{Chain, Outcome}
+use Rattle.runs.specs.Weight.{weigh, Bounded, selections}
+use Rattle.runs.specs.Theorems.{AtRest, Rising}
+use Rattle.runs.specs.Theorems as Runs
 use Rattle.meaning.specs.declared.Refusal.{Refusal}
 use Rattle.meaning.specs.declared.Answer.{Answer}
 use Rattle.meaning.specs.declared.Answer.the-variants.{Done, Refused}
@@ -149,7 +150,7 @@ pub record Demand2 : Type 0 where
   -- The configuration it leads to: 01, "A configuration and its transitions", The guide's order: "After any transition, the
   -- guide's or a chosen one, the phase is the kind taken plus 1, modulo 3."
   pub taken-to : (b : Bytes) (c : Configuration) → OnAccepted b c → (n : ℕ) (r : Reply) → Takes b c n r
-      → (k : Choice) (c′ : Config) → ChosenMove b c n k c′ → length (c′ .π) ≤ 1024 → StandsFor (r .configuration) (after k c′)
+      → (k : Choice) (c′ : Config) → ChosenMove b c n k c′ → length (c′ .π) ≤ 1024 → StandsFor (r .configuration) (after (stateOf c) k c′)
   -- 01, "Numbers the guide may answer", row 10: "the code is no enabled choice"
   pub not-enabled-exactly : (b : Bytes) (c : Configuration) → OnAccepted b c → (n : ℕ) (r : Reply) → Takes b c n r
       → (r .answer ≡ Refused Refusal.NotEnabled) ↔ ((k : Choice) (c′ : Config) → ChosenMove b c n k c′ → ⊥)
@@ -164,19 +165,19 @@ pub record Demand2 : Type 0 where
       → r .answer ≡ Done → (n : ℕ) (r′ : Reply) → Takes b c n r′
       → List·Memᴰ n (take (r .count) left) ↔ (r′ .answer ≡ Refused Refusal.NotEnabled → ⊥)
   -- 00, demand 2: "The guide's own order is document 01's.": which move is the guide's, from any state.
-  pub own-move : (b : Bytes) (s : State) → House.OrderLaws (agent b) s
+  pub own-move : (b : Bytes) (s : State) → Runs.OrderLaws (agent b) s
   -- 00, demand 2: "The guide's own order is document 01's.": a run takes the guide's moves, each step of the chain.
   pub own-order : (b : Bytes) (c : Configuration) → OnAccepted b c → (budget : ℕ) (r : Ran) → Runs b c budget r
-      → (o : Outcome) × (House.Traced (agent b) budget (stateOf c) o × Tells r o)
+      → (o : Outcome) × (Runs.Traced (agent b) budget (stateOf c) o × Tells r o)
   -- 00, demand 2: "With budget left it says "rest" exactly when no transition exists."
   pub rest-exactly : (b : Bytes) (c : Configuration) → OnAccepted b c → (budget : ℕ) (r : Ran) → Runs b c budget r
       → r .count < budget → (r .ending ≡ Ending.Rest) ↔ AtRest (agent b) (stateOf (r .configuration) .mental)
   -- 00, demand 2: "with room to save": 01, "The place": "Exactly 44 + L bytes."
   pub saved-room : (b : Bytes) (c : Configuration) → Shaped c → OnAccepted b c → (out left : Bytes) (r : Written) → Saves b c out r left
-      → RoomFor (44 + c .length) out (r .answer)
+      → RoomFor (44 + c .mind .length) out (r .answer)
   -- 01, "Numbers the guide may answer": "Saving writes 44 + L bytes and no others."
   pub saved : (b : Bytes) (c : Configuration) → Shaped c → (out left : Bytes) (r : Written) → Saves b c out r left → r .answer ≡ Done
-      → (r .count ≡ 44 + c .length) × (drop (r .count) left ≡ drop (r .count) out)
+      → (r .count ≡ 44 + c .mind .length) × (drop (r .count) left ≡ drop (r .count) out)
   -- 00, demand 2: "A place saved and restored is the same configuration", "under one card and with room to save".
   pub saved-restored : (b : Bytes) (c : Configuration) → Shaped c → (out left : Bytes) (r : Written) → Saves b c out r left
       → r .answer ≡ Done → (r′ : Reply) → Restores b (take (r .count) left) r′

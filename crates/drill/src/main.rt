@@ -1,5 +1,6 @@
 // The drill: requests on standard input, an answer for each on standard output, so that any other program can be compared with the
-// eight calls byte for byte. Numbers of two bytes are low byte first. "A request that breaks these rules ends the program."
+// eight calls byte for byte. Numbers of two bytes are low byte first. "A request that breaks these rules, or is not there yet, ends
+// the program."
 ghost use mathlib.Core.Path.{_≡_};
 ghost use Prim.Native.Nat.{_≤_};
 ghost use lib.ListN.{length};
@@ -9,10 +10,11 @@ use answers::refusal_number;
 use answers::verdict_number;
 use answers::verdict_offender;
 use answers::verdict_rule;
-use layout::readers::set_at;
+use layout::bytes::set_at;
 use meaning::Answer;
 use meaning::Checked;
 use meaning::Configuration;
+use meaning::Mind;
 
 // A byte of the input, unless it has ended.
 enum Byte {
@@ -78,8 +80,8 @@ fn no_plan() -> [u8; 1024]
     [0u8; 1024]
 }
 
-// "beliefs (16 bytes), goals (16), plan length (2), phase (1), m (2, at most 1,024), and the first m bytes of the plan's array; the
-// rest of the array is zero"
+// "An image of a configuration: beliefs, goals (16 bytes each …), plan length (2), phase (1), … m (2, at most 1,024), and the first
+// m bytes of the plan's array; the rest of the array is zero."
 fn next_image() -> Asked {
     let mut head = [0u8; 37];
     let mut plan = no_plan();
@@ -95,11 +97,13 @@ fn next_image() -> Asked {
     Asked {
         whole: whole,
         configuration: Configuration {
-            beliefs: beliefs,
-            goals: goals,
+            mind: Mind {
+                beliefs: beliefs,
+                goals: goals,
+                length: joined(head[32], head[33]),
+                phase: head[34],
+            },
             plan: plan,
-            length: joined(head[32], head[33]),
-            phase: head[34],
         },
     }
 }
@@ -150,12 +154,13 @@ fn tell_plan(plan: &[u8; 1024]) {
 
 // An image is told.
 fn tell_image(c: Configuration) {
-    let beliefs = c.beliefs;
-    let goals = c.goals;
+    let mind = c.mind;
+    let beliefs = mind.beliefs;
+    let goals = mind.goals;
     let plan = c.plan;
-    let n = c.length;
+    let n = mind.length;
     let m = least(&plan);
-    let rest = [low(n), high(n), c.phase, low(m as u16), high(m as u16)];
+    let rest = [low(n), high(n), mind.phase, low(m as u16), high(m as u16)];
     io::write_all(1, &beliefs);
     io::write_all(1, &goals);
     io::write_all(1, &rest);
@@ -190,7 +195,7 @@ fn tell_verdict(verdict: u8, offender: u8, rule: u16) {
     io::write_all(1, &four);
 }
 
-// "What a refusal leaves open in document 01 (an ending, a verdict) is written as 0 here."
+// "What a refusal leaves open … (an ending, a verdict) is written as 0 here"
 fn grade(card: &[u8]) -> bool {
     let r = guide::grade(card);
     let a = r.answer;

@@ -1,1 +1,4 @@
-pub mod Laid
+pub mod Copying
+pub mod GoodLayout
+pub mod Within
+pub mod Written

@@ -1,1 +1,3 @@
-pub mod Laid
+pub mod GoodLayout
+pub mod Entries
+pub mod PlaceParts

@@ -4,8 +4,8 @@ ghost use Prim.Native.Nat.{_+_, _*_, _≤_};
 ghost use lib.ListN.{length};
 ghost use Rattle.meaning.specs.Card.{section, span, layout};
 ghost use Rattle.meaning.specs.Refusals.{within, countsGood, offsetsGood};
-ghost use Rattle.layout.specs.Laid.{NarrowSection, NarrowSpan, Narrow};
-use crate::readers::number_at;
+ghost use Rattle.layout.specs.GoodLayout.{TwoByteSection, TwoByteSpan, TwoByteLayout};
+use crate::bytes::number_at;
 use meaning::Layout;
 use meaning::Section;
 use meaning::Span;
@@ -13,7 +13,7 @@ use meaning::Span;
 // A section's count and offset.
 fn read_section(card: &[u8], at: usize) -> Section
     requires { ⌜ at + 4 ≤ length (now card) ⌝ }
-    ensures { λ r. ⌜ (r ≡ section (now (card .entry)) at) × NarrowSection r ⌝ }
+    ensures { λ r. ⌜ (r ≡ section (now (card .entry)) at) × TwoByteSection r ⌝ }
 {
     Section {
         count: number_at(card, at),
@@ -24,7 +24,7 @@ fn read_section(card: &[u8], at: usize) -> Section
 // A plan's start and length.
 pub fn read_span(card: &[u8], at: usize) -> Span
     requires { ⌜ at + 4 ≤ length (now card) ⌝ }
-    ensures { λ r. ⌜ (r ≡ span (now (card .entry)) at) × NarrowSpan r ⌝ }
+    ensures { λ r. ⌜ (r ≡ span (now (card .entry)) at) × TwoByteSpan r ⌝ }
 {
     Span {
         start: number_at(card, at),
@@ -35,7 +35,7 @@ pub fn read_span(card: &[u8], at: usize) -> Span
 // What the header says.
 pub fn read_layout(card: &[u8]) -> Layout
     requires { ⌜ 64 ≤ length (now card) ⌝ }
-    ensures { λ r. ⌜ (r ≡ layout (now (card .entry))) × Narrow r ⌝ }
+    ensures { λ r. ⌜ (r ≡ layout (now (card .entry))) × TwoByteLayout r ⌝ }
 {
     Layout {
         atoms: number_at(card, 4),
@@ -75,7 +75,7 @@ pub fn counts_good(l: Layout) -> bool
 
 // Not row 4: every offset, and the length n of the whole, is the required one.
 pub fn offsets_good(l: Layout, n: usize) -> bool
-    requires { ⌜ Narrow l ⌝ }
+    requires { ⌜ TwoByteLayout l ⌝ }
     ensures { λ r. ⌜ r ≡ offsetsGood l n ⌝ }
 {
     let nodes = l.nodes;

@@ -1,3 +1,6 @@
-// Numbers and sets read from bytes; a card's layout by name, and rows 3 and 4 of the refusal table over it.
+// Bytes in one room: numbers and sets read from bytes, a card's layout by name with rows 3 and 4 of the refusal table over it, the
+// entries of its sections, and the parts of a place.
+pub mod bytes;
+pub mod entries;
 pub mod header;
-pub mod readers;
+pub mod place;

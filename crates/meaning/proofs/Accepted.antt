@@ -8,17 +8,29 @@ use lib.Dec.{leb}
 use lib.ListN.{length, getD}
 use borrow.Author.Tests.{leb-true, not-false}
 use Rattle.paper.proofs.Relation.{both}
-use Rattle.house.specs.Order.{numbers}
-use Rattle.house.specs.Theorems.{Numbered}
-use Rattle.house.proofs.Numbers.{length-made}
-use Rattle.house.proofs.Weight.{bounded-law}
+use Rattle.runs.specs.Order.{numbers}
+use Rattle.runs.specs.Theorems.{Numbered}
+use Rattle.runs.proofs.Numbers.{length-made}
+use Rattle.runs.proofs.Weight.{bounded-law}
 use Rattle.meaning.specs.declared.Answer.the-variants.{Done}
 use Rattle.meaning.specs.declared.Section.{Section}
 use Rattle.meaning.specs.declared.Layout.{Layout}
-use Rattle.meaning.specs.Card.{Bytes, layout, entryAt, entries, weightAt, weights, weight, agentOf, agentFor, agent, initialPlan}
-use Rattle.meaning.specs.Refusals.{all, within, countsGood, weightsGood, cardTable, cardAnswer}
-use Rattle.meaning.specs.Theorems.{Accepted, CardLaw}
+use Rattle.meaning.specs.Card.{Bytes, layout, entries, weightAt, weights, weight, agentOf, agentFor, agent, initialPlan}
+use Rattle.meaning.specs.Refusals.{all, within, cardLongEnough, cardMarkGood, countsGood, offsetsGood, weightsGood, nodesGood, containing, rulesGood, actionsGood, pool, setsGood, cardTable, cardAnswer}
+use Rattle.meaning.specs.Theorems.{CardLaw}
 use Rattle.meaning.proofs.Tables.{passes}
+
+-- what an accepted card has passed, row by row
+pub record Accepted (b : Bytes) : Type 0 where
+  pub long-enough : cardLongEnough b ≡ true
+  pub marked : cardMarkGood b ≡ true
+  pub counts : countsGood (layout b) ≡ true
+  pub offsets : offsetsGood (layout b) (length b) ≡ true
+  pub weights : weightsGood (layout b) b ≡ true
+  pub nodes : nodesGood (layout b) b ≡ true
+  pub rules : rulesGood (containing 1 (layout b) b) (containing 2 (layout b) b) (layout b) b ≡ true
+  pub pool : actionsGood (layout b .actions) (pool (layout b) b) ≡ true
+  pub sets : setsGood (layout b) b ≡ true
 
 pub accepted : (b : Bytes) → cardAnswer b ≡ Done → Accepted b
 unfolding cardAnswer cardTable
@@ -88,16 +100,16 @@ counts l e0 =
 
 -- ---- its agent
 
-pub length-entries : {R : Type 0} (read : ℕ → R) (size : ℕ) (s : Section) → length (entries read size s) ≡ s .count
-length-entries read size s = length-made (λ i. read (entryAt size s i)) 0 (s .count)
+pub length-entries : {R : Type 0} (read : ℕ → R) (s : Section) → length (entries read s) ≡ s .count
+length-entries read s = length-made read 0 (s .count)
 
 numbered : (b : Bytes) → countsGood (layout b) ≡ true → Numbered (agent b)
 unfolding agent agentFor agentOf
 numbered b e =
     let c = counts (layout b) e in
     record {
-      selections = rw (length-entries _ 8 (layout b .selections)) (c .selections);
-      specifications = rw (length-entries _ 36 (layout b .specifications)) (c .specifications);
+      selections = rw (length-entries _ (layout b .selections)) (c .selections);
+      specifications = rw (length-entries _ (layout b .specifications)) (c .specifications);
     }
 
 -- ---- its weights
@@ -115,7 +127,6 @@ pub card-laws : CardLaw
 card-laws b e =
     let a = accepted b e in
     record {
-      accepted = a;
       numbered = numbered b (a .counts);
       graded = bounded-law (weight b) (weighs-something b (a .weights)) (agent b) (initialPlan b);
     }

@@ -2,27 +2,28 @@
 use mathlib.Core.Path.{_≡_, refl, sym, ap, _∙_, subst}
 use mathlib.Core.Bool.{true, false, not}
 use mathlib.Core.List.{List, []}
-use mathlib.Core.Option.{none, some}
 use Prim.Native.Nat.{ℕ}
 use lib.Dec.{leb}
 use lib.ListN.{length}
-use Rattle.house.specs.declared.Verdict.{Verdict}
-use Rattle.house.specs.declared.Offender.{Offender}
-use Rattle.house.specs.Weight.{verdict}
+use Rattle.runs.specs.declared.Verdict.{Verdict}
+use Rattle.runs.specs.declared.Offender.{Offender}
+use Rattle.runs.specs.Weight.{verdict}
 use Rattle.meaning.specs.declared.Refusal.{Refusal}
 use Rattle.meaning.specs.declared.Layout.{Layout}
 use Rattle.meaning.specs.declared.Answer.{Answer}
 use Rattle.meaning.specs.declared.Answer.the-variants.{Done, Refused}
 use Rattle.meaning.specs.declared.Checked.{Checked}
 use Rattle.meaning.specs.Card.{Bytes, layout, weight, agent, initialPlan, start}
-use Rattle.house.specs.declared.Ending.{Ending}
-use Rattle.house.specs.Order.{State, enabledCodes}
-use Rattle.house.specs.Run.{fits, run}
+use Rattle.runs.specs.declared.Ending.{Ending}
+use Rattle.paper.specs.Transitions.{Choice}
+use Rattle.runs.specs.Order.{State, enabledCodes}
+use Rattle.runs.specs.Step.{nothing, full, to, stepBy}
+use Rattle.runs.specs.Run.{run}
 use Rattle.meaning.specs.declared.Configuration.{Configuration}
 use Rattle.meaning.specs.Configurations.{stateOf, configurationOf, empty}
 use Rattle.meaning.specs.Refusals.{cardAnswer, placeAnswer, _given-when_, andThen, firstGiven, configurationGood, configurationTable, configurationAnswer}
 use Rattle.meaning.specs.Place.{place, placed}
-use Rattle.meaning.specs.Calls.{checks, reply, loads, graded, grades, written, over, roomFor, writeAnswer, writes, leaves, lists, listLeaves, leadsTo, takes, ran, runs, saves, saveLeaves, restores}
+use Rattle.meaning.specs.Calls.{checks, reply, loads, graded, grades, written, over, roomFor, writeAnswer, writes, leaves, lists, listLeaves, choice, takes, ran, runs, saves, saveLeaves, restores}
 use Rattle.meaning.proofs.Tables.{given, not-given}
 
 module _ (b : Bytes) where
@@ -89,17 +90,17 @@ module _ (b : Bytes) (c : Configuration) where
   runs-refused budget r e = rw (e, runs)
 
 module _ (b : Bytes) (c : Configuration) (good : configurationAnswer b c ≡ Done) where
-  pub takes-nothing : (code : ℕ) → leadsTo (agent b) (stateOf c) code ≡ none → takes b c code ≡ reply (Refused Refusal.NotEnabled) c
+  pub takes-nothing : (code : ℕ) → stepBy (agent b) (stateOf c) (choice code) ≡ nothing → takes b c code ≡ reply (Refused Refusal.NotEnabled) c
   unfolding takes
   takes-nothing code e = rw (good, takes, e)
 
-  pub takes-full : (code : ℕ) (s : State) → leadsTo (agent b) (stateOf c) code ≡ some s → fits s ≡ false → takes b c code ≡ reply (Refused Refusal.PlanFull) c
+  pub takes-full : (code : ℕ) → stepBy (agent b) (stateOf c) (choice code) ≡ full → takes b c code ≡ reply (Refused Refusal.PlanFull) c
   unfolding takes
-  takes-full code s e f = rw (good, takes, e, f)
+  takes-full code e = rw (good, takes, e)
 
-  pub takes-move : (code : ℕ) (s : State) → leadsTo (agent b) (stateOf c) code ≡ some s → fits s ≡ true → takes b c code ≡ reply Done (configurationOf s)
+  pub takes-to : (code : ℕ) (k : Choice) (s : State) → stepBy (agent b) (stateOf c) (choice code) ≡ to k s → takes b c code ≡ reply Done (configurationOf s)
   unfolding takes
-  takes-move code s e f = rw (good, takes, e, f)
+  takes-to code k s e = rw (good, takes, e)
 
   pub runs-good : (budget : ℕ) → runs b c budget ≡ ran (run (agent b) budget (stateOf c))
   unfolding runs

@@ -10,11 +10,11 @@ use lib.Seq.{take-at, length-take-le}
 use borrow.Author.Tests.{leb-true, eqb-true}
 use Rattle.paper.specs.Language.{⟨_/_/_⟩}
 use Rattle.paper.proofs.Relation.{both}
-use Rattle.house.specs.Order.{State}
+use Rattle.runs.specs.Order.{State}
 use Rattle.meaning.specs.declared.Layout.{Layout}
 use Rattle.meaning.specs.declared.Configuration.{Configuration}
 use Rattle.meaning.specs.Configurations.{padded, stateOf, configurationOf}
-use Rattle.meaning.specs.Refusals.{all, actionsGood, setGood, configurationGood}
+use Rattle.meaning.specs.Refusals.{all, actionsGood, setGood, bothGood, configurationGood}
 use Rattle.meaning.specs.Theorems.{ConfigurationLaws}
 
 -- the plan is what stands before the end
@@ -38,22 +38,22 @@ padded-take d n l h e =
 
 -- what row 13 leaves of a configuration
 pub record Good (l : Layout) (c : Configuration) : Type 0 where
-  pub fits : c .length ≤ 1024
-  pub actions : actionsGood (l .actions) (take (c .length) (c .plan)) ≡ true
-  pub beliefs : setGood (l .atoms) (c .beliefs) ≡ true
-  pub goals : setGood (l .atoms) (c .goals) ≡ true
-  pub phase : c .phase ≤ 2
-  pub zeros : all (λ x. eqb x 0) (drop (c .length) (c .plan)) ≡ true
+  pub fits : c .mind .length ≤ 1024
+  pub actions : actionsGood (l .actions) (take (c .mind .length) (c .plan)) ≡ true
+  pub beliefs : setGood (l .atoms) (c .mind .beliefs) ≡ true
+  pub goals : setGood (l .atoms) (c .mind .goals) ≡ true
+  pub phase : c .mind .phase ≤ 2
+  pub zeros : all (λ x. eqb x 0) (drop (c .mind .length) (c .plan)) ≡ true
 
 pub good : (l : Layout) (c : Configuration) → configurationGood l c ≡ true → Good l c
 unfolding configurationGood
 good l c e0 =
-    let (h1, e1) = both (leb (c .length) 1024) _ e0 in
-    let (h2, e2) = both (actionsGood (l .actions) (take (c .length) (c .plan))) _ e1 in
-    let (h3, e3) = both (setGood (l .atoms) (c .beliefs)) _ e2 in
-    let (h4, e4) = both (setGood (l .atoms) (c .goals)) _ e3 in
-    let (h5, e5) = both (leb (c .phase) 2) _ e4 in
-    record { fits = leb-true _ _ h1; actions = h2; beliefs = h3; goals = h4; phase = leb-true _ _ h5; zeros = e5 }
+    let (h1, e1) = both (leb (c .mind .length) 1024) _ e0 in
+    let (h2, e2) = both (actionsGood (l .actions) (take (c .mind .length) (c .plan))) _ e1 in
+    let (h3, e3) = both (bothGood (l .atoms) (c .mind .beliefs) (c .mind .goals)) _ e2 in
+    let (b, g) = both (setGood (l .atoms) (c .mind .beliefs)) _ h3 in
+    let (h4, e4) = both (leb (c .mind .phase) 2) _ e3 in
+    record { fits = leb-true _ _ h1; actions = h2; beliefs = b; goals = g; phase = leb-true _ _ h4; zeros = e4 }
 
 of-state : (s : State) → length (s .mental .π) ≤ 1024 → stateOf (configurationOf s) ≡ s
 unfolding stateOf configurationOf
@@ -63,10 +63,11 @@ of-configuration : (l : Layout) (c : Configuration) → length (c .plan) ≡ 102
 unfolding stateOf configurationOf
 of-configuration l c r e =
     let g = good l c e in
-    let p : padded (take (c .length) (c .plan)) ≡ c .plan = padded-take (c .plan) (c .length) r (g .fits) (g .zeros) in
+    let m = c .mind in
+    let p : padded (take (m .length) (c .plan)) ≡ c .plan = padded-take (c .plan) (m .length) r (g .fits) (g .zeros) in
     let f = g .fits in
-    let n : length (take (c .length) (c .plan)) ≡ c .length = length-take-le (c .length) (c .plan) (omega arith) in
-    λ i. record { beliefs = c .beliefs; goals = c .goals; plan = p i; length = n i; phase = c .phase }
+    let n : length (take (m .length) (c .plan)) ≡ m .length = length-take-le (m .length) (c .plan) (omega arith) in
+    λ i. record { mind = record { beliefs = m .beliefs; goals = m .goals; length = n i; phase = m .phase }; plan = p i }
 
 pub configuration-laws : ConfigurationLaws
 configuration-laws = record { of-state = of-state; of-configuration = of-configuration }

@@ -7,7 +7,7 @@ use native.Mathlib.Nat.{le-of-suc-le-suc, not-suc-le-zero, zero-add}
 use native.Mathlib.Omega.{arith}
 use lib.ListN.{length, getD}
 use Rattle.paper.proofs.Relation.{both}
-use Rattle.house.specs.Order.{numbers}
+use Rattle.runs.specs.Order.{numbers}
 use Rattle.meaning.specs.Refusals.{all, every}
 
 pub both-true : (a b : Bool) → a ≡ true → b ≡ true → a && b ≡ true

@@ -2,7 +2,7 @@
 use mathlib.Core.Path.{_≡_, refl, ap, ap₂, _∙_, sym}
 use mathlib.Core.Bool.{Bool, true, false, _||_}
 use mathlib.Core.List.{List}
-use Prim.Native.Nat.{ℕ, zero, suc, _+_, _≤_, _<_}
+use Prim.Native.Nat.{ℕ, zero, suc, _≤_, _<_}
 use native.Mathlib.Nat.{zero-add}
 use native.Mathlib.Omega.{arith}
 use lib.Dec.{ltb}
@@ -10,9 +10,10 @@ use lib.ListN.{length, getD}
 use borrow.Author.Tests.{ltb-true}
 use Rattle.paper.specs.Language.{Letter, Query, ⊤, atom, ¬′, _∧′_, _∨′_}
 use Rattle.paper.proofs.Relation.{both, false≢true}
-use Rattle.house.proofs.Numbers.{length-made, made-at}
+use Rattle.runs.proofs.Numbers.{length-made, made-at}
 use Rattle.meaning.specs.declared.Layout.{Layout}
-use Rattle.meaning.specs.Card.{Bytes, byte, entryAt, Node, nodeAt, nodes, pass, queryOf, conditions}
+use Rattle.meaning.specs.declared.Node.{Node}
+use Rattle.meaning.specs.Card.{Bytes, nodeAt, nodes, pass, queryOf, conditions}
 use Rattle.meaning.specs.Refusals.{kindGood, nodeGood, nodesGood, containsOf, containing}
 use Rattle.meaning.proofs.Every.{every-at}
 use Rattle.meaning.proofs.Pass.{pass-at}
@@ -50,29 +51,19 @@ rule n i (suc (suc (suc (suc (suc (suc kind)))))) a b e = absurd (false≢true e
 module _ (l : Layout) (b : Bytes) where
   pub length-nodes : length (nodes l b) ≡ l .nodes .count
   unfolding nodes
-  length-nodes = length-made (λ i. nodeAt b (entryAt 4 (l .nodes) i)) 0 (l .nodes .count)
+  length-nodes = length-made (nodeAt l b) 0 (l .nodes .count)
 
-  pub node-at : (i : ℕ) (d : Node) → i < l .nodes .count → getD (nodes l b) i d ≡ nodeAt b (entryAt 4 (l .nodes) i)
+  pub node-at : (i : ℕ) (d : Node) → i < l .nodes .count → getD (nodes l b) i d ≡ nodeAt l b i
   unfolding nodes
-  node-at i d h = made-at (λ i. nodeAt b (entryAt 4 (l .nodes) i)) 0 (l .nodes .count) i d h ∙ ap (λ j. nodeAt b (entryAt 4 (l .nodes) j)) (zero-add i)
-
-  -- the bytes of node i
-  abbrev pub kindOf : ℕ → ℕ
-  kindOf i = byte b (entryAt 4 (l .nodes) i)
-
-  abbrev pub aOf : ℕ → ℕ
-  aOf i = byte b (entryAt 4 (l .nodes) i + 1)
-
-  abbrev pub bOf : ℕ → ℕ
-  bOf i = byte b (entryAt 4 (l .nodes) i + 2)
+  node-at i d h = made-at (nodeAt l b) 0 (l .nodes .count) i d h ∙ ap (nodeAt l b) (zero-add i)
 
   module _ (good : nodesGood l b ≡ true) (i : ℕ) (h : i < l .nodes .count) where
-    pub kind-good : kindGood (l .atoms) i (kindOf i) (aOf i) (bOf i) ≡ true
-    unfolding nodesGood nodeAt
-    kind-good = both (kindGood (l .atoms) i (kindOf i) (aOf i) (bOf i)) _ (every-at (λ i. nodeGood (l .atoms) i (nodeAt b (entryAt 4 (l .nodes) i))) (l .nodes .count) i good h) .0
+    abbrev x : Node
+    x = nodeAt l b i
 
-    pub node-rule : Rule (l .atoms) i (kindOf i) (aOf i) (bOf i)
-    node-rule = rule (l .atoms) i (kindOf i) (aOf i) (bOf i) kind-good
+    pub node-rule : Rule (l .atoms) i (x .kind) (x .a) (x .b)
+    unfolding nodesGood
+    node-rule = rule (l .atoms) i (x .kind) (x .a) (x .b) (both (kindGood (l .atoms) i (x .kind) (x .a) (x .b)) _ (every-at (λ i. nodeGood (l .atoms) i (nodeAt l b i)) (l .nodes .count) i good h) .0)
 
     -- what a pass makes of node i, if it looks at the children that the kind has
     module _ {X : Type 0} (make : ℕ → ℕ → ℕ → (ℕ → X) → X) (other : X)
@@ -80,21 +71,19 @@ module _ (l : Layout) (b : Bytes) where
       abbrev made : List X
       made = pass (λ i n q. make (n .kind) (n .a) (n .b) q) other (nodes l b)
 
-      pub made-of : getD made i other ≡ make (kindOf i) (aOf i) (bOf i) (λ j. getD made j other)
-      unfolding nodeAt
+      pub made-of : getD made i other ≡ make (x .kind) (x .a) (x .b) (λ j. getD made j other)
       made-of =
-          let d = nodeAt b (entryAt 4 (l .nodes) i) in
-          let e : getD (nodes l b) i d ≡ d = node-at i d h in
+          let e : getD (nodes l b) i x ≡ x = node-at i x h in
           let r = node-rule in
-          let p = pass-at (λ i n q. make (n .kind) (n .a) (n .b) q) other (nodes l b) i d (rw length-nodes h)
-          (rw e (λ q q′ same. children (kindOf i) (aOf i) (bOf i) q q′ (λ k. same (aOf i) (r .first k)) (λ k. same (bOf i) (r .second k)))) in
+          let p = pass-at (λ i n q. make (n .kind) (n .a) (n .b) q) other (nodes l b) i x (rw length-nodes h)
+          (rw e (λ q q′ same. children (x .kind) (x .a) (x .b) q q′ (λ k. same (x .a) (r .first k)) (λ k. same (x .b) (r .second k)))) in
           rw e at p
 
       -- the same, from what is right below node i
-      pub made-from : (q : ℕ → X) → ((j : ℕ) → j < i → q j ≡ getD made j other) → make (kindOf i) (aOf i) (bOf i) q ≡ getD made i other
+      pub made-from : (q : ℕ → X) → ((j : ℕ) → j < i → q j ≡ getD made j other) → make (x .kind) (x .a) (x .b) q ≡ getD made i other
       made-from q same =
           let r = node-rule in
-          children (kindOf i) (aOf i) (bOf i) q (λ j. getD made j other) (λ k. same (aOf i) (r .first k)) (λ k. same (bOf i) (r .second k)) ∙ sym made-of
+          children (x .kind) (x .a) (x .b) q (λ j. getD made j other) (λ k. same (x .a) (r .first k)) (λ k. same (x .b) (r .second k)) ∙ sym made-of
 
 -- ---- what is made of a node looks at the children that its kind has
 
@@ -116,11 +105,11 @@ query-children (suc (suc (suc (suc (suc (suc k)))))) a b q q′ f s = refl
 
 module _ (l : Layout) (b : Bytes) (good : nodesGood l b ≡ true) (i : ℕ) (h : i < l .nodes .count) where
   pub contains-at : (kind : ℕ)
-      → getD (containing kind l b) i false ≡ containsOf kind (kindOf l b i) (aOf l b i) (bOf l b i) (λ j. getD (containing kind l b) j false)
+      → getD (containing kind l b) i false ≡ containsOf kind (nodeAt l b i .kind) (nodeAt l b i .a) (nodeAt l b i .b) (λ j. getD (containing kind l b) j false)
   unfolding containing
   contains-at kind = made-of l b good i h (containsOf kind) false (contains-children kind)
 
   pub condition-at : (L : Letter)
-      → getD (conditions L l b) i ⊤ ≡ queryOf (kindOf l b i) (aOf l b i) (bOf l b i) (λ j. getD (conditions L l b) j ⊤)
+      → getD (conditions L l b) i ⊤ ≡ queryOf (nodeAt l b i .kind) (nodeAt l b i .a) (nodeAt l b i .b) (λ j. getD (conditions L l b) j ⊤)
   unfolding conditions
   condition-at L = made-of l b good i h queryOf ⊤ query-children

@@ -6,7 +6,8 @@ use native.Mathlib.Nat.{le-of-suc-le-suc, not-suc-le-zero, add-zero, zero-add}
 use native.Mathlib.Omega.{arith}
 use lib.ListN.{length, getD, length-append, List·getD-append}
 use lib.Seq.{getD-append-add}
-use Rattle.meaning.specs.Card.{Node, passOn, pass}
+use Rattle.meaning.specs.declared.Node.{Node}
+use Rattle.meaning.specs.Card.{passOn, pass}
 
 module _ {X : Type 0} (make : ℕ → Node → (ℕ → X) → X) (other : X) where
   -- the pass keeps what was made

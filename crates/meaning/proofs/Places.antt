@@ -12,7 +12,7 @@ use borrow.Author.Tests.{leb-true, eqb-true, not-false}
 use Rattle.paper.specs.Language.{⟨_/_/_⟩}
 use Rattle.paper.specs.Theorems.{AreBytes}
 use Rattle.paper.proofs.Relation.{both}
-use Rattle.house.specs.Order.{State}
+use Rattle.runs.specs.Order.{State}
 use Rattle.meaning.specs.declared.Layout.{Layout}
 use Rattle.meaning.specs.declared.Answer.the-variants.{Done}
 use Rattle.meaning.specs.Card.{Bytes, byte, numberAt, part}

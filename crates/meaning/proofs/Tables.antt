@@ -18,7 +18,7 @@ refused-inj : {r q : Refusal} → Refused r ≡ Refused q → r ≡ q
 refused-inj e = cc
 
 module _ {X : Type 0} (q : Row X) (rows : List (Row X)) (x : X) where
-  pub given : q .when x ≡ true → firstGiven (q ∷ rows) x ≡ Refused (q .refusal)
+  pub given : q .when x ≡ true → firstGiven (q ∷ rows) x ≡ Refused (q .refusal x)
   unfolding firstGiven
   given e = rw (e, firstGiven)
 
@@ -94,7 +94,7 @@ table-laws X rows x =
 
 pub table-order : TableOrder
 unfolding numberOf cardTable placeTable configurationTable
-table-order = record { card = refl; place = λ b. refl; configuration = λ b. refl }
+table-order = record { card = λ b. refl; place = λ l p. refl; configuration = λ l c. refl }
 
 -- two answers one after the other
 pub and-then-done : (a a′ : Answer) → andThen a a′ ≡ Done → (a ≡ Done) × (a′ ≡ Done)

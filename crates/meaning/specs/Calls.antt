@@ -8,15 +8,14 @@ use mathlib.Core.Option.{Option, none, some}
 use Prim.Native.Nat.{ℕ, zero, suc, _/_, _%_}
 use lib.Dec.{leb}
 use lib.ListN.{length, drop}
-use Rattle.paper.specs.Language.{Agent}
 use Rattle.paper.specs.Transitions.{Choice, select, act, revise}
-use Rattle.paper.specs.Next.{next}
-use Rattle.house.specs.declared.Ending.{Ending}
-use Rattle.house.specs.declared.Offender.{Offender}
-use Rattle.house.specs.declared.Verdict.{Verdict}
-use Rattle.house.specs.Order.{State, after, enabledCodes}
-use Rattle.house.specs.Run.{fits, Outcome, run}
-use Rattle.house.specs.Weight.{verdict}
+use Rattle.runs.specs.declared.Ending.{Ending}
+use Rattle.runs.specs.declared.Offender.{Offender}
+use Rattle.runs.specs.declared.Verdict.{Verdict}
+use Rattle.runs.specs.Order.{enabledCodes}
+use Rattle.runs.specs.Step.{nothing, full, to, stepBy}
+use Rattle.runs.specs.Run.{Outcome, run}
+use Rattle.runs.specs.Weight.{verdict}
 use Rattle.meaning.specs.declared.Refusal.{Refusal}
 use Rattle.meaning.specs.declared.Answer.{Answer}
 use Rattle.meaning.specs.declared.Answer.the-variants.{Done, Refused}
@@ -120,22 +119,15 @@ choiceOf (suc (suc (suc k))) n = none
 unfoldable pub choice : ℕ → Option Choice
 choice k = choiceOf (k / 256) (k % 256)
 
--- The state that a code leads to, if it is an enabled choice: 01, "A configuration and its transitions", The guide's order:
--- "After any transition, the guide's or a chosen one, the phase is the kind taken plus 1, modulo 3." Serves takes.
-unfoldable pub leadsTo : Agent → State → ℕ → Option State
-leadsTo A s code = elim (choice code) [
-  | none ↦ none
-  | some k ↦ elim (next A (s .mental) k) [ none ↦ none | some c ↦ some (after k c) ]
-]
-
 -- 00, demand 2: "A chosen move is taken exactly if it is such a transition and its plan fits." 01, "Numbers the guide may
 -- answer", row 10: "the code is no enabled choice"; row 11: "the choice is enabled, but leaves more than 1,024 actions".
 unfoldable pub takes : Bytes → Configuration → ℕ → Reply
 takes b c code = elim (configurationAnswer b c) [
   | Refused r ↦ reply (Refused r) c
-  | Done ↦ elim (leadsTo (agent b) (stateOf c) code) [
-    | none ↦ reply (Refused Refusal.NotEnabled) c
-    | some s ↦ elim (fits s) [ true ↦ reply Done (configurationOf s) | false ↦ reply (Refused Refusal.PlanFull) c ]
+  | Done ↦ elim (stepBy (agent b) (stateOf c) (choice code)) [
+    | nothing ↦ reply (Refused Refusal.NotEnabled) c
+    | full ↦ reply (Refused Refusal.PlanFull) c
+    | to k s ↦ reply Done (configurationOf s)
   ]
 ]
 

@@ -3,10 +3,14 @@ use mathlib.Core.List.{List, [], _∷_, _++_, map}
 use Prim.Native.Nat.{ℕ, zero, suc, _+_, _*_}
 use lib.ListN.{length, getD, take, drop}
 use Rattle.paper.specs.Language.{Plan, Letter, 𝐁, 𝐆, Query, ⊤, atom, ¬′, _∧′_, _∨′_, Specification, Selection, Revision, Agent, ⟨_/_/_⟩}
-use Rattle.house.specs.Order.{State, numbers}
+use Rattle.runs.specs.Order.{State, numbers}
 use Rattle.meaning.specs.declared.Section.{Section}
 use Rattle.meaning.specs.declared.Span.{Span}
 use Rattle.meaning.specs.declared.Layout.{Layout}
+use Rattle.meaning.specs.declared.Node.{Node}
+use Rattle.meaning.specs.declared.SpecificationEntry.{SpecificationEntry}
+use Rattle.meaning.specs.declared.SelectionEntry.{SelectionEntry}
+use Rattle.meaning.specs.declared.RevisionEntry.{RevisionEntry}
 
 -- 00, demand 1: "on all bytes and numbers": the bytes of a card or place, in their order.
 abbrev pub Bytes : Type 0
@@ -55,13 +59,13 @@ layout b = record {
 }
 
 -- Where entry number i of a section starts: its offset plus i sizes, for 01, "The card, edition 1" has "with no gap". Serves
--- entries.
+-- nodeAt, specificationAt, selectionAt and revisionAt.
 abbrev pub entryAt : ℕ → Section → ℕ → ℕ
 entryAt size s i = s .offset + size * i
 
--- The entries of a section in their order: what is read at the place of each. Serves nodes and agentOf.
-abbrev pub entries : {R : Type 0} → (ℕ → R) → ℕ → Section → List R
-entries read size s = map (λ i. read (entryAt size s i)) (numbers 0 (s .count))
+-- What stands under each number of a section, in their order. Serves nodes and agentOf.
+abbrev pub entries : {R : Type 0} → (ℕ → R) → Section → List R
+entries read s = map read (numbers 0 (s .count))
 
 -- 01, "The card, edition 1", at 64: "weights, one for each action". The weight of action a.
 abbrev pub weightAt : Bytes → ℕ → ℕ
@@ -71,24 +75,34 @@ weightAt b a = numberAt b (64 + 2 * a)
 unfoldable pub weights : Layout → Bytes → List ℕ
 weights l b = map (weightAt b) (numbers 0 (l .actions))
 
--- 01, "The card, edition 1": "Node, 4 bytes: kind, a, b, 0."
-pub record Node : Type 0 where
-  -- what it is: 01, "The card, edition 1": "Kind 0 true …; 1 believes a; 2 has goal a …; 3 not a …; 4 a and b; 5 a or b."
-  pub kind : ℕ
-  -- an atom or a node
-  pub a : ℕ
-  -- a node
-  pub b : ℕ
-  -- the fourth byte, which is to be 0
-  pub last : ℕ
-
 -- 01, "The card, edition 1": "Node, 4 bytes: kind, a, b, 0." Each is one byte.
-unfoldable pub nodeAt : Bytes → ℕ → Node
-nodeAt b at = record { kind = byte b at; a = byte b (at + 1); b = byte b (at + 2); last = byte b (at + 3) }
+unfoldable pub nodeAt : Layout → Bytes → ℕ → Node
+nodeAt l b i =
+    let at : ℕ = entryAt 4 (l .nodes) i in
+    record { kind = byte b at; a = byte b (at + 1); b = byte b (at + 2); zero = byte b (at + 3) }
+
+-- 01, "The card, edition 1": "Specification, 36 bytes: action, node, 0, 0, Add, Del."
+unfoldable pub specificationAt : Layout → Bytes → ℕ → SpecificationEntry
+specificationAt l b i =
+    let at : ℕ = entryAt 36 (l .specifications) i in
+    record { action = byte b at; node = byte b (at + 1); zero = numberAt b (at + 2); add = part b (at + 4) 16; del = part b (at + 20) 16 }
+
+-- 01, "The card, edition 1": "Selection rule, 8 bytes: belief node, goal node, start, length (1..1,024), zero number."
+unfoldable pub selectionAt : Layout → Bytes → ℕ → SelectionEntry
+selectionAt l b i =
+    let at : ℕ = entryAt 8 (l .selections) i in
+    record { belief = byte b at; goal = byte b (at + 1); plan = span b (at + 2); zero = numberAt b (at + 6) }
+
+-- 01, "The card, edition 1": "Revision rule, 12 bytes: node, 0, head start, head length (1..1,024), body start, body length
+-- (0..1,024), zero number."
+unfoldable pub revisionAt : Layout → Bytes → ℕ → RevisionEntry
+revisionAt l b i =
+    let at : ℕ = entryAt 12 (l .revisions) i in
+    record { node = byte b at; plain = byte b (at + 1); head = span b (at + 2); body = span b (at + 6); zero = numberAt b (at + 10) }
 
 -- 01, "The card, edition 1": "Node, 4 bytes": the card's nodes in their order.
 unfoldable pub nodes : Layout → Bytes → List Node
-nodes l b = entries (nodeAt b) 4 (l .nodes)
+nodes l b = entries (nodeAt l b) (l .nodes)
 
 -- One pass over the nodes from the lowest upward: what is made of a node may use what was made of the lower ones. `make` is
 -- given the node's number, the node, and what was made so far; `other` stands for what was not made.
@@ -129,29 +143,25 @@ condition qs n = getD qs n ⊤
 unfoldable pub plan : Layout → Bytes → Span → Plan
 plan l b s = part b (l .pool .offset + s .start) (s .length)
 
--- 01, "The card, edition 1": "Specification, 36 bytes: action, node, 0, 0, Add, Del."
-unfoldable pub specificationAt : List (Query 𝐁) → Bytes → ℕ → Specification
-specificationAt βs b at = record { β = condition βs (byte b (at + 1)); a = byte b at; Add = part b (at + 4) 16; Del = part b (at + 20) 16 }
+-- 004, Definition 4, of 01, "The card, edition 1": "Specification, 36 bytes"; βs are the nodes' conditions.
+unfoldable pub specificationOf : List (Query 𝐁) → SpecificationEntry → Specification
+specificationOf βs e = record { β = condition βs (e .node); a = e .action; Add = e .add; Del = e .del }
 
--- 01, "The card, edition 1": "Selection rule, 8 bytes: belief node, goal node, start, length (1..1,024), zero number."
-unfoldable pub selectionAt : List (Query 𝐁) → List (Query 𝐆) → Layout → Bytes → ℕ → Selection
-selectionAt βs κs l b at = record { β = condition βs (byte b at); κ = condition κs (byte b (at + 1)); π = plan l b (span b (at + 2)) }
+-- 004, Definition 5, of 01, "The card, edition 1": "Selection rule, 8 bytes".
+unfoldable pub selectionOf : List (Query 𝐁) → List (Query 𝐆) → Layout → Bytes → SelectionEntry → Selection
+selectionOf βs κs l b e = record { β = condition βs (e .belief); κ = condition κs (e .goal); π = plan l b (e .plan) }
 
--- 01, "The card, edition 1": "Revision rule, 12 bytes: node, 0, head start, head length (1..1,024), body start, body length
--- (0..1,024), zero number."
-unfoldable pub revisionAt : List (Query 𝐁) → Layout → Bytes → ℕ → Revision
-revisionAt βs l b at = record { πₕ = plan l b (span b (at + 2)); β = condition βs (byte b at); πb = plan l b (span b (at + 6)) }
+-- 004, Definition 6, of 01, "The card, edition 1": "Revision rule, 12 bytes".
+unfoldable pub revisionOf : List (Query 𝐁) → Layout → Bytes → RevisionEntry → Revision
+revisionOf βs l b e = record { πₕ = plan l b (e .head); β = condition βs (e .node); πb = plan l b (e .body) }
 
 -- 00, the card: "A card is an agent in 3APL": its three lists, each in the card's order, where βs and κs are its nodes'
 -- conditions. Serves agentFor.
 unfoldable pub agentOf : List (Query 𝐁) → List (Query 𝐆) → Layout → Bytes → Agent
 agentOf βs κs l b = record {
-  -- 01, "The card, edition 1": "Selection rule, 8 bytes"
-  PS = entries (selectionAt βs κs l b) 8 (l .selections);
-  -- 01, "The card, edition 1": "Revision rule, 12 bytes"
-  PR = entries (revisionAt βs l b) 12 (l .revisions);
-  -- 01, "The card, edition 1": "Specification, 36 bytes"
-  AS = entries (specificationAt βs b) 36 (l .specifications);
+  PS = entries (λ i. selectionOf βs κs l b (selectionAt l b i)) (l .selections);
+  PR = entries (λ i. revisionOf βs l b (revisionAt l b i)) (l .revisions);
+  AS = entries (λ i. specificationOf βs (specificationAt l b i)) (l .specifications);
 }
 
 -- agentOf with the conditions of the card's own nodes. Serves agent: 00, the card: "A card is an agent in 3APL".
@@ -171,7 +181,15 @@ weight b a = getD (weights (layout b) b) a 1
 unfoldable pub initialPlan : Bytes → Plan
 initialPlan b = plan (layout b) b (layout b .initial)
 
+-- 01, "The card, edition 1", at 32: "initial beliefs"
+abbrev pub initialBeliefs : Bytes → Bytes
+initialBeliefs b = part b 32 16
+
+-- 01, "The card, edition 1", at 48: "initial goals"
+abbrev pub initialGoals : Bytes → Bytes
+initialGoals b = part b 48 16
+
 -- 01, "A configuration and its transitions": "Loading answers the card's initial beliefs, goals and plan with phase 0, and
--- strikes no goal." 01, "The card, edition 1", at 32, 48: "initial beliefs, initial goals".
+-- strikes no goal."
 unfoldable pub start : Bytes → State
-start b = record { mental = ⟨ part b 32 16 / initialPlan b / part b 48 16 ⟩; phase = 0 }
+start b = record { mental = ⟨ initialBeliefs b / initialPlan b / initialGoals b ⟩; phase = 0 }

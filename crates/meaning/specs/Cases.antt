@@ -6,8 +6,9 @@ use mathlib.Core.Option.{none, some}
 use Prim.Native.Nat.{ℕ, suc}
 use lib.ListN.{length, replicate}
 use lib.ListN as ListN
-use Rattle.house.specs.Order.{code, guide}
-use Rattle.house.specs.Weight.{weigh}
+use Rattle.paper.specs.Language.{⟨_/_/_⟩}
+use Rattle.runs.specs.Order.{code, guide}
+use Rattle.runs.specs.Weight.{weigh}
 use Rattle.meaning.specs.declared.Configuration.{Configuration}
 use Rattle.meaning.specs.declared.Checked.{Checked}
 use Rattle.meaning.specs.declared.Reply.{Reply}
@@ -15,7 +16,7 @@ use Rattle.meaning.specs.declared.Graded.{Graded}
 use Rattle.meaning.specs.declared.Written.{Written}
 use Rattle.meaning.specs.declared.Ran.{Ran}
 use Rattle.meaning.specs.Card.{Bytes, weight, agent}
-use Rattle.meaning.specs.Configurations.{padded, stateOf}
+use Rattle.meaning.specs.Configurations.{stateOf, configurationOf}
 use Rattle.meaning.specs.Refusals.{answerNumber}
 use Rattle.meaning.specs.Numbers.{checkedNumber, endingNumber, verdictNumber, verdictOffender, verdictRule}
 use Rattle.meaning.specs.Calls.{checks, loads, grades, lists, listLeaves, takes, runs, saves, saveLeaves, restores}
@@ -25,7 +26,7 @@ use Rattle.meaning.specs.Stripe.{set, stripe, stripe-P4, stripe-P5, stri
 
 -- A configuration in numbers: beliefs, goals, phase, plan. Serves PCases.
 unfoldable pub shown : Configuration → List ℕ
-shown c = c .beliefs ++ (c .goals ++ (c .phase ∷ ListN.take (c .length) (c .plan)))
+shown c = c .mind .beliefs ++ (c .mind .goals ++ (c .mind .phase ∷ ListN.take (c .mind .length) (c .plan)))
 
 -- What check answers in numbers: 01, "Numbers the guide may answer": "no.". Serves PCases.
 unfoldable pub shownCheck : Checked → List ℕ
@@ -55,7 +56,7 @@ shownRun r = answerNumber (r .answer) ∷ endingNumber (r .ending) ∷ r .count 
 
 -- A configuration of beliefs, goals, a phase and a plan, as a case has it. Serves PCases.
 unfoldable pub configuration : Bytes → Bytes → ℕ → List ℕ → Configuration
-configuration beliefs goals phase π = record { beliefs = beliefs; goals = goals; plan = padded π; length = length π; phase = phase }
+configuration beliefs goals phase π = configurationOf (record { mental = ⟨ beliefs / π / goals ⟩; phase = phase })
 
 -- 01, P12: "At the start": the stripe card, loaded.
 unfoldable pub loaded : Configuration
@@ -67,13 +68,13 @@ afterSteps n = runs stripe loaded n .configuration
 
 -- 01, "The stripe card": "kind, number" of a step line: the code of the guide's own move, or none.
 unfoldable pub guideCode : Configuration → List ℕ
-guideCode c = elim (guide (agent stripe) (stateOf c)) [ none ↦ [] | some m ↦ code (m .choice) ∷ [] ]
+guideCode c = elim (guide (agent stripe) (stateOf c)) [ none ↦ [] | some k ↦ code k ∷ [] ]
 
 -- 01, "The stripe card": "count, kind, number, plan length after, plan weight after", of the step after n steps.
 unfoldable pub stepLine : ℕ → List ℕ
 stepLine n =
     let c = afterSteps (suc n) in
-    suc n ∷ (guideCode (afterSteps n) ++ (c .length ∷ weigh (weight stripe) (ListN.take (c .length) (c .plan)) ∷ []))
+    suc n ∷ (guideCode (afterSteps n) ++ (c .mind .length ∷ weigh (weight stripe) (stateOf c .mental .π) ∷ []))
 
 -- Some codes taken one after the other. Serves PCases.
 unfoldable pub takenInTurn : Configuration → List ℕ → Configuration

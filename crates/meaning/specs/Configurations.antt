@@ -3,8 +3,9 @@ use mathlib.Core.List.{[], _++_}
 use Prim.Native.Nat.{_-_}
 use lib.ListN.{length, take, replicate}
 use Rattle.paper.specs.Language.{Plan, ⟨_/_/_⟩}
-use Rattle.house.specs.Order.{State}
+use Rattle.runs.specs.Order.{State}
 use Rattle.meaning.specs.Card.{Bytes}
+use Rattle.meaning.specs.declared.Mind.{Mind}
 use Rattle.meaning.specs.declared.Configuration.{Configuration}
 
 -- A plan in its 1,024 bytes, with zeros after its end. Serves configurationOf: 01, "Numbers the guide may answer", row 13:
@@ -15,18 +16,15 @@ padded π = π ++ replicate (1024 - length π) 0
 -- 01, "A configuration and its transitions": "A configuration is a set of believed atoms, a set of goal atoms, a plan (0 to
 -- 1,024 action numbers) and a phase 0, 1 or 2.": the one that is handed in.
 unfoldable pub stateOf : Configuration → State
-stateOf c = record { mental = ⟨ c .beliefs / take (c .length) (c .plan) / c .goals ⟩; phase = c .phase }
+stateOf c = record { mental = ⟨ c .mind .beliefs / take (c .mind .length) (c .plan) / c .mind .goals ⟩; phase = c .mind .phase }
 
--- 01, "A configuration and its transitions": "A configuration is a set of believed atoms, a set of goal atoms, a plan (0 to
--- 1,024 action numbers) and a phase 0, 1 or 2.": the one that is handed out, its plan with zeros after its end.
+-- The same sentence: all of the one that is handed out but its plan's actions. Serves configurationOf.
+abbrev pub mindOf : State → Mind
+mindOf s = record { beliefs = s .mental .σ; goals = s .mental .γ; length = length (s .mental .π); phase = s .phase }
+
+-- The same sentence: the one that is handed out, its plan with zeros after its end.
 unfoldable pub configurationOf : State → Configuration
-configurationOf s = record {
-  beliefs = s .mental .σ;
-  goals = s .mental .γ;
-  plan = padded (s .mental .π);
-  length = length (s .mental .π);
-  phase = s .phase;
-}
+configurationOf s = record { mind = mindOf s; plan = padded (s .mental .π) }
 
 -- 01, "Numbers the guide may answer": "the empty one (no atoms, empty plan, phase 0)"
 unfoldable pub empty : Configuration

@@ -2,9 +2,9 @@
 -- cases". The numbers of the refusals are in Refusals; these are of what check answers, of endings, verdicts and offenders, as
 -- include/rigtemple.h has them.
 use Prim.Native.Nat.{ℕ}
-use Rattle.house.specs.declared.Ending.{Ending}
-use Rattle.house.specs.declared.Offender.{Offender}
-use Rattle.house.specs.declared.Verdict.{Verdict}
+use Rattle.runs.specs.declared.Ending.{Ending}
+use Rattle.runs.specs.declared.Offender.{Offender}
+use Rattle.runs.specs.declared.Verdict.{Verdict}
 use Rattle.meaning.specs.declared.Checked.{Checked}
 use Rattle.meaning.specs.Refusals.{numberOf}
 

@@ -3,7 +3,7 @@ use mathlib.Core.List.{[], _∷_, _++_}
 use Prim.Native.Nat.{ℕ, _/_, _%_}
 use lib.ListN.{length, drop}
 use Rattle.paper.specs.Language.{⟨_/_/_⟩}
-use Rattle.house.specs.Order.{State}
+use Rattle.runs.specs.Order.{State}
 use Rattle.meaning.specs.Card.{Bytes, numberAt, part}
 
 -- 01, "The card, edition 1": "Numbers are two bytes, low byte first"

@@ -5,7 +5,7 @@ use Prim.Native.Nat.{ℕ, zero, suc, _+_, _*_, _-_}
 use lib.Dec.{leb, ltb, eqb}
 use lib.ListN.{length, getD, take, drop}
 use Rattle.paper.specs.Atoms.{Atoms, _∈_}
-use Rattle.house.specs.Order.{numbers}
+use Rattle.runs.specs.Order.{numbers}
 use Rattle.meaning.specs.declared.Refusal.{Refusal}
 use Rattle.meaning.specs.declared.Answer.{Answer}
 use Rattle.meaning.specs.declared.Answer.the-variants.{Done, Refused}
@@ -13,7 +13,11 @@ use Rattle.meaning.specs.declared.Section.{Section}
 use Rattle.meaning.specs.declared.Span.{Span}
 use Rattle.meaning.specs.declared.Layout.{Layout}
 use Rattle.meaning.specs.declared.Configuration.{Configuration}
-use Rattle.meaning.specs.Card.{Bytes, byte, numberAt, part, span, layout, entryAt, weightAt, Node, nodeAt, nodes, pass}
+use Rattle.meaning.specs.declared.Node.{Node}
+use Rattle.meaning.specs.declared.SpecificationEntry.{SpecificationEntry}
+use Rattle.meaning.specs.declared.SelectionEntry.{SelectionEntry}
+use Rattle.meaning.specs.declared.RevisionEntry.{RevisionEntry}
+use Rattle.meaning.specs.Card.{Bytes, byte, numberAt, part, layout, weightAt, nodeAt, nodes, pass, specificationAt, selectionAt, revisionAt, initialBeliefs, initialGoals}
 
 -- 01, "Numbers the guide may answer": the columns "no." and "name".
 unfoldable pub numberOf : Refusal → ℕ
@@ -38,20 +42,21 @@ answerNumber (Refused r) = numberOf r
 
 -- 01, "Numbers the guide may answer": a row of the table.
 pub record Row (X : Type 0) : Type 0 where
-  -- 01, "Numbers the guide may answer": the column "name"
-  pub refusal : Refusal
+  -- 01, "Numbers the guide may answer": the column "name", with the number that the refusal carries, if it carries one
+  -- (docs/DECISIONS.md, "Numbers in refusals")
+  pub refusal : X → Refusal
   -- 01, "Numbers the guide may answer": the column "given exactly when"
   pub when : X → Bool
 
 infix 20 _given-when_
 -- A row as the table has it. Serves the tables: 01, "Numbers the guide may answer": "given exactly when".
 abbrev pub _given-when_ : {X : Type 0} → Refusal → (X → Bool) → Row X
-r given-when t = record { refusal = r; when = t }
+r given-when t = record { refusal = λ x. r; when = t }
 
 -- 01, "Numbers the guide may answer": "They are tested in the table's order". Row 0: "none below holds".
 unfoldable pub firstGiven : {X : Type 0} → List (Row X) → X → Answer
 firstGiven [] x = Done
-firstGiven (r ∷ rs) x = elim (r .when x) [ true ↦ Refused (r .refusal) | false ↦ firstGiven rs x ]
+firstGiven (r ∷ rs) x = elim (r .when x) [ true ↦ Refused (r .refusal x) | false ↦ firstGiven rs x ]
 
 -- 01, "Numbers the guide may answer": "the card first with 1 to 9, then": the first refusal of two answers.
 abbrev pub andThen : Answer → Answer → Answer
@@ -63,13 +68,9 @@ abbrev pub all : {X : Type 0} → (X → Bool) → List X → Bool
 all good [] = true
 all good (x ∷ xs) = good x && all good xs
 
--- Every number below n is good. Serves weightsGood, nodesGood and everyEntry.
+-- Every number below n is good. Serves weightsGood, nodesGood, rulesGood and setsGood.
 abbrev pub every : ℕ → (ℕ → Bool) → Bool
 every n good = all good (numbers 0 n)
-
--- Every entry of a section is good, by its place. Serves rulesGood and setsGood.
-abbrev pub everyEntry : ℕ → Section → (ℕ → Bool) → Bool
-everyEntry size s good = every (s .count) (λ i. good (entryAt size s i))
 
 -- 01, "The card, edition 1": the column "range", as in "1..128". Serves countsGood, weightsGood and spanGood.
 abbrev pub within : ℕ → ℕ → ℕ → Bool
@@ -81,10 +82,14 @@ within low high n = leb low n && leb n high
 unfoldable pub cardLongEnough : Bytes → Bool
 cardLongEnough b = leb 64 (length b)
 
--- Not 01, "Numbers the guide may answer", row 2: "first two bytes or edition differ". 01, "The card, edition 1", at 0: "bytes 33
--- 41 hex"; at 2: "edition", 1.
+-- Not 01, "Numbers the guide may answer", row 2: "first two bytes or edition differ": the first byte is 33 hex, the second is
+-- given, and the edition is 1. Serves cardMarkGood and placeMarkGood.
+abbrev pub marked : ℕ → Bytes → Bool
+marked second b = eqb (byte b 0) 0x33 && (eqb (byte b 1) second && eqb (numberAt b 2) 1)
+
+-- 01, "The card, edition 1", at 0: "bytes 33 41 hex"; at 2: "edition", 1.
 unfoldable pub cardMarkGood : Bytes → Bool
-cardMarkGood b = eqb (byte b 0) 0x33 && (eqb (byte b 1) 0x41 && eqb (numberAt b 2) 1)
+cardMarkGood b = marked 0x41 b
 
 -- Not 01, "Numbers the guide may answer", row 3: "the number of atoms, of actions or of a section's entries or bytes is out of
 -- range (the initial plan's length is 7)". The ranges: 01, "The card, edition 1", "1..128", "1..256", "0..256" and "0..8,192".
@@ -132,11 +137,11 @@ kindGood n i (suc (suc (suc (suc (suc (suc k)))))) a b = false
 -- 01, "The card, edition 1": "Node, 4 bytes: kind, a, b, 0." The 0 is of its rule too (docs/DECISIONS.md, "A node's fourth
 -- byte").
 abbrev pub nodeGood : ℕ → ℕ → Node → Bool
-nodeGood n i x = kindGood n i (x .kind) (x .a) (x .b) && eqb (x .last) 0
+nodeGood n i x = kindGood n i (x .kind) (x .a) (x .b) && eqb (x .zero) 0
 
 -- Not 01, "Numbers the guide may answer", row 6: "a node breaks its rule above"
 unfoldable pub nodesGood : Layout → Bytes → Bool
-nodesGood l b = every (l .nodes .count) (λ i. nodeGood (l .atoms) i (nodeAt b (entryAt 4 (l .nodes) i)))
+nodesGood l b = every (l .nodes .count) (λ i. nodeGood (l .atoms) i (nodeAt l b i))
 
 -- 01, "A configuration and its transitions": "A belief condition contains no goal atom, and a goal condition no belief atom.":
 -- whether an atom of a kind (1 believes, 2 has goal) stands in a node's condition, by form (docs/DECISIONS.md, "Condition of
@@ -163,42 +168,30 @@ conditionGood l others n = ltb n (l .nodes .count) && not (getD others n false)
 abbrev pub spanGood : Layout → ℕ → Span → Bool
 spanGood l least s = within least 1024 (s .length) && leb (s .start + s .length) (l .pool .count)
 
--- Not 01, "Numbers the guide may answer", row 7: "an entry … breaks its rule", of 01, "The card, edition 1": "Specification, 36
--- bytes: action, node, 0, 0, Add, Del." 01, "A configuration and its transitions": "A specification's and a revision's
--- condition are belief conditions." gs tells the nodes that contain a goal atom.
-unfoldable pub specificationGood : List Bool → Layout → Bytes → ℕ → Bool
-specificationGood gs l b at =
-    ltb (byte b at) (l .actions)
-    && (conditionGood l gs (byte b (at + 1))
-    && (eqb (byte b (at + 2)) 0
-    && eqb (byte b (at + 3)) 0))
+-- Not 01, "Numbers the guide may answer", row 7: "an entry … breaks its rule", of a specification. 01, "A configuration and its
+-- transitions": "A specification's and a revision's condition are belief conditions." gs tells the nodes that contain a goal
+-- atom.
+unfoldable pub specificationGood : List Bool → Layout → SpecificationEntry → Bool
+specificationGood gs l e = ltb (e .action) (l .actions) && (conditionGood l gs (e .node) && eqb (e .zero) 0)
 
--- Not 01, "Numbers the guide may answer", row 7: "an entry … breaks its rule", of 01, "The card, edition 1": "Selection rule, 8
--- bytes: belief node, goal node, start, length (1..1,024), zero number." bs tells the nodes that contain a belief atom.
-unfoldable pub selectionGood : List Bool → List Bool → Layout → Bytes → ℕ → Bool
-selectionGood bs gs l b at =
-    conditionGood l gs (byte b at)
-    && (conditionGood l bs (byte b (at + 1))
-    && (spanGood l 1 (span b (at + 2))
-    && eqb (numberAt b (at + 6)) 0))
+-- Not 01, "Numbers the guide may answer", row 7: "an entry … breaks its rule", of a selection rule. bs tells the nodes that
+-- contain a belief atom.
+unfoldable pub selectionGood : List Bool → List Bool → Layout → SelectionEntry → Bool
+selectionGood bs gs l e =
+    conditionGood l gs (e .belief) && (conditionGood l bs (e .goal) && (spanGood l 1 (e .plan) && eqb (e .zero) 0))
 
--- Not 01, "Numbers the guide may answer", row 7: "an entry … breaks its rule", of 01, "The card, edition 1": "Revision rule, 12
--- bytes: node, 0, head start, head length (1..1,024), body start, body length (0..1,024), zero number."
-unfoldable pub revisionGood : List Bool → Layout → Bytes → ℕ → Bool
-revisionGood gs l b at =
-    conditionGood l gs (byte b at)
-    && (eqb (byte b (at + 1)) 0
-    && (spanGood l 1 (span b (at + 2))
-    && (spanGood l 0 (span b (at + 6))
-    && eqb (numberAt b (at + 10)) 0)))
+-- Not 01, "Numbers the guide may answer", row 7: "an entry … breaks its rule", of a revision rule.
+unfoldable pub revisionGood : List Bool → Layout → RevisionEntry → Bool
+revisionGood gs l e =
+    conditionGood l gs (e .node) && (eqb (e .plain) 0 && (spanGood l 1 (e .head) && (spanGood l 0 (e .body) && eqb (e .zero) 0)))
 
 -- Not 01, "Numbers the guide may answer", row 7: "an entry or the initial plan breaks its rule: unknown action or node,
 -- condition of the wrong kind, plan outside the pool, length out of range, a zero field not zero"
 unfoldable pub rulesGood : List Bool → List Bool → Layout → Bytes → Bool
 rulesGood bs gs l b =
-    everyEntry 36 (l .specifications) (specificationGood gs l b)
-    && (everyEntry 8 (l .selections) (selectionGood bs gs l b)
-    && (everyEntry 12 (l .revisions) (revisionGood gs l b)
+    every (l .specifications .count) (λ i. specificationGood gs l (specificationAt l b i))
+    && (every (l .selections .count) (λ i. selectionGood bs gs l (selectionAt l b i))
+    && (every (l .revisions .count) (λ i. revisionGood gs l (revisionAt l b i))
     && spanGood l 0 (l .initial)))
 
 -- Not 01, "Numbers the guide may answer", row 8: "a pool or plan byte is not below the number of actions"
@@ -209,13 +202,16 @@ actionsGood n π = all (λ a. ltb a n) π
 unfoldable pub setGood : ℕ → Atoms → Bool
 setGood n s = all (λ k. not (k ∈ s)) (numbers n (8 * length s - n))
 
+-- The same of two sets. Serves setsGood, placeTable and configurationGood.
+abbrev pub bothGood : ℕ → Atoms → Atoms → Bool
+bothGood n s t = setGood n s && setGood n t
+
 -- Not 01, "Numbers the guide may answer", row 9: "a set has a bit at or above the number of atoms", of 01, "The card, edition
 -- 1": "initial beliefs, initial goals" and each "Add, Del" (docs/DECISIONS.md, "What 6, 8 and 9 judge").
 unfoldable pub setsGood : Layout → Bytes → Bool
 setsGood l b =
-    setGood (l .atoms) (part b 32 16)
-    && (setGood (l .atoms) (part b 48 16)
-    && everyEntry 36 (l .specifications) (λ at. setGood (l .atoms) (part b (at + 4) 16) && setGood (l .atoms) (part b (at + 20) 16)))
+    bothGood (l .atoms) (initialBeliefs b) (initialGoals b)
+    && every (l .specifications .count) (λ i. bothGood (l .atoms) (specificationAt l b i .add) (specificationAt l b i .del))
 
 -- 01, "The card, edition 1", at 24, 26: "pool bytes, offset". Serves cardTable, row 8: 01, "Numbers the guide may answer": "a
 -- pool … byte".
@@ -259,7 +255,7 @@ placeLongEnough p = leb 44 (length p)
 -- Not 01, "Numbers the guide may answer", row 2: "first two bytes or edition differ". 01, "The place": "Bytes 33 50 hex; edition
 -- 1 at 2".
 abbrev pub placeMarkGood : Bytes → Bool
-placeMarkGood p = eqb (byte p 0) 0x33 && (eqb (byte p 1) 0x50 && eqb (numberAt p 2) 1)
+placeMarkGood p = marked 0x50 p
 
 -- Not 01, "Numbers the guide may answer", row 3: "in a place L over 1,024, phase over 2, or bytes 10 and 11 not zero"
 abbrev pub placeCountsGood : Bytes → Bool
@@ -269,11 +265,6 @@ placeCountsGood p = leb (numberAt p 4) 1024 && (leb (numberAt p 8) 2 && eqb (num
 -- offset 44 at 6", "Exactly 44 + L bytes."
 abbrev pub placeOffsetsGood : Bytes → Bool
 placeOffsetsGood p = eqb (numberAt p 6) 44 && eqb (length p) (44 + numberAt p 4)
-
--- Not 01, "Numbers the guide may answer", row 9: "a set has a bit at or above the number of atoms". 01, "The place": "beliefs
--- at 12; goals at 28"
-abbrev pub placeSetsGood : ℕ → Bytes → Bool
-placeSetsGood atoms p = setGood atoms (part p 12 16) && setGood atoms (part p 28 16)
 
 -- 01, "Numbers the guide may answer": "then a place with 1, 2, 3, 4, 8, 9". 01, "The place": "it is judged against the card it
 -- is given with".
@@ -290,7 +281,7 @@ placeTable l =
     -- 01, "Numbers the guide may answer", row 8: "a … plan byte is not below the number of actions"
     ∷ (Refusal.ActionByte given-when (λ p. not (actionsGood (l .actions) (drop 44 p))))
     -- 01, "Numbers the guide may answer", row 9: "a set has a bit at or above the number of atoms"
-    ∷ (Refusal.Atom given-when (λ p. not (placeSetsGood (l .atoms) p)))
+    ∷ (Refusal.Atom given-when (λ p. not (bothGood (l .atoms) (part p 12 16) (part p 28 16))))
     ∷ []
 
 -- 01, "Numbers the guide may answer": "the card first with 1 to 9, then a place with 1, 2, 3, 4, 8, 9"
@@ -303,12 +294,11 @@ placeAnswer b p = andThen (cardAnswer b) (firstGiven (placeTable (layout b)) p)
 -- to the card, a phase over 2, or anything but zero after the plan's end"
 unfoldable pub configurationGood : Layout → Configuration → Bool
 configurationGood l c =
-    leb (c .length) 1024
-    && (actionsGood (l .actions) (take (c .length) (c .plan))
-    && (setGood (l .atoms) (c .beliefs)
-    && (setGood (l .atoms) (c .goals)
-    && (leb (c .phase) 2
-    && all (λ x. eqb x 0) (drop (c .length) (c .plan))))))
+    leb (c .mind .length) 1024
+    && (actionsGood (l .actions) (take (c .mind .length) (c .plan))
+    && (bothGood (l .atoms) (c .mind .beliefs) (c .mind .goals)
+    && (leb (c .mind .phase) 2
+    && all (λ x. eqb x 0) (drop (c .mind .length) (c .plan)))))
 
 -- 01, "Numbers the guide may answer": "a configuration with 13"
 unfoldable pub configurationTable : Layout → List (Row Configuration)

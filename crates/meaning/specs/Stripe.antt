@@ -5,49 +5,28 @@ use lib.ListN.{length, replicate}
 use Rattle.meaning.specs.Card.{Bytes}
 use Rattle.meaning.specs.Place.{twoBytes}
 
--- The parts of a card, each entry as its bytes. Serves assembled: 01, "The card, edition 1", the table.
-pub record Parts : Type 0 where
-  -- 01, "The card, edition 1", at 4: "atoms"
-  pub atoms : ℕ
-  -- 01, "The card, edition 1", at 64: "weights, one for each action"; there are as many actions
-  pub weights : List ℕ
-  -- 01, "The card, edition 1": "Node, 4 bytes"
-  pub nodes : List Bytes
-  -- 01, "The card, edition 1": "Specification, 36 bytes"
-  pub specifications : List Bytes
-  -- 01, "The card, edition 1": "Selection rule, 8 bytes"
-  pub selections : List Bytes
-  -- 01, "The card, edition 1": "Revision rule, 12 bytes"
-  pub revisions : List Bytes
-  -- 01, "The card, edition 1": "The pool is one byte an action."
-  pub pool : Bytes
-  -- 01, "The card, edition 1", at 32: "initial beliefs"
-  pub beliefs : Bytes
-  -- 01, "The card, edition 1", at 48: "initial goals"
-  pub goals : Bytes
-
--- 01, "The card, edition 1": "counts and offsets in a header", "The sections follow the weights in the header's order with no
--- gap; the card ends with the pool." 01, "The stripe card": "no initial plan" (start 0, length 0).
-unfoldable pub assembled : Parts → Bytes
-assembled p =
-    let actions : ℕ = length (p .weights) in
-    let nodesAt : ℕ = 64 + 2 * actions in
-    let specificationsAt : ℕ = nodesAt + 4 * length (p .nodes) in
-    let selectionsAt : ℕ = specificationsAt + 36 * length (p .specifications) in
-    let revisionsAt : ℕ = selectionsAt + 8 * length (p .selections) in
-    let poolAt : ℕ = revisionsAt + 12 * length (p .revisions) in
+-- A card of 4 atoms with no initial plan, from its weights, its entries as their bytes, its pool and its initial sets: 01, "The
+-- card, edition 1": "counts and offsets in a header", "The sections follow the weights in the header's order with no gap; the
+-- card ends with the pool." 01, "The stripe card": "Atoms: 0 threaded, 1 bobbin, 2 band, 3 broken.", "no initial plan".
+unfoldable pub assembled : List ℕ → List Bytes → List Bytes → List Bytes → List Bytes → Bytes → Bytes → Bytes → Bytes
+assembled weights nodes specifications selections revisions pool beliefs goals =
+    let nodesAt : ℕ = 64 + 2 * length weights in
+    let specificationsAt : ℕ = nodesAt + 4 * length nodes in
+    let selectionsAt : ℕ = specificationsAt + 36 * length specifications in
+    let revisionsAt : ℕ = selectionsAt + 8 * length selections in
+    let poolAt : ℕ = revisionsAt + 12 * length revisions in
     0x33 ∷ 0x41
     ∷ (flatten (map twoBytes (
-    1 ∷ p .atoms ∷ actions
-    ∷ length (p .nodes) ∷ nodesAt
-    ∷ length (p .specifications) ∷ specificationsAt
-    ∷ length (p .selections) ∷ selectionsAt
-    ∷ length (p .revisions) ∷ revisionsAt
-    ∷ length (p .pool) ∷ poolAt
+    1 ∷ 4 ∷ length weights
+    ∷ length nodes ∷ nodesAt
+    ∷ length specifications ∷ specificationsAt
+    ∷ length selections ∷ selectionsAt
+    ∷ length revisions ∷ revisionsAt
+    ∷ length pool ∷ poolAt
     ∷ 0 ∷ 0 ∷ []))
-    ++ (p .beliefs ++ (p .goals ++ (flatten (map twoBytes (p .weights))
-    ++ (flatten (p .nodes) ++ (flatten (p .specifications)
-    ++ (flatten (p .selections) ++ (flatten (p .revisions) ++ p .pool))))))))
+    ++ (beliefs ++ (goals ++ (flatten (map twoBytes weights)
+    ++ (flatten nodes ++ (flatten specifications
+    ++ (flatten selections ++ (flatten revisions ++ pool))))))))
 
 -- 01, "The card, edition 1": "A set of atoms is 16 bytes": one whose atoms are below 8, by its first byte.
 unfoldable pub set : ℕ → Bytes
@@ -69,27 +48,20 @@ revision node headStart headLen bodyStart bodyLen =
 
 -- 01, "The stripe card", but for what the cases vary: the weight of weave, node 0, the Del of weave, revision 1 and the pool.
 unfoldable pub stripeWith : ℕ → Bytes → ℕ → Bytes → Bytes → Bytes
-stripeWith weave node0 del revision1 pool = assembled (record {
-  -- 01, "The stripe card": "Atoms: 0 threaded, 1 bobbin, 2 band, 3 broken."
-  atoms = 4;
-  -- 01, "The stripe card": "Actions: 0 weave, 1 wind, 2 repair, 3 pick, 4 stripe; weights 1, 1, 1, 3, 5."
-  weights = weave ∷ 1 ∷ 1 ∷ 3 ∷ 5 ∷ [];
-  -- 01, "The stripe card": "Nodes: 0 true; 1 believes 1; 2 believes 3; 3 not 2; 4 1 and 3; 5 has goal 2."
-  nodes = node0 ∷ (1 ∷ 1 ∷ 0 ∷ 0 ∷ []) ∷ (1 ∷ 3 ∷ 0 ∷ 0 ∷ []) ∷ (3 ∷ 2 ∷ 0 ∷ 0 ∷ []) ∷ (4 ∷ 1 ∷ 3 ∷ 0 ∷ []) ∷ (2 ∷ 2 ∷ 0 ∷ 0 ∷ []) ∷ [];
-  -- 01, "The stripe card": "Specifications: 0 weave if node 4, Add {2}, Del {1}; 1 wind if true, Add {1}; 2 repair if node 2,
-  -- Del {3}."
-  specifications = specification 0 4 4 del ∷ specification 1 0 2 0 ∷ specification 2 2 0 8 ∷ [];
-  -- 01, "The stripe card": "Selection 0: true, node 5, plan 4."
-  selections = selection 0 5 0 1 ∷ [];
-  -- 01, "The stripe card": "Revisions: 0: 4, true, becomes 1 3; 1: 3, node 2, becomes 2 0; 2: 3, node 3, becomes 0."
-  revisions = revision 0 0 1 1 2 ∷ revision1 ∷ revision 3 2 1 4 1 ∷ [];
-  -- 01, "The stripe card": "Pool 4 1 3 2 0." or what a case has
-  pool = pool;
-  -- 01, "The stripe card": "Beliefs {0, 3}"
-  beliefs = set 9;
-  -- 01, "The stripe card": "goals {2}"
-  goals = set 4;
-})
+stripeWith weave node0 del revision1 pool = assembled
+    -- 01, "The stripe card": "Actions: 0 weave, 1 wind, 2 repair, 3 pick, 4 stripe; weights 1, 1, 1, 3, 5."
+    (weave ∷ 1 ∷ 1 ∷ 3 ∷ 5 ∷ [])
+    -- 01, "The stripe card": "Nodes: 0 true; 1 believes 1; 2 believes 3; 3 not 2; 4 1 and 3; 5 has goal 2."
+    (node0 ∷ (1 ∷ 1 ∷ 0 ∷ 0 ∷ []) ∷ (1 ∷ 3 ∷ 0 ∷ 0 ∷ []) ∷ (3 ∷ 2 ∷ 0 ∷ 0 ∷ []) ∷ (4 ∷ 1 ∷ 3 ∷ 0 ∷ []) ∷ (2 ∷ 2 ∷ 0 ∷ 0 ∷ []) ∷ [])
+    -- 01, "The stripe card": "Specifications: 0 weave if node 4, Add {2}, Del {1}; 1 wind if true, Add {1}; 2 repair if node 2,
+    -- Del {3}."
+    (specification 0 4 4 del ∷ specification 1 0 2 0 ∷ specification 2 2 0 8 ∷ [])
+    -- 01, "The stripe card": "Selection 0: true, node 5, plan 4."
+    (selection 0 5 0 1 ∷ [])
+    -- 01, "The stripe card": "Revisions: 0: 4, true, becomes 1 3; 1: 3, node 2, becomes 2 0; 2: 3, node 3, becomes 0."
+    (revision 0 0 1 1 2 ∷ revision1 ∷ revision 3 2 1 4 1 ∷ [])
+    -- 01, "The stripe card": "Pool 4 1 3 2 0." or what a case has; "Beliefs {0, 3}, goals {2}"
+    pool (set 9) (set 4)
 
 -- 01, "The stripe card": "Nodes: 0 true"
 abbrev true-node : Bytes

@@ -6,16 +6,16 @@ use mathlib.Core.List.{List, [], _∷_, _++_, map, List·Memᴰ}
 use Prim.Native.Nat.{ℕ, _≤_}
 use lib.ListN.{length}
 use Rattle.paper.specs.Theorems.{AreBytes}
-use Rattle.house.specs.Order.{State}
-use Rattle.house.specs.Theorems.{Numbered, GradeLaws}
+use Rattle.runs.specs.Order.{State}
+use Rattle.runs.specs.Theorems.{Numbered, GradeLaws}
 use Rattle.meaning.specs.declared.Refusal.{Refusal}
 use Rattle.meaning.specs.declared.Answer.the-variants.{Done, Refused}
 use Rattle.meaning.specs.declared.Layout.{Layout}
 use Rattle.meaning.specs.declared.Configuration.{Configuration}
-use Rattle.meaning.specs.Card.{Bytes, layout, weight, agent, initialPlan}
+use Rattle.meaning.specs.Card.{Bytes, weight, agent, initialPlan}
 use Rattle.meaning.specs.Configurations.{stateOf, configurationOf}
 use Rattle.meaning.specs.Place.{place, placed}
-use Rattle.meaning.specs.Refusals.{numberOf, cardAnswer, Row, firstGiven, cardTable, configurationTable, cardLongEnough, cardMarkGood, countsGood, offsetsGood, weightsGood, nodesGood, containing, rulesGood, pool, actionsGood, setsGood, placeTable, configurationGood}
+use Rattle.meaning.specs.Refusals.{numberOf, cardAnswer, Row, firstGiven, cardTable, configurationTable, placeTable, configurationGood}
 
 -- 01, "Numbers the guide may answer": "given exactly when" and "tested in the table's order": a row answers when what it is
 -- given for holds and nothing of the rows before it does.
@@ -33,7 +33,7 @@ pub record FirstRow {X : Type 0} (rows : List (Row X)) (x : X) (r : Refusal) : T
   -- 01, "Numbers the guide may answer": "given exactly when"
   pub holds : row .when x ≡ true
   -- 01, "Numbers the guide may answer": "A refusal answers the number"
-  pub answers : row .refusal ≡ r
+  pub answers : row .refusal x ≡ r
 
 -- 01, "Numbers the guide may answer": "given exactly when", of a whole table.
 pub record TableLaws {X : Type 0} (rows : List (Row X)) (x : X) : Type 0 where
@@ -47,45 +47,21 @@ abbrev pub TableLaw : Type 1
 TableLaw = (X : Type 0) (rows : List (Row X)) (x : X) → TableLaws rows x
 
 -- The rows of a table by their numbers: 01, "Numbers the guide may answer": "no.". Serves TableOrder.
-abbrev pub rowNumbers : {X : Type 0} → List (Row X) → List ℕ
-rowNumbers rows = map (λ q. numberOf (q .refusal)) rows
+abbrev pub rowNumbers : {X : Type 0} → List (Row X) → X → List ℕ
+rowNumbers rows x = map (λ q. numberOf (q .refusal x)) rows
 
 -- 01, "Numbers the guide may answer": "They are tested in the table's order, the card first with 1 to 9, then a place with 1,
 -- 2, 3, 4, 8, 9 or a configuration with 13"
 pub record TableOrder : Type 0 where
   -- 01, "Numbers the guide may answer": "the card first with 1 to 9"
-  pub card : rowNumbers cardTable ≡ 1 ∷ 2 ∷ 3 ∷ 4 ∷ 5 ∷ 6 ∷ 7 ∷ 8 ∷ 9 ∷ []
+  pub card : (b : Bytes) → rowNumbers cardTable b ≡ 1 ∷ 2 ∷ 3 ∷ 4 ∷ 5 ∷ 6 ∷ 7 ∷ 8 ∷ 9 ∷ []
   -- 01, "Numbers the guide may answer": "then a place with 1, 2, 3, 4, 8, 9"
-  pub place : (l : Layout) → rowNumbers (placeTable l) ≡ 1 ∷ 2 ∷ 3 ∷ 4 ∷ 8 ∷ 9 ∷ []
+  pub place : (l : Layout) (p : Bytes) → rowNumbers (placeTable l) p ≡ 1 ∷ 2 ∷ 3 ∷ 4 ∷ 8 ∷ 9 ∷ []
   -- 01, "Numbers the guide may answer": "a configuration with 13"
-  pub configuration : (l : Layout) → rowNumbers (configurationTable l) ≡ 13 ∷ []
-
--- What an accepted card has passed, row by row: 01, "Numbers the guide may answer", row 0: "none below holds".
-pub record Accepted (b : Bytes) : Type 0 where
-  -- 01, "Numbers the guide may answer", row 1 does not hold: "card under 64 bytes"
-  pub long-enough : cardLongEnough b ≡ true
-  -- 01, "Numbers the guide may answer", row 2 does not hold: "first two bytes or edition differ"
-  pub marked : cardMarkGood b ≡ true
-  -- 01, "Numbers the guide may answer", row 3 does not hold: "the number of atoms, of actions or of a section's entries or
-  -- bytes is out of range"
-  pub counts : countsGood (layout b) ≡ true
-  -- 01, "Numbers the guide may answer", row 4 does not hold: "an offset or the total length is not the required one"
-  pub offsets : offsetsGood (layout b) (length b) ≡ true
-  -- 01, "Numbers the guide may answer", row 5 does not hold: "a weight is 0 or over 1,024"
-  pub weights : weightsGood (layout b) b ≡ true
-  -- 01, "Numbers the guide may answer", row 6 does not hold: "a node breaks its rule above"
-  pub nodes : nodesGood (layout b) b ≡ true
-  -- 01, "Numbers the guide may answer", row 7 does not hold: "an entry or the initial plan breaks its rule"
-  pub rules : rulesGood (containing 1 (layout b) b) (containing 2 (layout b) b) (layout b) b ≡ true
-  -- 01, "Numbers the guide may answer", row 8 does not hold: "a pool … byte is not below the number of actions"
-  pub pool : actionsGood (layout b .actions) (pool (layout b) b) ≡ true
-  -- 01, "Numbers the guide may answer", row 9 does not hold: "a set has a bit at or above the number of atoms"
-  pub sets : setsGood (layout b) b ≡ true
+  pub configuration : (l : Layout) (c : Configuration) → rowNumbers (configurationTable l) c ≡ 13 ∷ []
 
 -- 00, demands 2 and 3: "On an accepted card", what holds of it.
 pub record CardLaws (b : Bytes) : Type 0 where
-  -- 01, "Numbers the guide may answer": the rows 1 to 9 that it has passed.
-  pub accepted : Accepted b
   -- 00, the machine: "256 action specifications, 256 rules for choosing a plan": no two of its choices have one code.
   pub numbered : Numbered (agent b)
   -- 00, demand 3: "A card is graded bounded exactly if …", and what holds "Under such a card".

@@ -1,7 +1,7 @@
 // The meaning of a card: the words in which the eight calls answer. The definitions of what they answer are in specs/. It
 // holds no code.
-use house::Ending;
-use house::Verdict;
+use runs::Ending;
+use runs::Verdict;
 
 // 01, "Numbers the guide may answer": the rows of the table but the first, by their names, in its order.
 pub enum Refusal {
@@ -51,14 +51,55 @@ pub struct Layout {
     pub initial: Span,
 }
 
+// 01, "The card, edition 1": "Node, 4 bytes: kind, a, b, 0."
+pub struct Node {
+    pub kind: u8,
+    pub a: u8,
+    pub b: u8,
+    pub zero: u8,
+}
+
+// 01, "The card, edition 1": "Specification, 36 bytes: action, node, 0, 0, Add, Del." The two 0 are one number.
+pub struct SpecificationEntry {
+    pub action: u8,
+    pub node: u8,
+    pub zero: usize,
+    pub add: [u8; 16],
+    pub del: [u8; 16],
+}
+
+// 01, "The card, edition 1": "Selection rule, 8 bytes: belief node, goal node, start, length (1..1,024), zero number."
+pub struct SelectionEntry {
+    pub belief: u8,
+    pub goal: u8,
+    pub plan: Span,
+    pub zero: usize,
+}
+
+// 01, "The card, edition 1": "Revision rule, 12 bytes: node, 0, head start, head length (1..1,024), body start, body length
+// (0..1,024), zero number."
+pub struct RevisionEntry {
+    pub node: u8,
+    pub plain: u8,
+    pub head: Span,
+    pub body: Span,
+    pub zero: usize,
+}
+
 // 01, "A configuration and its transitions": "a set of believed atoms, a set of goal atoms, a plan (0 to 1,024 action numbers)
-// and a phase 0, 1 or 2". The plan's first `length` bytes are its actions. What a caller hands in may be out of range: row 13.
-pub struct Configuration {
+// and a phase 0, 1 or 2": all of it but the plan's actions. What a caller hands in may be out of range: row 13.
+pub struct Mind {
     pub beliefs: [u8; 16],
     pub goals: [u8; 16],
-    pub plan: [u8; 1024],
     pub length: u16,
     pub phase: u8,
+}
+
+// 01, "A configuration and its transitions": "A configuration is …": a mind, and the plan, whose first `length` bytes are its
+// actions.
+pub struct Configuration {
+    pub mind: Mind,
+    pub plan: [u8; 1024],
 }
 
 // What `check` answers: 01, "Expected forms by place": "each check answers an enum": the card's layout, or the refusal.

@@ -12,8 +12,8 @@ use lib.Seq.{take-suc-set, length-take-le}
 use Rattle.paper.specs.Language.{Config}
 use Rattle.paper.specs.Transitions.{Choice}
 use Rattle.paper.specs.Next.{enabled}
-use Rattle.house.specs.Order.{kind, number, code, numbers, ofKind, inTurn, keep, enabledCodes}
-use Rattle.house.proofs.Listing.{keep-yes, keep-no}
+use Rattle.runs.specs.Order.{kind, number, code, numbers, ofKind, inTurn, keep, enabledCodes}
+use Rattle.runs.proofs.Listing.{keep-yes, keep-no}
 use Rattle.meaning.specs.declared.Layout.{Layout}
 use Rattle.meaning.specs.declared.Configuration.{Configuration}
 use Rattle.meaning.specs.declared.Refusal.{Refusal}
@@ -24,12 +24,10 @@ use Rattle.meaning.specs.Refusals.{configurationAnswer}
 use Rattle.meaning.specs.Calls.{written, lists, listLeaves}
 use Rattle.meaning.proofs.Calls.{writes-room, writes-no-room}
 use Rattle.sets.proofs.Loops.{filled, filled-turn}
-use Rattle.layout.specs.Laid.{Laid}
-use Rattle.choices.specs.declared.mind.Mind.{Mind}
-use Rattle.choices.specs.Minds.{mentalOf, mindOf}
-use Rattle.choices.specs.Choosing.{choiceAt, countOf}
+use Rattle.layout.specs.Entries.{countOf}
+use Rattle.choices.specs.Asking.{choiceAt}
 use Rattle.moves.specs.Listed.{listed}
-use Rattle.choices.proofs.Choices.{of-kind}
+use Rattle.choices.proofs.First.{of-kind}
 
 -- ---- one number more
 
@@ -128,12 +126,6 @@ code-at (suc zero) i h = refl
 code-at (suc (suc zero)) i h = refl
 code-at (suc (suc (suc k))) i h = absurd (omega arith)
 
--- a card has at most 256 choices of a kind
-pub at-most-256 : (l : Layout) (b : Bytes) → Laid l b → (k : ℕ) → countOf l k ≤ 256
-at-most-256 l b d zero = d .selections
-at-most-256 l b d (suc zero) = d .specifications
-at-most-256 l b d (suc (suc k)) = d .revisions
-
 -- ---- codes written over a lent list
 
 pub record Writing (codes out₀ : List ℕ) (i : ℕ) (out : List ℕ) : Type 0 where
@@ -151,11 +143,9 @@ writing-more codes out₀ i out w h g = record {
 
 -- ---- what the list answers, and what it leaves
 
-module _ (l : Layout) (b : Bytes) (c : Configuration) (m : Mind) (codes : List ℕ) (n : ℕ) where
-  -- a mind that is the configuration's, and the plan's bytes beside it
-  pub listed-state : l ≡ layout b → m ≡ mindOf c → take n codes ≡ enabledCodes (agentFor l b) (mentalOf m (c .plan)) → take n codes ≡ enabledCodes (agent b) (stateOf c .mental)
-  unfolding agent stateOf
-  listed-state h e x = x ∙ ap (λ (y : Layout). enabledCodes (agentFor y b) (mentalOf m (c .plan))) h ∙ ap (λ (y : Mind). enabledCodes (agentFor (layout b) b) (mentalOf y (c .plan))) e
+pub listed-by : (b : Bytes) (c : Configuration) (l : Layout) → l ≡ layout b → enabledCodes (agentFor l b) (stateOf c .mental) ≡ enabledCodes (agent b) (stateOf c .mental)
+unfolding agent
+listed-by b c l e = ap (λ (x : Layout). enabledCodes (agentFor x b) (stateOf c .mental)) e
 
 module _ (b : Bytes) (c : Configuration) (good : configurationAnswer b c ≡ Done) (codes : List ℕ) (n : ℕ) (room : length codes ≡ 768) (low : n ≤ 768) (x : take n codes ≡ enabledCodes (agent b) (stateOf c .mental)) (out : List ℕ) where
   how-many : n ≡ length (enabledCodes (agent b) (stateOf c .mental))

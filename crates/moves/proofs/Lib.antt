@@ -1,5 +1,4 @@
-pub mod Making
-pub mod Turning
+pub mod Stepping
+pub mod Running
 pub mod Taking
-pub mod Ending
 pub mod Gathering

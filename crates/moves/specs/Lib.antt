@@ -1,2 +1,2 @@
-pub mod Reached
+pub mod Steps
 pub mod Listed

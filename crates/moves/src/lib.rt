@@ -1,7 +1,6 @@
-// Moves: listed, made, taken, run.
+// Moves: a transition made in place; the guide's own, one and many; the calls list, take and run where the plan is lent.
+pub mod advance;
 pub mod list;
-mod make;
-pub mod outcome;
 pub mod run;
+pub mod step;
 pub mod take;
-mod turn;

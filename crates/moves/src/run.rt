@@ -1,42 +1,111 @@
 // A run: "A run takes a budget of 0 to 65,535 transitions", each the guide's own.
 ghost use mathlib.Core.Path.{_≡_};
-ghost use mathlib.Core.Logic.{_⊎_};
-ghost use Prim.Native.Nat.{_≤_};
+ghost use mathlib.Core.Bool.{true};
+ghost use lib.ListN.{length};
+ghost use Rattle.runs.specs.Run.{run};
 ghost use Rattle.meaning.specs.declared.Answer.the-variants.{Done};
-ghost use Rattle.meaning.specs.Card.{layout};
-ghost use Rattle.meaning.specs.Refusals.{cardAnswer};
-ghost use Rattle.meaning.specs.Calls.{runs};
-ghost use Rattle.choices.specs.Minds.{configurationIn};
-ghost use Rattle.moves.specs.Reached.{endedIn};
-use crate::outcome::Ended;
-use crate::turn::turns;
-use choices::configuration::judge_mind;
-use choices::mind::Mind;
-use house::Ending;
+ghost use Rattle.meaning.specs.Card.{agentFor};
+ghost use Rattle.meaning.specs.Configurations.{stateOf};
+ghost use Rattle.meaning.specs.Calls.{ran, runs};
+ghost use Rattle.layout.specs.PlaceParts.{lent};
+ghost use Rattle.card.specs.GoodCard.{GoodCard};
+ghost use Rattle.choices.specs.Truth.{Marked};
+ghost use Rattle.choices.specs.Ready.{Ready};
+ghost use Rattle.choices.specs.InPlace.{ranWith};
+use crate::advance::advance;
+use crate::step::Transition;
+use card::check::answer_of;
+use card::check::check;
+use choices::configuration::judge_configuration;
+use choices::in_place::RanInPlace;
+use choices::truth::judge_nodes;
+use choices::truth::no_marks;
 use meaning::Answer;
+use meaning::Checked;
 use meaning::Layout;
+use meaning::Mind;
+use runs::Ending;
+
+// The nodes are judged, unless their marks are known to be true.
+fn refresh(card: &[u8], l: Layout, m: Mind, known: bool, marks: &mut [bool; 256])
+    requires { ⌜ GoodCard l (now card) × (length (now marks) ≡ 256) × (known ≡ true → Marked l (now card) m (now marks)) ⌝ }
+    ensures { λ r. ⌜ Marked l (now (card .entry)) m (now (marks .exit)) × (length (now (marks .exit)) ≡ 256) ⌝ }
+{
+    if !known {
+        judge_nodes(card, l, m, marks);
+    }
+}
+
+// Where a run ends.
+fn ended(m: Mind, count: u16, ending: Ending) -> RanInPlace
+    ensures { λ r. ⌜ r ≡ record { answer = Done; count = count; ending = ending; mind = m } ⌝ }
+{
+    RanInPlace {
+        answer: Answer::Done,
+        count: count,
+        ending: ending,
+        mind: m,
+    }
+}
+
+// At most budget moves of the guide's own. The budget is looked at first. The nodes are judged at most once a move: their marks
+// stay true until an action. The mind is taken over field by field: no unused byte is copied.
+fn run_on(card: &[u8], l: Layout, m: Mind, plan: &mut [u8; 1024], budget: u16) -> RanInPlace
+    requires { ⌜ Ready l (now card) (lent m (now plan)) ⌝ }
+    ensures { λ r. ⌜ ranWith r (now (plan .exit)) ≡ ran (run (agentFor l (now (card .entry))) budget (stateOf (lent m (now (plan .entry))))) ⌝ }
+{
+    let mut cur = m;
+    let mut marks = no_marks();
+    let mut known = false;
+    let mut count: u16 = 0;
+    while count < budget {
+        refresh(card, l, cur, known, &mut marks);
+        let s = advance(card, l, cur, plan, &marks);
+        let transition = s.transition;
+        match transition {
+            Transition::Taken(kind, _) => {
+                let d = s.mind;
+                let b = d.beliefs;
+                let g = d.goals;
+                known = kind != 1;
+                cur.beliefs = b;
+                cur.goals = g;
+                cur.length = d.length;
+                cur.phase = d.phase;
+                count += 1;
+            }
+            Transition::Nothing => {
+                return ended(cur, count, Ending::Rest);
+            }
+            Transition::Full => {
+                return ended(cur, count, Ending::Full);
+            }
+        }
+    }
+    ended(cur, count, Ending::Spent)
+}
 
 // The mind reached, the count, and why the run ended; the plan is changed in place.
-pub fn run(card: &[u8], l: Layout, m: Mind, plan: &mut [u8; 1024], budget: u16) -> Ended
-    requires { ⌜ (cardAnswer (now card) ≡ Done) × (l ≡ layout (now card)) ⌝ }
-    ensures { λ r. ⌜ (endedIn r (now (plan .exit)) ≡ runs (now (card .entry)) (configurationIn m (now (plan .entry))) budget) × ((r .mind .length ≤ 1024) ⊎ (r .mind ≡ m)) ⌝ }
+pub fn run(card: &[u8], m: Mind, plan: &mut [u8; 1024], budget: u16) -> RanInPlace
+    ensures { λ r. ⌜ ranWith r (now (plan .exit)) ≡ runs (now (card .entry)) (lent m (now (plan .entry))) budget ⌝ }
 {
-    let a = judge_mind(l, m, plan);
-    let Answer::Done = a else {
-        return Ended {
-            answer: a,
+    let checked = check(card);
+    let Checked::Good(l) = checked else {
+        return RanInPlace {
+            answer: answer_of(checked),
             count: 0,
             ending: Ending::Spent,
             mind: m,
         };
     };
-    let t = turns(card, l, m, plan, budget);
-    let after = t.mind;
-    let ending = t.ending;
-    Ended {
-        answer: Answer::Done,
-        count: t.count,
-        ending: ending,
-        mind: after,
-    }
+    let judged = judge_configuration(l, m, plan);
+    let Answer::Done = judged else {
+        return RanInPlace {
+            answer: judged,
+            count: 0,
+            ending: Ending::Spent,
+            mind: m,
+        };
+    };
+    run_on(card, l, m, plan, budget)
 }

@@ -1,89 +1,109 @@
 // Taking a choice: "A chosen move is taken exactly if it is such a transition and its plan fits."
 ghost use mathlib.Core.Path.{_≡_};
-ghost use mathlib.Core.Logic.{_⊎_};
-ghost use Prim.Native.Nat.{_≤_, _<_};
-ghost use Rattle.paper.specs.Next.{enabled};
-ghost use Rattle.meaning.specs.declared.Answer.the-variants.{Done};
-ghost use Rattle.meaning.specs.Card.{layout, agentFor};
-ghost use Rattle.meaning.specs.Refusals.{cardAnswer};
-ghost use Rattle.meaning.specs.Calls.{reply, takes};
-ghost use Rattle.card.specs.GoodCard.{GoodCard};
-ghost use Rattle.choices.specs.Minds.{mentalOf, stateIn, configurationIn, Held};
-ghost use Rattle.choices.specs.Choosing.{choiceAt};
-ghost use Rattle.moves.specs.Reached.{answered, moveBy, told, left};
-use crate::make::make;
-use crate::outcome::Came;
-use crate::outcome::Stepped;
-use choices::configuration::judge_mind;
-use choices::enabled::can;
-use choices::enabled::count_of;
-use choices::mind::Mind;
-use choices::reply::Replied;
-use choices::truth::judged;
+ghost use Prim.Native.Nat.{_<_};
+ghost use Rattle.runs.specs.Step.{step};
+ghost use Rattle.meaning.specs.Card.{agentFor};
+ghost use Rattle.meaning.specs.Configurations.{stateOf};
+ghost use Rattle.meaning.specs.Calls.{takes};
+ghost use Rattle.layout.specs.PlaceParts.{lent};
+ghost use Rattle.choices.specs.Ready.{Ready};
+ghost use Rattle.choices.specs.Asking.{choiceAt};
+ghost use Rattle.choices.specs.InPlace.{replyWith};
+ghost use Rattle.moves.specs.Steps.{answerTo, answerAsked, takenBy};
+use crate::step::Transition;
+use crate::step::step;
+use card::check::answer_of;
+use card::check::check;
+use choices::ask::Asked;
+use choices::ask::ask;
+use choices::configuration::judge_configuration;
+use choices::in_place::ReplyInPlace;
+use choices::truth::judge_nodes;
+use choices::truth::no_marks;
 use meaning::Answer;
+use meaning::Checked;
 use meaning::Layout;
+use meaning::Mind;
 use meaning::Refusal;
 
-// Whether a choice, by its kind and number, is enabled; a number past the last is not.
-fn may(card: &[u8], l: Layout, m: Mind, plan: &[u8; 1024], kind: u8, i: usize) -> bool
-    requires { ⌜ GoodCard l (now card) × Held m (now plan) × (kind < 3) ⌝ }
-    ensures { λ r. ⌜ r ≡ enabled (agentFor l (now (card .entry))) (mentalOf m (now (plan .entry))) (choiceAt kind i) ⌝ }
+// What is answered of what a transition comes to: done, 10 or 11.
+fn answer_to(transition: Transition) -> Answer
+    ensures { λ r. ⌜ r ≡ answerTo transition ⌝ }
 {
-    if count_of(l, kind) <= i {
-        return false;
-    }
-    let b = m.beliefs;
-    let g = m.goals;
-    let marks = judged(card, l, b, g);
-    can(card, l, m, plan, &marks, kind, i)
-}
-
-// A choice is made if it is enabled.
-fn attempt(card: &[u8], l: Layout, m: Mind, plan: &mut [u8; 1024], kind: u8, i: usize) -> Stepped
-    requires { ⌜ GoodCard l (now card) × Held m (now plan) × (kind < 3) ⌝ }
-    ensures { λ r. ⌜ (r ≡ told (moveBy (agentFor l (now (card .entry))) (stateIn m (now (plan .entry))) (choiceAt kind i)) m) × (now (plan .exit) ≡ left (moveBy (agentFor l (now (card .entry))) (stateIn m (now (plan .entry))) (choiceAt kind i)) (now (plan .entry))) ⌝ }
-{
-    if may(card, l, m, plan, kind, i) {
-        return make(card, l, m, plan, kind, i);
-    }
-    Stepped {
-        next: Came::Nothing,
-        mind: m,
+    match transition {
+        Transition::Taken(_, _) => Answer::Done,
+        Transition::Nothing => Answer::Refused(Refusal::NotEnabled),
+        Transition::Full => Answer::Refused(Refusal::PlanFull),
     }
 }
 
-// What is answered of what a move comes to: done, 10 or 11.
-fn answer_to(next: Came) -> Answer
-    ensures { λ r. ⌜ r ≡ answered next ⌝ }
+// What is answered of a choice that was asked for: done where it is open, and 10 for each reason why it is closed.
+fn answer_asked(asked: Asked) -> Answer
+    ensures { λ r. ⌜ r ≡ answerAsked asked ⌝ }
 {
-    match next {
-        Came::Moved => Answer::Done,
-        Came::Nothing => Answer::Refused(Refusal::NotEnabled),
-        Came::Full => Answer::Refused(Refusal::PlanFull),
+    match asked {
+        Asked::Open => Answer::Done,
+        Asked::NoRule => Answer::Refused(Refusal::NotEnabled),
+        Asked::Front => Answer::Refused(Refusal::NotEnabled),
+        Asked::Condition => Answer::Refused(Refusal::NotEnabled),
     }
 }
 
-// "256 times the kind … plus the number": the chosen move, in place; what is not moved is as it came in.
-pub fn take(card: &[u8], l: Layout, m: Mind, plan: &mut [u8; 1024], choice: u16) -> Replied
-    requires { ⌜ (cardAnswer (now card) ≡ Done) × (l ≡ layout (now card)) ⌝ }
-    ensures { λ r. ⌜ (reply (r .answer) (configurationIn (r .mind) (now (plan .exit))) ≡ takes (now (card .entry)) (configurationIn m (now (plan .entry))) choice) × ((r .mind .length ≤ 1024) ⊎ (r .mind ≡ m)) ⌝ }
+// The choice of a kind and a number is asked for and, if it is open, made.
+fn take_choice(
+    card: &[u8],
+    l: Layout,
+    m: Mind,
+    plan: &mut [u8; 1024],
+    kind: u8,
+    i: usize,
+) -> ReplyInPlace
+    requires { ⌜ Ready l (now card) (lent m (now plan)) × (kind < 3) ⌝ }
+    ensures { λ r. ⌜ replyWith r (now (plan .exit))
+        ≡ takenBy (step (agentFor l (now (card .entry))) (stateOf (lent m (now (plan .entry)))) (choiceAt kind i)) (lent m (now (plan .entry))) ⌝ }
 {
-    let a = judge_mind(l, m, plan);
-    let Answer::Done = a else {
-        return Replied { answer: a, mind: m };
+    let mut marks = no_marks();
+    judge_nodes(card, l, m, &mut marks);
+    let asked = answer_asked(ask(card, l, m, plan, &marks, kind, i));
+    let Answer::Done = asked else {
+        return ReplyInPlace {
+            answer: asked,
+            mind: m,
+        };
+    };
+    let s = step(card, l, m, plan, kind, i);
+    let transition = s.transition;
+    let after = s.mind;
+    ReplyInPlace {
+        answer: answer_to(transition),
+        mind: after,
+    }
+}
+
+// "256 times the kind … plus the number": the chosen move, in place; what is not taken is as it came in.
+pub fn take(card: &[u8], m: Mind, plan: &mut [u8; 1024], choice: u16) -> ReplyInPlace
+    ensures { λ r. ⌜ replyWith r (now (plan .exit)) ≡ takes (now (card .entry)) (lent m (now (plan .entry))) choice ⌝ }
+{
+    let checked = check(card);
+    let Checked::Good(l) = checked else {
+        return ReplyInPlace {
+            answer: answer_of(checked),
+            mind: m,
+        };
+    };
+    let judged = judge_configuration(l, m, plan);
+    let Answer::Done = judged else {
+        return ReplyInPlace {
+            answer: judged,
+            mind: m,
+        };
     };
     let kind = choice / 256;
     if 2 < kind {
-        return Replied {
+        return ReplyInPlace {
             answer: Answer::Refused(Refusal::NotEnabled),
             mind: m,
         };
     }
-    let s = attempt(card, l, m, plan, kind as u8, (choice % 256) as usize);
-    let next = s.next;
-    let after = s.mind;
-    Replied {
-        answer: answer_to(next),
-        mind: after,
-    }
+    take_choice(card, l, m, plan, kind as u8, (choice % 256) as usize)
 }

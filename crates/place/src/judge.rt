@@ -3,30 +3,26 @@
 ghost use mathlib.Core.Path.{_≡_};
 ghost use Prim.Native.Nat.{_+_, _≤_};
 ghost use lib.ListN.{length, drop};
-ghost use Rattle.meaning.specs.Refusals.{actionsGood, placeMarkGood, placeCountsGood, placeOffsetsGood, placeSetsGood, firstGiven, placeTable};
-ghost use Rattle.card.specs.Stair.{rowsFrom};
+ghost use Rattle.meaning.specs.Refusals.{actionsGood, placeCountsGood, placeOffsetsGood, firstGiven, placeTable};
+ghost use Rattle.layout.specs.PlaceParts.{placeParts};
+ghost use Rattle.card.specs.Rows.{rowsFrom};
 use card::check::row;
 use card::contents::actions_good;
-use layout::readers::number_at;
-use layout::readers::set_at;
+use layout::bytes::mark_good;
+use layout::place::PlaceParts;
+use layout::place::read_parts;
 use meaning::Answer;
 use meaning::Layout;
 use meaning::Refusal;
 
-// Not row 9: "a set has a bit at or above the number of atoms". The beliefs stand at 12, the goals at 28.
-fn sets_good(p: &[u8], atoms: usize) -> bool
-    requires { ⌜ (44 ≤ length (now p)) × (atoms ≤ 128) ⌝ }
-    ensures { λ r. ⌜ r ≡ placeSetsGood atoms (now (p .entry)) ⌝ }
-{
-    sets::both_known(set_at(p, 12), set_at(p, 28), atoms)
-}
-
-// Row 9, the last.
-fn from_sets(l: Layout, p: &[u8]) -> Answer
-    requires { ⌜ (44 ≤ length (now p)) × (l .atoms ≤ 128) ⌝ }
+// Row 9, the last: "a set has a bit at or above the number of atoms".
+fn from_sets(l: Layout, p: &[u8], h: PlaceParts) -> Answer
+    requires { ⌜ (44 ≤ length (now p)) × (h ≡ placeParts (now p)) × (l .atoms ≤ 128) ⌝ }
     ensures { λ r. ⌜ r ≡ rowsFrom 5 (placeTable l) (now (p .entry)) ⌝ }
 {
-    row(sets_good(p, l.atoms), Refusal::Atom)
+    let b = h.beliefs;
+    let g = h.goals;
+    row(sets::both_known(b, g, l.atoms), Refusal::Atom)
 }
 
 // Not row 8: "a pool or plan byte is not below the number of actions".
@@ -38,48 +34,43 @@ fn plan_good(p: &[u8], actions: usize) -> bool
 }
 
 // Row 8, then 9.
-fn from_plan(l: Layout, p: &[u8]) -> Answer
-    requires { ⌜ (44 ≤ length (now p)) × (l .atoms ≤ 128) ⌝ }
+fn from_plan(l: Layout, p: &[u8], h: PlaceParts) -> Answer
+    requires { ⌜ (44 ≤ length (now p)) × (h ≡ placeParts (now p)) × (l .atoms ≤ 128) ⌝ }
     ensures { λ r. ⌜ r ≡ rowsFrom 4 (placeTable l) (now (p .entry)) ⌝ }
 {
     let a = row(plan_good(p, l.actions), Refusal::ActionByte);
     let Answer::Done = a else {
         return a;
     };
-    from_sets(l, p)
+    from_sets(l, p, h)
 }
 
 // Not row 4: "an offset or the total length is not the required one". "plan offset 44 at 6 … Exactly 44 + L bytes."
-fn offsets_good(p: &[u8]) -> bool
-    requires { ⌜ 44 ≤ length (now p) ⌝ }
+fn offsets_good(p: &[u8], h: PlaceParts) -> bool
+    requires { ⌜ (h ≡ placeParts (now p)) × (h .length ≤ 65535) ⌝ }
     ensures { λ r. ⌜ r ≡ placeOffsetsGood (now (p .entry)) ⌝ }
 {
-    let n = number_at(p, 4);
-    let offset = number_at(p, 6);
-    (offset == 44) & (p.len() == 44 + n)
+    (h.offset == 44) & (p.len() == 44 + h.length)
 }
 
 // Row 4, then 8 and 9.
-fn from_offsets(l: Layout, p: &[u8]) -> Answer
-    requires { ⌜ (44 ≤ length (now p)) × (l .atoms ≤ 128) ⌝ }
+fn from_offsets(l: Layout, p: &[u8], h: PlaceParts) -> Answer
+    requires { ⌜ (44 ≤ length (now p)) × (h ≡ placeParts (now p)) × (h .length ≤ 65535) × (l .atoms ≤ 128) ⌝ }
     ensures { λ r. ⌜ r ≡ rowsFrom 3 (placeTable l) (now (p .entry)) ⌝ }
 {
-    let a = row(offsets_good(p), Refusal::Offsets);
+    let a = row(offsets_good(p, h), Refusal::Offsets);
     let Answer::Done = a else {
         return a;
     };
-    from_plan(l, p)
+    from_plan(l, p, h)
 }
 
 // Not row 3: "in a place L over 1,024, phase over 2, or bytes 10 and 11 not zero".
-fn counts_good(p: &[u8]) -> bool
-    requires { ⌜ 44 ≤ length (now p) ⌝ }
+fn counts_good(p: &[u8], h: PlaceParts) -> bool
+    requires { ⌜ h ≡ placeParts (now p) ⌝ }
     ensures { λ r. ⌜ r ≡ placeCountsGood (now (p .entry)) ⌝ }
 {
-    let n = number_at(p, 4);
-    let phase = number_at(p, 8);
-    let zero = number_at(p, 10);
-    (n <= 1024) & ((phase <= 2) & (zero == 0))
+    (h.length <= 1024) & ((h.phase <= 2) & (h.zero == 0))
 }
 
 // Row 3, then 4, 8 and 9.
@@ -87,28 +78,20 @@ fn from_counts(l: Layout, p: &[u8]) -> Answer
     requires { ⌜ (44 ≤ length (now p)) × (l .atoms ≤ 128) ⌝ }
     ensures { λ r. ⌜ r ≡ rowsFrom 2 (placeTable l) (now (p .entry)) ⌝ }
 {
-    let a = row(counts_good(p), Refusal::Count);
+    let h = read_parts(p);
+    let a = row(counts_good(p, h), Refusal::Count);
     let Answer::Done = a else {
         return a;
     };
-    from_offsets(l, p)
+    from_offsets(l, p, h)
 }
 
-// Not row 2: "first two bytes or edition differ". "Bytes 33 50 hex; edition 1 at 2".
-fn mark_good(p: &[u8]) -> bool
-    requires { ⌜ 44 ≤ length (now p) ⌝ }
-    ensures { λ r. ⌜ r ≡ placeMarkGood (now (p .entry)) ⌝ }
-{
-    let edition = number_at(p, 2);
-    (p[0] == 0x33) & ((p[1] == 0x50) & (edition == 1))
-}
-
-// Row 2, then 3, 4, 8 and 9.
+// Row 2, then 3, 4, 8 and 9. "Bytes 33 50 hex; edition 1 at 2".
 fn from_mark(l: Layout, p: &[u8]) -> Answer
     requires { ⌜ (44 ≤ length (now p)) × (l .atoms ≤ 128) ⌝ }
     ensures { λ r. ⌜ r ≡ rowsFrom 1 (placeTable l) (now (p .entry)) ⌝ }
 {
-    let a = row(mark_good(p), Refusal::Mark);
+    let a = row(mark_good(p, 0x50), Refusal::Mark);
     let Answer::Done = a else {
         return a;
     };

@@ -1,43 +1,72 @@
 // Loading: "Loading answers the card's initial beliefs, goals and plan with phase 0, and strikes no goal."
 ghost use mathlib.Core.Path.{_≡_};
-ghost use Prim.Native.Nat.{_≤_};
 ghost use lib.ListN.{length};
-ghost use Rattle.meaning.specs.declared.Answer.the-variants.{Done};
-ghost use Rattle.meaning.specs.Card.{layout, start};
-ghost use Rattle.meaning.specs.Configurations.{configurationOf};
-ghost use Rattle.meaning.specs.Refusals.{cardAnswer};
-ghost use Rattle.meaning.specs.Calls.{reply, loads};
+ghost use Rattle.meaning.specs.Card.{start};
+ghost use Rattle.meaning.specs.Configurations.{configurationOf, empty};
+ghost use Rattle.meaning.specs.Calls.{loads};
+ghost use Rattle.layout.specs.PlaceParts.{lent};
 ghost use Rattle.card.specs.GoodCard.{GoodCard};
-ghost use Rattle.choices.specs.Minds.{configurationIn};
-use choices::mind::Mind;
-use layout::readers::set_at;
-use layout::readers::size;
+ghost use Rattle.choices.specs.InPlace.{replyWith};
+use card::check::answer_of;
+use card::check::check;
+use choices::in_place::ReplyInPlace;
+use layout::bytes::size;
+use layout::entries::initial_beliefs;
+use layout::entries::initial_goals;
+use meaning::Answer;
+use meaning::Checked;
 use meaning::Layout;
+use meaning::Mind;
 
-// The mind that a card starts with; its initial plan goes to a lent array.
+// The mind that an accepted card starts with; its initial plan goes to the lent one.
 fn first(card: &[u8], l: Layout, plan: &mut [u8; 1024]) -> Mind
     requires { ⌜ GoodCard l (now card) × (length (now plan) ≡ 1024) ⌝ }
-    ensures { λ r. ⌜ (configurationIn r (now (plan .exit)) ≡ configurationOf (start (now (card .entry)))) × (r .length ≤ 1024) ⌝ }
+    ensures { λ r. ⌜ lent r (now (plan .exit)) ≡ configurationOf (start (now (card .entry))) ⌝ }
 {
     let pool = l.pool;
     let initial = l.initial;
     let n = initial.length;
-    let beliefs = set_at(card, 32);
-    let goals = set_at(card, 48);
+    let beliefs = initial_beliefs(card);
+    let goals = initial_goals(card);
     plans::fill(plan, card, pool.offset + initial.start, n);
     Mind {
         beliefs: beliefs,
         goals: goals,
-        length: n,
+        length: n as u16,
         phase: 0,
     }
 }
 
-// The configuration that an accepted card starts with; the plan's bytes go to a lent array.
-pub fn load(card: &[u8], l: Layout, plan: &mut [u8; 1024]) -> Mind
-    requires { ⌜ (cardAnswer (now card) ≡ Done) × (l ≡ layout (now card)) ⌝ }
-    ensures { λ r. ⌜ (reply Done (configurationIn r (now (plan .exit))) ≡ loads (now (card .entry))) × (r .length ≤ 1024) ⌝ }
+// "the empty one (no atoms, empty plan, phase 0)"
+pub fn empty_mind(plan: &mut [u8; 1024]) -> Mind
+    ensures { λ r. ⌜ lent r (now (plan .exit)) ≡ empty ⌝ }
 {
     let room = size(plan);
-    first(card, l, plan)
+    plans::fill(plan, b"", 0, 0);
+    Mind {
+        beliefs: [0u8; 16],
+        goals: [0u8; 16],
+        length: 0,
+        phase: 0,
+    }
+}
+
+// The configuration that a card starts with, the plan's bytes in the lent one; the empty one in a refusal.
+pub fn load(card: &[u8], plan: &mut [u8; 1024]) -> ReplyInPlace
+    ensures { λ r. ⌜ replyWith r (now (plan .exit)) ≡ loads (now (card .entry)) ⌝ }
+{
+    let room = size(plan);
+    let checked = check(card);
+    let Checked::Good(l) = checked else {
+        let none = empty_mind(plan);
+        return ReplyInPlace {
+            answer: answer_of(checked),
+            mind: none,
+        };
+    };
+    let m = first(card, l, plan);
+    ReplyInPlace {
+        answer: Answer::Done,
+        mind: m,
+    }
 }

@@ -1,72 +1,64 @@
 // Restoring: the configuration that a place stands for, or the refusal.
 ghost use mathlib.Core.Path.{_≡_};
-ghost use Prim.Native.Nat.{_≤_};
 ghost use lib.ListN.{length};
-ghost use Rattle.meaning.specs.declared.Answer.the-variants.{Done};
-ghost use Rattle.meaning.specs.Card.{layout};
-ghost use Rattle.meaning.specs.Configurations.{configurationOf, empty};
+ghost use Rattle.meaning.specs.Configurations.{configurationOf};
 ghost use Rattle.meaning.specs.Place.{placed};
-ghost use Rattle.meaning.specs.Refusals.{cardAnswer};
-ghost use Rattle.meaning.specs.Calls.{reply, restores};
-ghost use Rattle.choices.specs.Minds.{configurationIn};
+ghost use Rattle.meaning.specs.Calls.{restores};
+ghost use Rattle.layout.specs.PlaceParts.{lent};
+ghost use Rattle.choices.specs.InPlace.{replyWith};
 ghost use Rattle.place.specs.Rows.{Sized};
 use crate::judge::judge_place;
-use choices::mind::Mind;
-use choices::reply::Replied;
-use layout::readers::number_at;
-use layout::readers::set_at;
-use layout::readers::size;
+use crate::load::empty_mind;
+use card::check::answer_of;
+use card::check::check;
+use choices::in_place::ReplyInPlace;
+use layout::bytes::size;
+use layout::place::read_parts;
 use meaning::Answer;
-use meaning::Layout;
+use meaning::Checked;
+use meaning::Mind;
 
 // "plan length L at 4; … phase at 8; … beliefs at 12; goals at 28; the plan's L bytes at 44."
 fn read(p: &[u8], plan: &mut [u8; 1024]) -> Mind
     requires { ⌜ Sized (now p) × (length (now plan) ≡ 1024) ⌝ }
-    ensures { λ r. ⌜ (configurationIn r (now (plan .exit)) ≡ configurationOf (placed (now (p .entry)))) × (r .length ≤ 1024) ⌝ }
+    ensures { λ r. ⌜ lent r (now (plan .exit)) ≡ configurationOf (placed (now (p .entry))) ⌝ }
 {
-    let n = number_at(p, 4);
-    let beliefs = set_at(p, 12);
-    let goals = set_at(p, 28);
+    let h = read_parts(p);
+    let n = h.length;
+    let beliefs = h.beliefs;
+    let goals = h.goals;
     plans::fill(plan, p, 44, n);
-    let phase = p[8];
     Mind {
         beliefs: beliefs,
         goals: goals,
-        length: n,
-        phase: phase,
+        length: n as u16,
+        phase: h.phase as u8,
     }
 }
 
-// "the empty one (no atoms, empty plan, phase 0)"
-pub fn empty_mind(plan: &mut [u8; 1024]) -> Mind
-    ensures { λ r. ⌜ (configurationIn r (now (plan .exit)) ≡ empty) × (r .length ≤ 1024) ⌝ }
+// The configuration that a place stands for, the plan's bytes in the lent one; the empty one in a refusal.
+pub fn restore(card: &[u8], p: &[u8], plan: &mut [u8; 1024]) -> ReplyInPlace
+    ensures { λ r. ⌜ replyWith r (now (plan .exit)) ≡ restores (now (card .entry)) (now (p .entry)) ⌝ }
 {
     let room = size(plan);
-    plans::fill(plan, b"", 0, 0);
-    Mind {
-        beliefs: [0u8; 16],
-        goals: [0u8; 16],
-        length: 0,
-        phase: 0,
-    }
-}
-
-// The configuration that a place stands for, judged against an accepted card; the plan's bytes go to a lent array.
-pub fn restore(card: &[u8], l: Layout, p: &[u8], plan: &mut [u8; 1024]) -> Replied
-    requires { ⌜ (cardAnswer (now card) ≡ Done) × (l ≡ layout (now card)) ⌝ }
-    ensures { λ r. ⌜ (reply (r .answer) (configurationIn (r .mind) (now (plan .exit))) ≡ restores (now (card .entry)) (now (p .entry))) × (r .mind .length ≤ 1024) ⌝ }
-{
-    let room = size(plan);
+    let checked = check(card);
+    let Checked::Good(l) = checked else {
+        let none = empty_mind(plan);
+        return ReplyInPlace {
+            answer: answer_of(checked),
+            mind: none,
+        };
+    };
     let a = judge_place(l, p);
     let Answer::Done = a else {
         let none = empty_mind(plan);
-        return Replied {
+        return ReplyInPlace {
             answer: a,
             mind: none,
         };
     };
     let m = read(p, plan);
-    Replied {
+    ReplyInPlace {
         answer: Answer::Done,
         mind: m,
     }

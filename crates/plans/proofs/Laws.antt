@@ -6,7 +6,6 @@ use Prim.Native.Nat.{ℕ, zero, suc, _+_, _-_, _≤_, _<_}
 use native.Mathlib.Nat.{sub-zero, zero-sub, suc-sub-suc, zero-add}
 use native.Mathlib.Decide.{decLt}
 use native.Mathlib.Omega.{arith}
-use native.Mathlib.Numerals.{add-one}
 use borrow.Author.Tests.{eqb-true, eq-eqb}
 use lib.Bits.{bitOr, bitXor, and-le-l, and-le-r, or-add-and, xor-add-and, or-zero-l, xor-self}
 use lib.Dec.{eqb}
@@ -19,6 +18,8 @@ use Rattle.meaning.specs.Configurations.{padded}
 use Rattle.meaning.specs.Refusals.{every}
 use Rattle.meaning.proofs.Every.{both-true, same-truth, every-at, every-of}
 use Rattle.meaning.proofs.Parts.{length-part, part-at}
+use Rattle.layout.proofs.Copying.{copy-more}
+use Rattle.plans.specs.Plans.{Padded, shifted, same}
 
 -- ---- bytes that are copied over others
 
@@ -50,15 +51,6 @@ drop-after d at s n k h hd hs =
     ∙ ap (drop (k - (at + n))) (drop-paste d at s n hd hs)
     ∙ drop-drop (k - (at + n)) (at + n) d
     ∙ ap (λ (x : ℕ). drop x d) e
-
--- a turn of a copy from another list
-pub copy-more : (d : List ℕ) (at : ℕ) (s : List ℕ) (from n : ℕ) → at + n < length d → from + n < length s
-    → set (paste d at (drop from s) n) (at + n) (getD s (from + n) 0) ≡ paste d at (drop from s) (n + 1)
-copy-more d at s from n hd hs =
-    let l : n < length (drop from s) = rw (length-drop from s) (omega arith) in
-    ap (set (paste d at (drop from s) n) (at + n)) (sym (getD-drop from s n 0))
-    ∙ paste-suc d at (drop from s) n 0 hd l
-    ∙ ap (paste d at (drop from s)) (sym (add-one n))
 
 -- a turn of a move down
 pub down-more : (d : List ℕ) (to from n : ℕ) → to ≤ from → from + n < length d
@@ -117,7 +109,7 @@ drop-replicate zero n a = rw sub-zero
 drop-replicate (suc m) zero a = rw zero-sub
 drop-replicate (suc m) (suc n) a = rw (suc-sub-suc n m) (drop-replicate m n a)
 
-drop-zeros : (d : List ℕ) (len k : ℕ) → length d ≡ 1024 → d ≡ padded (take len d) → len ≤ k → len ≤ 1024 → drop k d ≡ replicate (1024 - k) 0
+drop-zeros : (d : List ℕ) (len k : ℕ) → length d ≡ 1024 → Padded d len → len ≤ k → len ≤ 1024 → drop k d ≡ replicate (1024 - k) 0
 unfolding padded
 drop-zeros d len k ld z h hl =
     let l : length (take len d) ≡ len = length-take-le len d (omega arith) in
@@ -142,25 +134,25 @@ drop-take (suc m) (suc n) [] = sym (take-nil (suc n - suc m))
 drop-take (suc m) (suc n) (x ∷ l) = rw (suc-sub-suc n m) (drop-take m n l)
 
 -- a plan that has zeros after its end fills its room
-pub length-zeroed : (d : List ℕ) (len : ℕ) → len ≤ 1024 → d ≡ padded (take len d) → length d ≡ 1024
+pub length-zeroed : (d : List ℕ) (len : ℕ) → len ≤ 1024 → Padded d len → length d ≡ 1024
 length-zeroed d len h z =
     let l : length (take len d) ≤ 1024 = rw (length-take len d) (omega arith) in
     ap length z ∙ length-padded (take len d) l
 
 -- ---- what stands after the first h actions, moved to b
-module _ (d : List ℕ) (len h b : ℕ) (hl : h ≤ len) (hr : len ≤ 1024) (room : b + (len - h) ≤ 1024) (z : d ≡ padded (take len d)) where
+module _ (d : List ℕ) (len h b : ℕ) (hl : h ≤ len) (hr : len ≤ 1024) (room : b + (len - h) ≤ 1024) (z : Padded d len) where
   ld : length d ≡ 1024
   ld = length-zeroed d len hr z
 
   pub length-shift : (s : List ℕ) → s ≡ paste d b (drop h d) (len - h) → length s ≡ 1024
   length-shift s q = let l : len - h ≤ length (drop h d) = rw (length-drop h d) (omega (arith, ld)) in ap length q ∙ length-paste d b (drop h d) (len - h) (omega (arith, ld)) l ∙ ld
 
-  pub shifted-up : h < b → paste d b (drop h d) (len - h) ≡ take b d ++ part d h (len - h) ++ replicate (1024 - (b + (len - h))) 0
+  pub shifted-up : h < b → paste d b (drop h d) (len - h) ≡ shifted d len h b
   unfolding part
   shifted-up lt = ap (λ (x : List ℕ). take b d ++ part d h (len - h) ++ x) (drop-zeros d len (b + (len - h)) ld z (omega (arith, ld)) hr)
 
   pub shifted-down : b ≤ h → (e : List ℕ) → e ≡ paste d b (drop h d) (len - h)
-      → take (b + (len - h)) e ++ replicate (len - (b + (len - h))) 0 ++ drop len e ≡ take b d ++ part d h (len - h) ++ replicate (1024 - (b + (len - h))) 0
+      → take (b + (len - h)) e ++ replicate (len - (b + (len - h))) 0 ++ drop len e ≡ shifted d len h b
   unfolding part
   shifted-down le e q =
       let n = len - h in
@@ -178,7 +170,7 @@ module _ (d : List ℕ) (len h b : ℕ) (hl : h ≤ len) (hr : len ≤ 1024) (ro
       )
 
   -- with the body put before it
-  pub replaced : (s : List ℕ) (start : ℕ) → start + b ≤ length s → (e : List ℕ) → e ≡ take b d ++ part d h (len - h) ++ replicate (1024 - (b + (len - h))) 0
+  pub replaced : (s : List ℕ) (start : ℕ) → start + b ≤ length s → (e : List ℕ) → e ≡ shifted d len h b
       → paste e 0 (drop start s) b ≡ padded (part s start b ++ drop h (take len d))
   unfolding part padded
   replaced s start hs e q =
@@ -195,23 +187,27 @@ module _ (d : List ℕ) (len h b : ℕ) (hl : h ≤ len) (hr : len ≤ 1024) (ro
       ∙ ap (λ (y : ℕ). body ++ part d h n ++ replicate (1024 - y) 0) (sym l)
       ∙ ap (λ (y : List ℕ). padded (body ++ y)) (sym (drop-take h len d))
 
-  pub length-shifted : (e : List ℕ) → e ≡ take b d ++ part d h (len - h) ++ replicate (1024 - (b + (len - h))) 0 → length e ≡ 1024
-  unfolding part
-  length-shifted e q =
-      let n = len - h in
-      let lt : length (part d h n) ≡ n = length-part d h n (omega (arith, ld)) in
-      let lb : length (take b d) ≡ b = length-take-le b d (omega (arith, ld)) in
-      ap length q
-      ∙ length-append (take b d ++ part d h n) (replicate (1024 - (b + n)) 0)
-      ∙ omega (arith, length-append (take b d) (part d h n), length-replicate {A = ℕ} (1024 - (b + n)) 0)
-
-pub dropped : (d : List ℕ) (len k : ℕ) → k ≤ len → len ≤ 1024 → d ≡ padded (take len d)
-    → take 0 d ++ part d k (len - k) ++ replicate (1024 - (0 + (len - k))) 0 ≡ padded (drop k (take len d))
+-- with the first k actions gone
+pub dropped : (d : List ℕ) (len k : ℕ) → k ≤ len → len ≤ 1024 → Padded d len
+    → shifted d len k 0 ≡ padded (drop k (take len d))
 unfolding part padded
 dropped d len k h hr z =
     let ld : length d ≡ 1024 = length-zeroed d len hr z in
     let l : length (part d k (len - k)) ≡ 0 + (len - k) = length-part d k (len - k) (omega arith) ∙ sym (zero-add (len - k)) in
     ap (λ (y : ℕ). part d k (len - k) ++ replicate (1024 - y) 0) (sym l) ∙ ap (padded) (sym (drop-take k len d))
+
+-- n bytes over the front, and zeros behind them
+pub filled : (d b : List ℕ) (start n : ℕ) → start + n ≤ length b → (d₁ : List ℕ) → d₁ ≡ paste d 0 (drop start b) n → length d₁ ≡ 1024
+    → take n d₁ ++ replicate (1024 - n) 0 ++ drop 1024 d₁ ≡ padded (part b start n)
+unfolding padded part
+filled d b start n k d₁ e ld =
+    let s = drop start b in
+    let hs : n ≤ length s = rw (length-drop start b) (omega arith) in
+    let lt : length (take n s) ≡ n = length-take-le n s hs in
+    let t : take n d₁ ≡ take n s = ap (take n) e ∙ take-at (take n s) (drop (0 + n) d) n lt in
+    let m : length d₁ ≤ 1024 = omega arith in
+    let z : drop 1024 d₁ ≡ [] = drop-of-length-le d₁ m in
+    rw (t, z, lt) (append-nil (take n s ++ replicate (1024 - n) 0))
 
 -- ---- a head compared with a plan's front
 
@@ -257,10 +253,6 @@ every-prefix (a ∷ h) (b ∷ π) l e = both-true (eqb a b) (isPrefix h π) (eq-
 abbrev pub Agree : List ℕ → List ℕ → ℕ → ℕ → Type 0
 Agree c d s i = (j : ℕ) → j < i → getD c (s + j) 0 ≡ getD d j 0
 
--- m bytes of c from `at` on are those of d from `from` on
-abbrev block : List ℕ → List ℕ → ℕ → ℕ → ℕ → Bool
-block c d at from m = every m (λ j. eqb (getD c (at + j) 0) (getD d (from + j) 0))
-
 -- a head of n bytes of c from s on, and a plan in the first len of d, compared by parts
 module _ (c d : List ℕ) (s n len : ℕ) (whole : s + n ≤ length c) (long : n ≤ len) (room : len ≤ length d) where
   abbrev head : List ℕ
@@ -287,29 +279,29 @@ module _ (c d : List ℕ) (s n len : ℕ) (whole : s + n ≤ length c) (long : n
       let p = plan-length in
       sym (part-at c s n j g) ∙ prefix-every head plan (omega arith) e j (omega arith) ∙ getD-take len d j 0 (omega arith)
 
-  pub agree-more : (at from m k : ℕ) → at ≡ s + from → from ≤ k → Agree c d s k → block c d at from m ≡ true → Agree c d s (from + m)
+  pub agree-more : (at from m k : ℕ) → at ≡ s + from → from ≤ k → Agree c d s k → every m (same c at d from) ≡ true → Agree c d s (from + m)
   agree-more at from m k e l a b j g = elim (decLt j k) [
     | yes h ↦ a j h
     | no h ↦
-        let x : getD c (at + (j - from)) 0 ≡ getD d (from + (j - from)) 0 = eqb-true _ _ (every-at (λ j. eqb (getD c (at + j) 0) (getD d (from + j) 0)) m (j - from) b (omega arith)) in
+        let x : getD c (at + (j - from)) 0 ≡ getD d (from + (j - from)) 0 = eqb-true _ _ (every-at (same c at d from) m (j - from) b (omega arith)) in
         let y : at + (j - from) ≡ s + j = omega arith in
         let z : from + (j - from) ≡ j = omega arith in
         rw (y, z) at x
   ]
 
-  block-back : (at from m : ℕ) → at ≡ s + from → from + m ≤ n → isPrefix head plan ≡ true → block c d at from m ≡ true
+  block-back : (at from m : ℕ) → at ≡ s + from → from + m ≤ n → isPrefix head plan ≡ true → every m (same c at d from) ≡ true
   block-back at from m e l p =
-      every-of (λ j. eqb (getD c (at + j) 0) (getD d (from + j) 0)) m
+      every-of (same c at d from) m
       (λ j g. (let y : at + j ≡ s + (from + j) = omega arith in eq-eqb _ _ (ap (λ k. getD c k 0) y ∙ all-agree p (from + j) (omega arith))))
 
   -- the last part, or the only one
-  pub last-block : (at from m k : ℕ) → at ≡ s + from → from + m ≡ n → from ≤ k → Agree c d s k → (r : Bool) → r ≡ block c d at from m → r ≡ isPrefix head plan
+  pub last-block : (at from m k : ℕ) → at ≡ s + from → from + m ≡ n → from ≤ k → Agree c d s k → (r : Bool) → r ≡ every m (same c at d from) → r ≡ isPrefix head plan
   last-block at from m k e f l a r b =
       same-truth r (isPrefix head plan)
       (λ t. agree-all (λ j g. agree-more at from m k e l a (sym b ∙ t) j (omega arith)))
       (λ t. b ∙ block-back at from m e (omega arith) t)
 
-  pub block-differs : (at from m : ℕ) → at ≡ s + from → from + m ≤ n → (r : Bool) → r ≡ block c d at from m → r ≡ false → false ≡ isPrefix head plan
+  pub block-differs : (at from m : ℕ) → at ≡ s + from → from + m ≤ n → (r : Bool) → r ≡ every m (same c at d from) → r ≡ false → false ≡ isPrefix head plan
   block-differs at from m e l r b t =
       same-truth false (isPrefix head plan) (λ x. absurd (false≢true x)) (λ p. sym t ∙ b ∙ block-back at from m e l p)
 
@@ -324,20 +316,3 @@ pub too-long : (h π : List ℕ) → length π < length h → isPrefix h π ≡ 
 too-long [] π l = absurd (omega arith)
 too-long (a ∷ h) [] l = refl
 too-long (a ∷ h) (b ∷ π) l = ap (λ x. eqb a b && x) (too-long h π (omega arith)) ∙ and-false (eqb a b)
-
-pub length-put : (d b : List ℕ) (start n : ℕ) → length d ≡ 1024 → n ≤ 1024 → start + n ≤ length b → (d₁ : List ℕ) → d₁ ≡ paste d 0 (drop start b) n → length d₁ ≡ 1024
-length-put d b start n l h k d₁ e = ap length e ∙ length-paste d 0 (drop start b) n (omega arith) (rw (length-drop start b) (omega arith)) ∙ l
-
--- n bytes over the front, and zeros behind them
-pub filled : (d b : List ℕ) (start n : ℕ) → length d ≡ 1024 → n ≤ 1024 → start + n ≤ length b → (d₁ : List ℕ) → d₁ ≡ paste d 0 (drop start b) n
-    → take n d₁ ++ replicate (1024 - n) 0 ++ drop 1024 d₁ ≡ padded (part b start n)
-unfolding padded part
-filled d b start n l h k d₁ e =
-    let s = drop start b in
-    let hs : n ≤ length s = rw (length-drop start b) (omega arith) in
-    let lt : length (take n s) ≡ n = length-take-le n s hs in
-    let t : take n d₁ ≡ take n s = ap (take n) e ∙ take-at (take n s) (drop (0 + n) d) n lt in
-    let ld : length d₁ ≡ 1024 = length-put d b start n l h k d₁ e in
-    let m : length d₁ ≤ 1024 = omega arith in
-    let z : drop 1024 d₁ ≡ [] = drop-of-length-le d₁ m in
-    rw (t, z, lt) (append-nil (take n s ++ replicate (1024 - n) 0))

@@ -1,14 +1,14 @@
 // Plans, changed in place in their 1,024 bytes: the first len are the actions, and zeros stand after their end.
 ghost use mathlib.Core.Path.{_≡_};
 ghost use mathlib.Core.List.{_++_};
-ghost use Prim.Native.Nat.{_+_, _-_, _≤_, _<_};
-ghost use lib.Dec.{eqb};
-ghost use lib.ListN.{length, getD, take, drop, replicate};
+ghost use Prim.Native.Nat.{_+_, _-_, _≤_};
+ghost use lib.ListN.{length, take, drop, replicate};
 ghost use lib.Seq.{paste};
 ghost use Rattle.paper.specs.Next.{isPrefix};
 ghost use Rattle.meaning.specs.Card.{part};
 ghost use Rattle.meaning.specs.Configurations.{padded};
 ghost use Rattle.meaning.specs.Refusals.{every};
+ghost use Rattle.plans.specs.Plans.{Padded, shifted, same};
 
 // n bytes move down in place.
 fn down(s: &mut [u8; 1024], to: usize, from: usize, n: usize)
@@ -34,18 +34,6 @@ fn up(s: &mut [u8; 1024], to: usize, from: usize, n: usize)
     }
 }
 
-// n bytes of the card take the place of the first n.
-fn put(s: &mut [u8; 1024], card: &[u8], start: usize, n: usize)
-    requires { ⌜ (n ≤ 1024) × (length (now s) ≡ 1024) × (start + n ≤ length (now card)) ⌝ }
-    ensures { λ r. ⌜ now (s .exit) ≡ paste (now (s .entry)) 0 (drop start (now (card .entry))) n ⌝ }
-{
-    let mut i: usize = 0;
-    while i < n {
-        s[i] = card[start + i];
-        i += 1;
-    }
-}
-
 // Zeros from `from` to `to`.
 fn clear(s: &mut [u8; 1024], from: usize, to: usize)
     requires { ⌜ (from ≤ to) × (to ≤ 1024) × (length (now s) ≡ 1024) ⌝ }
@@ -60,8 +48,8 @@ fn clear(s: &mut [u8; 1024], from: usize, to: usize)
 
 // What stands after the first hlen actions moves to blen, and zeros stand after its end.
 fn shift(plan: &mut [u8; 1024], len: usize, hlen: usize, blen: usize)
-    requires { ⌜ (hlen ≤ len) × (len ≤ 1024) × (blen + (len - hlen) ≤ 1024) × (now plan ≡ padded (take len (now plan))) ⌝ }
-    ensures { λ r. ⌜ now (plan .exit) ≡ take blen (now (plan .entry)) ++ part (now (plan .entry)) hlen (len - hlen) ++ replicate (1024 - (blen + (len - hlen))) 0 ⌝ }
+    requires { ⌜ (hlen ≤ len) × (len ≤ 1024) × (blen + (len - hlen) ≤ 1024) × Padded (now plan) len ⌝ }
+    ensures { λ r. ⌜ now (plan .exit) ≡ shifted (now (plan .entry)) len hlen blen ⌝ }
 {
     let tail = len - hlen;
     if blen <= hlen {
@@ -74,7 +62,7 @@ fn shift(plan: &mut [u8; 1024], len: usize, hlen: usize, blen: usize)
 
 // The first k actions leave.
 pub fn drop_front(plan: &mut [u8; 1024], len: usize, k: usize)
-    requires { ⌜ (k ≤ len) × (len ≤ 1024) × (now plan ≡ padded (take len (now plan))) ⌝ }
+    requires { ⌜ (k ≤ len) × (len ≤ 1024) × Padded (now plan) len ⌝ }
     ensures { λ r. ⌜ now (plan .exit) ≡ padded (drop k (take len (now (plan .entry)))) ⌝ }
 {
     shift(plan, len, k, 0);
@@ -89,11 +77,11 @@ pub fn replace_front(
     bstart: usize,
     blen: usize,
 )
-    requires { ⌜ (hlen ≤ len) × (len ≤ 1024) × (blen + (len - hlen) ≤ 1024) × (bstart + blen ≤ length (now card)) × (now plan ≡ padded (take len (now plan))) ⌝ }
+    requires { ⌜ (hlen ≤ len) × (len ≤ 1024) × (blen + (len - hlen) ≤ 1024) × (bstart + blen ≤ length (now card)) × Padded (now plan) len ⌝ }
     ensures { λ r. ⌜ now (plan .exit) ≡ padded (part (now (card .entry)) bstart blen ++ drop hlen (take len (now (plan .entry)))) ⌝ }
 {
     shift(plan, len, hlen, blen);
-    put(plan, card, bstart, blen);
+    layout::bytes::copy(plan, 0, card, bstart, blen);
 }
 
 // n bytes from an offset on become the plan, whatever it was.
@@ -101,7 +89,7 @@ pub fn fill(plan: &mut [u8; 1024], bytes: &[u8], start: usize, n: usize)
     requires { ⌜ (n ≤ 1024) × (length (now plan) ≡ 1024) × (start + n ≤ length (now bytes)) ⌝ }
     ensures { λ r. ⌜ now (plan .exit) ≡ padded (part (now (bytes .entry)) start n) ⌝ }
 {
-    put(plan, bytes, start, n);
+    layout::bytes::copy(plan, 0, bytes, start, n);
     clear(plan, n, 1024);
 }
 
@@ -109,7 +97,7 @@ pub fn fill(plan: &mut [u8; 1024], bytes: &[u8], start: usize, n: usize)
 // without an exit.
 fn same_bytes(card: &[u8], at: usize, plan: &[u8; 1024], from: usize, n: usize) -> bool
     requires { ⌜ (at + n ≤ length (now card)) × (from + n ≤ 1024) × (length (now plan) ≡ 1024) ⌝ }
-    ensures { λ r. ⌜ r ≡ every n (λ j. eqb (getD (now (card .entry)) (at + j) 0) (getD (now (plan .entry)) (from + j) 0)) ⌝ }
+    ensures { λ r. ⌜ r ≡ every n (same (now (card .entry)) at (now (plan .entry)) from) ⌝ }
 {
     let mut differing: u8 = 0;
     let mut i: usize = 0;

@@ -2,11 +2,13 @@
 // a step.
 ghost use Prim.Native.Nat.{_≤_};
 use answers::refusal_number;
-use house::Ending;
-use house::Verdict;
-use layout::readers::number_at;
+use layout::bytes::number_at;
 use meaning::Answer;
 use meaning::Configuration;
+use moves::advance::next_move;
+use moves::step::Transition;
+use runs::Ending;
+use runs::Verdict;
 
 // A word, and the end of the line.
 fn end(word: &[u8]) {
@@ -67,28 +69,8 @@ fn plan_weight(card: &[u8], plan: &[u8; 1024], n: usize) -> u64 {
     total
 }
 
-// "In the first kind with an enabled transition, the lowest number is taken": of a kind that was taken, the number. Every list has
-// room for 768 codes.
-fn lowest(card: &[u8], c: Configuration, kind: u16) -> u16 {
-    let mut codes = [0u16; 768];
-    let listed = guide::list(card, c, &mut codes);
-    let n = listed.count as usize;
-    let mut i: usize = 0;
-    while i < 768 {
-        if n <= i {
-            return 0;
-        }
-        let code = codes[i];
-        if code / 256 == kind {
-            return code % 256;
-        }
-        i += 1;
-    }
-    0
-}
-
 // "Step lines: count, kind, number, plan length after, plan weight after."
-fn step_line(count: u16, kind: u16, number: u16, length: u16, weight: u64) {
+fn step_line(count: u16, kind: u8, number: usize, length: u16, weight: u64) {
     io::print_decimal(1, count as u64);
     match kind {
         0 => io::write_all(1, b" select"),
@@ -102,25 +84,32 @@ fn step_line(count: u16, kind: u16, number: u16, length: u16, weight: u64) {
     end(b"");
 }
 
-// The run with budget 1,000, a transition at a time, each the guide's own, and a line for it. Its kind is in the phase: "After any
-// transition, the guide's or a chosen one, the phase is the kind taken plus 1, modulo 3."
+// The run with budget 1,000, a move of the guide's own at a time, and a line for each.
 fn steps(card: &[u8], start: Configuration) {
-    let mut c = start;
+    let mut m = start.mind;
+    let mut plan = start.plan;
     let mut count: u16 = 0;
     while count < 1000 {
-        let ran = guide::run(card, c, 1);
-        let ending = ran.ending;
-        let Ending::Spent = ending else {
-            last_line(ending, count);
-            return;
-        };
-        let after = ran.configuration;
-        let kind = ((after.phase % 3 + 2) % 3) as u16;
-        let number = lowest(card, c, kind);
-        let weight = plan_weight(card, &after.plan, after.length as usize);
-        count += 1;
-        step_line(count, kind, number, after.length, weight);
-        c = after;
+        let next = next_move(card, m, &mut plan);
+        let step = next.step;
+        let transition = step.transition;
+        match transition {
+            Transition::Taken(kind, number) => {
+                let after = step.mind;
+                m = after;
+                count += 1;
+                let weight = plan_weight(card, &plan, after.length as usize);
+                step_line(count, kind, number, after.length, weight);
+            }
+            Transition::Nothing => {
+                last_line(Ending::Rest, count);
+                return;
+            }
+            Transition::Full => {
+                last_line(Ending::Full, count);
+                return;
+            }
+        }
     }
     last_line(Ending::Spent, count);
 }

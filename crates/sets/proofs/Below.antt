@@ -1,15 +1,14 @@
 -- The atoms below a number, as bytes and as members.
-use mathlib.Core.Path.{_≡_, refl, ap, _∙_}
-use Prim.Native.Nat.{ℕ, zero, suc, _-_, _*_, _≤_, _<_, min}
+use mathlib.Core.Path.{_≡_, refl, sym, ap, _∙_}
+use Prim.Native.Nat.{ℕ, zero, suc, _+_, _-_, _*_, _%_, _≤_, _<_, min}
 use native.Mathlib.Nat.{zero-add}
+use lib.Bits.{bitAnd, bitXor, and-mask, and-zero-r, xor-zero-r, xor-self}
+use Rattle.paper.specs.Atoms.{Atoms, _∖_}
+use Rattle.paper.proofs.Sets.{at-∖}
 use native.Mathlib.Omega.{arith}
-use lib.ListN.{length, getD}
-use Rattle.house.proofs.Numbers.{length-made, made-at}
+use lib.ListN.{getD}
+use Rattle.runs.proofs.Numbers.{made-at}
 use Rattle.sets.specs.Sets.{lowBits, below}
-
-pub length-below : (n : ℕ) → length (below n) ≡ 16
-unfolding below
-length-below n = length-made (λ i. lowBits (n - 8 * i)) 0 16
 
 pub at-below : (n i : ℕ) → i < 16 → getD (below n) i 0 ≡ lowBits (n - 8 * i)
 unfolding below
@@ -32,3 +31,18 @@ from-eight (suc (suc (suc (suc (suc (suc (suc (suc n)))))))) a b c d e f g h = l
 
 pub all-eight : (n : ℕ) → 8 ≤ n → 255 ≡ lowBits n
 all-eight n h = let e : min n 8 ≡ 8 = omega arith in rw e
+
+-- what a set has of the atoms at or above n: nothing in the bytes below n's own, and all of those behind it
+module _ (n : ℕ) (s : Atoms) (i : ℕ) (h : i < 16) where
+  pub none-below : getD s i 0 < 256 → 8 * i + 8 ≤ n → getD (s ∖ below n) i 0 ≡ 0
+  none-below b l =
+      let x = getD s i 0 in
+      let m : x % 256 ≡ x = omega arith in
+      let e : bitAnd x 255 ≡ x = and-mask x 8 ∙ m in
+      at-∖ s (below n) i ∙ ap (λ m. bitXor x (bitAnd x m)) (at-below n i h ∙ sym (all-eight (n - 8 * i) (omega arith))) ∙ ap (bitXor x) e ∙ xor-self x
+
+  pub all-behind : n ≤ 8 * i → getD (s ∖ below n) i 0 ≡ getD s i 0
+  all-behind l =
+      let x = getD s i 0 in
+      let z : n - 8 * i ≡ 0 = omega arith in
+      at-∖ s (below n) i ∙ ap (λ m. bitXor x (bitAnd x m)) (at-below n i h ∙ ap lowBits z) ∙ ap (bitXor x) (and-zero-r x) ∙ xor-zero-r x

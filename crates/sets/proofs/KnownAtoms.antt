@@ -15,11 +15,12 @@ use Rattle.paper.specs.Atoms.{Atoms, bit, _∈_, _∪_, _∖_}
 use Rattle.paper.specs.Theorems.{AreBytes}
 use Rattle.paper.proofs.Sets.{by-bits, at-∖, length-∪, length-∖, ∈-∪, ∈-∖}
 use Rattle.paper.proofs.Relation.{false≢true}
-use Rattle.house.specs.Order.{numbers}
+use Rattle.runs.specs.Order.{numbers}
 use Rattle.meaning.specs.Refusals.{all, every, setGood}
 use Rattle.meaning.proofs.Every.{same-truth, all-at, all-of, numbers-at, numbers-of, every-at}
 use Rattle.sets.specs.Sets.{isEmpty, lowBits, below}
-use Rattle.sets.proofs.Below.{at-below, all-eight}
+use Rattle.sets.proofs.Loops.{Found, found-below}
+use Rattle.sets.proofs.Below.{at-below, all-eight, none-below}
 
 -- ---- the bits of the lowest m
 
@@ -110,6 +111,12 @@ module _ (n : ℕ) (s : Atoms) (sixteen : length s ≡ 16) where
 
       back : all (λ k. not (k ∈ s)) (numbers n (8 * length s - n)) ≡ true → isEmpty (s ∖ below n) ≡ true
       back e = empties bytes (λ k l h. (let z : n + (k - n) ≡ k = omega arith in not-true (k ∈ s) (rw z at (numbers-at (λ k. not (k ∈ s)) n (8 * length s - n) (k - n) e (let q = sixteen in omega arith)))))
+
+  -- the bytes below n's own need not be asked
+  pub asked-from : AreBytes s → (i : ℕ) → i ≤ 16 → 8 * i ≤ n → Found (λ x. eqb x 0) (s ∖ below n) 0 true i
+  asked-from bytes i h l =
+      let long = length-∖ s (below n) in
+      found-below (λ x. eqb x 0) (s ∖ below n) 0 0 i (let q = sixteen in omega arith) (λ j k. eq-eqb _ 0 (none-below n s j (omega arith) (bytes j) (omega arith))) refl
 
 -- ---- a union has only known atoms exactly if each of its sets has
 

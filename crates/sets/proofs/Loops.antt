@@ -2,14 +2,14 @@
 use mathlib.Core.Path.{_≡_, refl, sym, ap, _∙_}
 use mathlib.Core.Bool.{Bool, true, _&&_, and-true, and-assoc}
 use mathlib.Core.List.{List, _++_, append-nil}
-use Prim.Native.Nat.{ℕ, suc, _+_, _-_, _≤_, _<_}
+use Prim.Native.Nat.{ℕ, zero, suc, _+_, _-_, _≤_, _<_}
 use native.Mathlib.Nat.{sub-zero}
 use native.Mathlib.Numerals.{add-one}
 use native.Mathlib.Omega.{arith}
 use borrow.Author.Count.{below-more}
 use lib.ListN.{length, getD, set, take, drop, drop-of-length-le}
 use lib.Seq.{take-suc, drop-cons, set-at, append-snoc, length-take-le, take-all, getD-set-same, getD-set-other}
-use Rattle.house.specs.Order.{numbers}
+use Rattle.runs.specs.Order.{numbers}
 use Rattle.meaning.specs.Refusals.{all, every}
 
 -- ---- an array filled from the front: after i turns, the first i elements of what it is to be, X, and what it was, d, behind
@@ -45,6 +45,13 @@ module _ {A : Type 0} (t : A → Bool) (xs : List A) (n : ℕ) where
   found-turn ok i z h e =
       let s : all t (drop i xs) ≡ t (getD xs i z) && all t (drop (i + 1) xs) = rw (add-one, drop-cons xs i z h) in
       and-assoc ok (t (getD xs i z)) (all t (drop (i + 1) xs)) ∙ ap (λ b. ok && b) (sym s) ∙ e
+
+  -- what is true of all elements below the i-th need not be asked
+  pub found-below : (z : A) (i : ℕ) → i ≤ length xs → ((j : ℕ) → j < i → t (getD xs j z) ≡ true) → all t xs ≡ all t (drop n xs) → Found true i
+  found-below z zero h low e = e
+  found-below z (suc i) h low e =
+      let f = found-turn true i z (omega arith) (found-below z i (omega arith) (λ j l. low j (omega arith)) e) in
+      rw (low i (omega arith), add-one i) at f
 
   pub found-all : (ok : Bool) (i : ℕ) → length xs ≤ i → Found ok i → ok ≡ all t (drop n xs)
   found-all ok i h e =

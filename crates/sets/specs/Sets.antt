@@ -4,7 +4,7 @@ use mathlib.Core.List.{map}
 use Prim.Native.Nat.{ℕ, _-_, _*_, _^_, min}
 use lib.Dec.{eqb}
 use Rattle.paper.specs.Atoms.{Atoms}
-use Rattle.house.specs.Order.{numbers}
+use Rattle.runs.specs.Order.{numbers}
 use Rattle.meaning.specs.Refusals.{all}
 
 -- no byte has a bit

@@ -7,12 +7,12 @@ use native.Mathlib.Nat.{sub-zero}
 use native.Mathlib.Numerals.{add-one}
 use native.Mathlib.Omega.{arith}
 use borrow.Author.Tests.{le-leb, lt-leb}
-use Rattle.house.proofs.Numbers.{made-next}
-use Rattle.house.specs.declared.Offender.{Offender}
-use Rattle.house.specs.declared.Verdict.{Verdict}
-use Rattle.house.specs.Order.{numbers}
+use Rattle.runs.proofs.Numbers.{made-next}
+use Rattle.runs.specs.declared.Offender.{Offender}
+use Rattle.runs.specs.declared.Verdict.{Verdict}
+use Rattle.runs.specs.Order.{numbers}
 use Rattle.paper.specs.Language.{Plan, Agent}
-use Rattle.house.specs.Weight.{weigh, light, lowers, firstOffender, verdict}
+use Rattle.runs.specs.Weight.{weigh, light, lowers, firstOffender, verdict}
 
 module _ {R : Type 0} (good : R → Bool) (name : ℕ → Offender) (f : ℕ → R) (n : ℕ) (otherwise : Verdict) where
   -- what is to be found, and what is left of the question from entry i on

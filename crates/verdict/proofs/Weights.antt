@@ -8,10 +8,10 @@ use native.Mathlib.Decide.{decLt}
 use native.Mathlib.Omega.{arith}
 use lib.ListN.{length, getD, take, drop, drop-of-length-le, List·getD-eq-default}
 use lib.Seq.{drop-cons, take-add, drop-drop}
-use Rattle.house.specs.Weight.{weigh}
-use Rattle.house.specs.Order.{numbers}
-use Rattle.house.proofs.Numbers.{length-made, made-at}
-use Rattle.house.proofs.Weight.{weigh-append}
+use Rattle.runs.specs.Weight.{weigh}
+use Rattle.runs.specs.Order.{numbers}
+use Rattle.runs.proofs.Numbers.{length-made, made-at}
+use Rattle.runs.proofs.Weight.{weigh-append}
 use Rattle.meaning.specs.declared.Layout.{Layout}
 use Rattle.meaning.specs.Card.{Bytes, part, layout, weightAt, weights, weight}
 use Rattle.card.specs.GoodCard.{GoodCard}
@@ -49,7 +49,7 @@ weigh-most w most (suc n) (a ∷ π) = let h = weigh-most w most n π in omega (
 weight-most : (l : Layout) (b : Bytes) → GoodCard l b → (a : ℕ) → weight b a ≤ 1024
 unfolding weight weights
 weight-most l b g a = elim (decLt a (layout b .actions)) [
-  | yes h ↦ rw (weight-known b a h) (g .weights a (subst (λ (x : Layout). a < x .actions) (sym (g .laid .says)) h) .most)
+  | yes h ↦ rw (weight-known b a h) (g .weights a (subst (λ (x : Layout). a < x .actions) (sym (g .layout .says)) h) .most)
   | no h ↦
       let past : length (map (weightAt b) (numbers 0 (layout b .actions))) ≤ a = rw (length-made (weightAt b) 0 (layout b .actions)) (omega arith) in
       rw (List·getD-eq-default (map (weightAt b) (numbers 0 (layout b .actions))) 1 past) (omega arith)

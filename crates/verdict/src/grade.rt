@@ -1,53 +1,52 @@
 // Grading: bounded, or open with the first offender.
 ghost use mathlib.Core.Path.{_≡_};
-ghost use Prim.Native.Nat.{_+_, _<_};
-ghost use lib.Dec.{ltb};
-ghost use Rattle.house.specs.declared.Offender.{Offender};
-ghost use Rattle.house.specs.declared.Verdict.{Verdict};
-ghost use Rattle.house.specs.Weight.{weigh, firstOffender, light, lowers, verdict};
-ghost use Rattle.meaning.specs.Card.{span, entryAt, weight, plan, agentFor, agent, initialPlan};
+ghost use Prim.Native.Nat.{_<_};
+ghost use lib.Dec.{leb, ltb};
+ghost use Rattle.runs.specs.Weight.{verdict};
+ghost use Rattle.meaning.specs.Card.{selectionAt, revisionAt, weight, agent, initialPlan};
 ghost use Rattle.meaning.specs.Calls.{grades};
 ghost use Rattle.card.specs.GoodCard.{GoodCard};
 ghost use Rattle.verdict.specs.Summed.{Summed};
+ghost use Rattle.verdict.specs.Verdicts.{planWeight, revisionsVerdict, selectionsVerdict};
 use crate::sums::plan_weight;
 use crate::sums::sums_of;
 use card::check::answer_of;
 use card::check::check;
 use card::configuration::empty_configuration;
-use house::Offender;
-use house::Verdict;
-use layout::header::read_span;
+use layout::entries::read_revision;
+use layout::entries::read_selection;
 use meaning::Answer;
 use meaning::Checked;
 use meaning::Graded;
 use meaning::Layout;
+use runs::Offender;
+use runs::Verdict;
 
 // Whether selection rule i's plan weighs at most 1,024.
 fn selection_light(card: &[u8], l: Layout, sums: &[u32; 513], i: usize) -> bool
     requires { ⌜ GoodCard l (now card) × Summed l (now card) (now sums) × (i < l .selections .count) ⌝ }
-    ensures { λ r. ⌜ r ≡ light (weight (now (card .entry))) (plan l (now (card .entry)) (span (now (card .entry)) (entryAt 8 (l .selections) i + 2))) ⌝ }
+    ensures { λ r. ⌜ r ≡ leb (planWeight l (now (card .entry)) (selectionAt l (now (card .entry)) i .plan)) 1024 ⌝ }
 {
-    let section = l.selections;
-    let at = section.offset + 8 * i;
-    plan_weight(card, l, sums, read_span(card, at + 2)) <= 1024
+    let e = read_selection(card, l, i);
+    plan_weight(card, l, sums, e.plan) <= 1024
 }
 
 // Whether revision rule i's body weighs less than its head.
 fn revision_lowers(card: &[u8], l: Layout, sums: &[u32; 513], i: usize) -> bool
     requires { ⌜ GoodCard l (now card) × Summed l (now card) (now sums) × (i < l .revisions .count) ⌝ }
-    ensures { λ r. ⌜ r ≡ ltb (weigh (weight (now (card .entry))) (plan l (now (card .entry)) (span (now (card .entry)) (entryAt 12 (l .revisions) i + 6)))) (weigh (weight (now (card .entry))) (plan l (now (card .entry)) (span (now (card .entry)) (entryAt 12 (l .revisions) i + 2)))) ⌝ }
+    ensures { λ r. ⌜ r ≡ ltb (planWeight l (now (card .entry)) (revisionAt l (now (card .entry)) i .body))
+        (planWeight l (now (card .entry)) (revisionAt l (now (card .entry)) i .head)) ⌝ }
 {
-    let section = l.revisions;
-    let at = section.offset + 12 * i;
-    let head = plan_weight(card, l, sums, read_span(card, at + 2));
-    let body = plan_weight(card, l, sums, read_span(card, at + 6));
+    let e = read_revision(card, l, i);
+    let head = plan_weight(card, l, sums, e.head);
+    let body = plan_weight(card, l, sums, e.body);
     body < head
 }
 
 // The first revision rule that does not lower the weight.
 fn from_revisions(card: &[u8], l: Layout, sums: &[u32; 513]) -> Verdict
     requires { ⌜ GoodCard l (now card) × Summed l (now card) (now sums) ⌝ }
-    ensures { λ r. ⌜ r ≡ firstOffender (lowers (weight (now (card .entry)))) Offender.Revision 0 (agentFor l (now (card .entry)) .PR) Verdict.Bounded ⌝ }
+    ensures { λ r. ⌜ r ≡ revisionsVerdict l (now (card .entry)) ⌝ }
 {
     let section = l.revisions;
     let n = section.count;
@@ -64,7 +63,7 @@ fn from_revisions(card: &[u8], l: Layout, sums: &[u32; 513]) -> Verdict
 // The first selection rule whose plan is too heavy; then the revision rules.
 fn from_selections(card: &[u8], l: Layout, sums: &[u32; 513]) -> Verdict
     requires { ⌜ GoodCard l (now card) × Summed l (now card) (now sums) ⌝ }
-    ensures { λ r. ⌜ r ≡ firstOffender (λ x. light (weight (now (card .entry))) (x .π)) Offender.Selection 0 (agentFor l (now (card .entry)) .PS) (firstOffender (lowers (weight (now (card .entry)))) Offender.Revision 0 (agentFor l (now (card .entry)) .PR) Verdict.Bounded) ⌝ }
+    ensures { λ r. ⌜ r ≡ selectionsVerdict l (now (card .entry)) ⌝ }
 {
     let section = l.selections;
     let n = section.count;

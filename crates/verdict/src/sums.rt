@@ -2,11 +2,12 @@
 ghost use mathlib.Core.Path.{_≡_};
 ghost use Prim.Native.Nat.{_+_, _*_, _≤_, _<_};
 ghost use lib.ListN.{length, replicate};
-ghost use Rattle.house.specs.Weight.{weigh};
-ghost use Rattle.meaning.specs.Card.{weight, part, plan};
+ghost use Rattle.runs.specs.Weight.{weigh};
+ghost use Rattle.meaning.specs.Card.{weight, part};
 ghost use Rattle.card.specs.GoodCard.{GoodCard, GoodSpan};
 ghost use Rattle.verdict.specs.Summed.{Summed};
-use layout::readers::number_at;
+ghost use Rattle.verdict.specs.Verdicts.{planWeight};
+use layout::entries::read_weight;
 use meaning::Layout;
 use meaning::Span;
 
@@ -15,7 +16,7 @@ fn weight_of(card: &[u8], l: Layout, action: u8) -> usize
     requires { ⌜ GoodCard l (now card) × (action < l .actions) ⌝ }
     ensures { λ r. ⌜ (r ≡ weight (now (card .entry)) action) × (r ≤ 1024) ⌝ }
 {
-    number_at(card, 64 + 2 * (action as usize))
+    read_weight(card, l, action as usize)
 }
 
 // The weight of n actions of the pool, from one of them on: at most 8,192 actions of at most 1,024 each.
@@ -72,7 +73,7 @@ fn first_weight(card: &[u8], l: Layout, sums: &[u32; 513], n: usize) -> usize
 // The weight of a plan in the pool: what the actions up to its end weigh, without those before its start.
 pub fn plan_weight(card: &[u8], l: Layout, sums: &[u32; 513], s: Span) -> usize
     requires { ⌜ GoodCard l (now card) × Summed l (now card) (now sums) × GoodSpan l 0 s ⌝ }
-    ensures { λ r. ⌜ r ≡ weigh (weight (now (card .entry))) (plan l (now (card .entry)) s) ⌝ }
+    ensures { λ r. ⌜ r ≡ planWeight l (now (card .entry)) s ⌝ }
 {
     let front = first_weight(card, l, sums, s.start);
     let whole = first_weight(card, l, sums, s.start + s.length);

@@ -1,4 +1,4 @@
-use Rattle.house.specs.declared.Offender.{Offender}
+use Rattle.runs.specs.declared.Offender.{Offender}
 use mathlib.Core.Path.{subst}
 use Rattle.meaning.specs.Numbers.{offenderRule}
 use Prim.Native.Nat.{_<_}

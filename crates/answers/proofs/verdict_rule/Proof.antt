@@ -1,7 +1,6 @@
-use Rattle.house.specs.declared.Verdict.{Verdict}
-use mathlib.Core.Path.{subst}
+use Rattle.runs.specs.declared.Verdict.{Verdict}
+use mathlib.Core.Path.{subst, sym, ap, _∙_}
 use Rattle.meaning.specs.Numbers.{verdictRule}
-use mathlib.Core.Path.{sym, ap, _∙_}
 use Prim.Native.Nat.{_<_}
 use borrow.Author.Needs.{needs}
 use Rattle.answers.proofs.verdict_rule.Statement.{statement}

@@ -1,9 +1,8 @@
 use Rattle.answers.proofs.Laws.{grades-narrow}
-use mathlib.Core.Path.{subst}
+use mathlib.Core.Path.{subst, sym, ap, _∙_}
 use Rattle.meaning.specs.Numbers.{verdictNumber, verdictOffender, verdictRule}
 use Rattle.meaning.specs.Refusals.{answerNumber}
 use Rattle.meaning.specs.declared.Graded.{Graded}
-use mathlib.Core.Path.{sym, ap, _∙_}
 use Prim.Native.Nat.{_<_}
 use borrow.Author.Needs.{needs}
 use denote.Ref.{now}

@@ -1,101 +1,50 @@
-use mathlib.Core.Path.{subst}
-use mathlib.Core.Logic.{⊎-elim}
-use Rattle.card.specs.Stair.{answerOf}
-use Rattle.guide.proofs.Laws.{card-first}
-use Rattle.meaning.proofs.Calls.{good-judged, refused-judged, runs-refused}
+use Rattle.board.specs.Header.{whole}
+use Rattle.layout.specs.PlaceParts.{lent}
 use Rattle.meaning.specs.Refusals.{answerNumber}
+use Rattle.meaning.specs.declared.Mind.{Mind}
 use Rattle.meaning.specs.Numbers.{endingNumber}
-use Rattle.meaning.specs.Calls.{runs}
-use Rattle.meaning.specs.declared.Configuration.{Configuration}
 use Rattle.meaning.specs.declared.Ran.{Ran}
-use Rattle.choices.specs.declared.mind.Mind.{Mind}
-use Rattle.board.specs.Parts.{whole}
-use Rattle.board.proofs.Parts.{in-parts}
-use mathlib.Core.Path.{sym, ap, _∙_}
-use Prim.Native.Nat.{_≤_}
-use native.Mathlib.Omega.{arith}
+use Rattle.meaning.specs.Calls.{runs}
+use mathlib.Core.Path.{ap, _∙_}
 use borrow.Author.Needs.{needs}
 use denote.Ref.{now}
-use lib.ListN.{length}
 use Rattle.board.proofs.rigtemple_run_parts.Statement.{statement}
 use Rattle.board.proofs.rigtemple_run_parts.Tie as tie
 
-check-requires : tie.Need-check-requires
-check-requires c κs = search needs
+mind-requires : tie.Need-mind-requires
+mind-requires c κs = search needs
 
-enum-known-v : tie.Need-enum-known-v
-enum-known-v c = search needs
+run-requires : tie.Need-run-requires
+run-requires c κs = search needs
 
-enum-told : tie.Need-enum-told
-enum-told c = search needs
+put-requires : tie.Need-put-requires
+put-requires c κs = search needs
 
 ending-number-requires : tie.Need-ending-number-requires
 ending-number-requires c κs = search needs
-
-answer-of-requires : tie.Need-answer-of-requires
-answer-of-requires c κs = search needs
 
 answer-number-requires : tie.Need-answer-number-requires
 answer-number-requires c κs = search needs
 
 returns : tie.Need-returns
 returns c =
-    let a = c .before .before .before .before .before .before .before .args in
-    let b = now (a .card) in
-    let told = c .before .before .before .enum-told .given .1 in
-    let e = refused-judged b _ (sym (c .before .before .before .before .before .check .ensures) ∙ told) in
-    let s = c .before .answer-of .ensures ∙ ap answerOf told in
-    let d = whole (now (a .beliefs)) (now (a .goals)) (now (a .plan)) (now (a .length)) (now (a .phase)) in
-    let r = runs-refused b d (a .budget) _ (card-first b _ e d) in (
-      c .answer-number .ensures ∙ ap answerNumber (s ∙ sym (ap (λ (x : Ran). x .answer) r)),
-      sym (ap (λ (x : Ran). x .configuration) r),
-      sym (ap (λ (x : Ran). x .count) r),
-      c .before .before .ending-number .ensures ∙ ap (λ (x : Ran). endingNumber (x .ending)) (sym r),
-    )
-
-mind-requires : tie.Need-mind-requires
-mind-requires c κs = search needs
-
-run-requires : tie.Need-run-requires
-run-requires c κs = good-judged (now (c .before .before .before .before .before .before .before .before .before .before .before .args .card)) _ (sym (c .before .before .before .before .before .before .before .before .before .check .ensures) ∙ c .before .before .before .before .before .before .before .v .given .1)
-
-put-requires : tie.Need-put-requires
-put-requires c κs = ⊎-elim (λ h. omega arith) (λ e. subst (λ (x : Mind). x .length ≤ 65535) (sym e) (c .before .before .before .before .before .before .before .mind .ensures .4)) (c .before .before .before .before .before .run .ensures .1)
-
-ending-number-requires-2 : tie.Need-ending-number-requires-2
-ending-number-requires-2 c κs = search needs
-
-answer-number-requires-2 : tie.Need-answer-number-requires-2
-answer-number-requires-2 c κs = search needs
-
-returns-2 : tie.Need-returns-2
-returns-2 c =
-    let a = c .before .before .before .before .before .before .before .before .before .before .before .before .before .before .before .before .before .before .before .before .args in
-    let m = c .before .before .before .before .before .before .before .before .before .before .mind in
+    let a = c .before .before .before .before .before .before .before .before .before .before .before .before .before .before .before .before .args in
     let t = c .before .before .before .before .before .before .before .before .run in
-    let p = t .last .1 .1 .1 .0 in
     let u = c .before .before .put .ensures in
-    let e = t .ensures .0 ∙ ap (λ (x : Configuration). runs (now (a .card)) x (a .budget)) (in-parts (m .result) _ _ (now (a .plan)) _ _ (m .ensures .0) (m .ensures .1) (m .ensures .2) (m .ensures .3)) in (
-      c .answer-number2 .ensures ∙ ap (λ (x : Ran). answerNumber (x .answer)) e,
-      sym (in-parts (t .result .mind) _ _ p _ _ (sym (u .0)) (sym (u .1)) (sym (u .2)) (sym (u .3))) ∙ ap (λ (x : Ran). x .configuration) e,
+    let e = t .ensures ∙ ap (λ (x : Mind). runs (now (a .card)) (lent x (now (a .plan))) (a .budget)) (c .before .before .before .before .before .before .before .before .before .before .mind .ensures) in (
+      c .answer-number .ensures ∙ ap (λ (x : Ran). answerNumber (x .answer)) e,
+      (λ i. whole (u .0 i) (u .1 i) (t .last .1 .1 .0) (u .2 i) (u .3 i)) ∙ ap (λ (x : Ran). x .configuration) e,
       ap (λ (x : Ran). x .count) e,
-      c .before .ending-number2 .ensures ∙ ap (λ (x : Ran). endingNumber (x .ending)) e,
+      c .before .ending-number .ensures ∙ ap (λ (x : Ran). endingNumber (x .ending)) e,
     )
 
 pub rigtemple-run-parts-spec : {M : Type 1} → statement M
 rigtemple-run-parts-spec =
     tie.close
     (tie.spec
-    check-requires
-    enum-known-v
-    enum-told
-    ending-number-requires
-    answer-of-requires
-    answer-number-requires
-    returns
     mind-requires
     run-requires
     put-requires
-    ending-number-requires-2
-    answer-number-requires-2
-    returns-2)
+    ending-number-requires
+    answer-number-requires
+    returns)

@@ -1,8 +1,7 @@
 use Rattle.answers.proofs.Laws.{grades-narrow}
-use mathlib.Core.Path.{subst}
+use mathlib.Core.Path.{subst, sym}
 use Rattle.meaning.specs.Numbers.{verdictRule}
 use Rattle.meaning.specs.declared.Graded.{Graded}
-use mathlib.Core.Path.{sym}
 use Prim.Native.Nat.{_<_}
 use borrow.Author.Needs.{needs}
 use denote.Ref.{now}

@@ -1,6 +1,5 @@
-use lib.ListN.{length-replicate}
-use lib.Seq.{take-all}
-use lib.Seq.{paste, paste-zero}
+use lib.ListN.{length-replicate, length, set, replicate}
+use lib.Seq.{take-all, paste, paste-zero}
 use Rattle.plans.proofs.Laws.{clear-more}
 use mathlib.Core.Path.{_≡_, ap, _∙_}
 use mathlib.Core.List.{List}
@@ -8,7 +7,6 @@ use Prim.Native.Nat.{ℕ, _+_, _-_, _≤_}
 use native.Mathlib.Omega.{arith}
 use borrow.Author.Needs.{needs}
 use denote.Ref.{now}
-use lib.ListN.{length, set, replicate}
 use Rattle.plans.proofs.clear.Statement.{statement}
 use Rattle.plans.proofs.clear.Tie as tie
 

@@ -1,4 +1,4 @@
-use Rattle.plans.proofs.Laws.{length-put, filled}
+use Rattle.plans.proofs.Laws.{filled}
 use mathlib.Core.Path.{_∙_}
 use native.Mathlib.Omega.{arith}
 use borrow.Author.Needs.{needs}
@@ -6,21 +6,17 @@ use denote.Ref.{now}
 use Rattle.plans.proofs.fill.Statement.{statement}
 use Rattle.plans.proofs.fill.Tie as tie
 
-put-requires : tie.Need-put-requires
-put-requires c κs = search needs
+copy-requires : tie.Need-copy-requires
+copy-requires c κs = search needs
 
 clear-requires : tie.Need-clear-requires
-clear-requires c κs =
-    let a = c .before .before .before .before .args in
-    let p = c .before .before .before .before .pre in
-    (p .0, omega arith, length-put (now (a .plan)) (now (a .bytes)) (a .start) (a .n) (p .1) (p .0) (p .2) (c .before .put .last .0) (c .before .put .ensures))
+clear-requires c κs = search needs
 
 returns : tie.Need-returns
 returns c =
     let a = c .before .before .before .before .before .args in
-    let p = c .before .before .before .before .before .pre in
-    c .clear .ensures
-    ∙ filled (now (a .plan)) (now (a .bytes)) (a .start) (a .n) (p .1) (p .0) (p .2) (c .before .before .put .last .0) (c .before .before .put .ensures)
+    let p = c .before .before .copy in
+    c .clear .ensures ∙ filled (now (a .plan)) (now (a .bytes)) (a .start) (a .n) (omega arith) (p .last .0) (p .ensures) (omega arith)
 
 pub fill-spec : {M : Type 1} → statement M
-fill-spec = tie.close (tie.spec put-requires clear-requires returns)
+fill-spec = tie.close (tie.spec copy-requires clear-requires returns)

@@ -1,5 +1,6 @@
 use Rattle.plans.proofs.Laws.{differing-more}
 use Rattle.sets.proofs.Loops.{Kept, kept-start, kept-turn, kept-all}
+use Rattle.plans.specs.Plans.{same}
 use lib.Dec.{eqb}
 use mathlib.Core.Bool.{Bool, _&&_}
 use Prim.Native.Nat.{ℕ, _+_, _-_, _≤_}
@@ -11,7 +12,7 @@ use Rattle.plans.proofs.same_bytes.Statement.{statement}
 use Rattle.plans.proofs.same_bytes.Tie as tie
 
 abbrev Inv-loop : tie.InvT-loop
-Inv-loop card at plan from n differing₀ i₀ differing i = (i ≤ n) × Kept (λ j. eqb (getD card (at + j) 0) (getD plan (from + j) 0)) n (eqb differing 0) i
+Inv-loop card at plan from n differing₀ i₀ differing i = (i ≤ n) × Kept (same card at plan from) n (eqb differing 0) i
 
 abbrev μ-loop : tie.MeasureT-loop
 μ-loop card at plan from n differing₀ i₀ differing i = n - i
@@ -19,7 +20,7 @@ abbrev μ-loop : tie.MeasureT-loop
 loop-holds : tie.Need-loop-holds Inv-loop μ-loop
 loop-holds c =
     let a = c .args in
-    (omega arith, kept-start (λ j. eqb (getD (now (a .card)) (a .at + j) 0) (getD (now (a .plan)) (a .from + j) 0)) (a .n))
+    (omega arith, kept-start (same (now (a .card)) (a .at) (now (a .plan)) (a .from)) (a .n))
 
 add-differing : tie.Need-add-differing Inv-loop μ-loop
 add-differing c = search needs
@@ -43,7 +44,7 @@ loop-again : tie.Need-loop-again Inv-loop μ-loop
 loop-again c =
     let a = c .before .before .before .before .args in
     let l = c .before .before .before .loop in
-    let t : ℕ → Bool = λ j. eqb (getD (now (a .card)) (a .at + j) 0) (getD (now (a .plan)) (a .from + j) 0) in
+    let t : ℕ → Bool = same (now (a .card)) (a .at) (now (a .plan)) (a .from) in
     let k : Kept t (a .n) (eqb (l .differing) 0 && t (l .i)) (l .i + 1) = kept-turn t (a .n) (eqb (l .differing) 0) (l .i) (omega arith) (l .inv .1) in
     (omega arith, rw (← differing-more (l .differing) (getD (now (a .card)) (a .at + l .i) 0) (getD (now (a .plan)) (a .from + l .i) 0)) at k)
 
@@ -51,7 +52,7 @@ returns : tie.Need-returns Inv-loop μ-loop
 returns c =
     let a = c .before .before .args in
     let l = c .before .loop in
-    kept-all (λ j. eqb (getD (now (a .card)) (a .at + j) 0) (getD (now (a .plan)) (a .from + j) 0)) (a .n) (eqb (l .differing) 0) (l .i) (omega arith) (l .inv .1)
+    kept-all (same (now (a .card)) (a .at) (now (a .plan)) (a .from)) (a .n) (eqb (l .differing) 0) (l .i) (omega arith) (l .inv .1)
 
 pub same-bytes-spec : {M : Type 1} → statement M
 same-bytes-spec =

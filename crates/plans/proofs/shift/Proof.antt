@@ -1,5 +1,4 @@
-use Rattle.plans.proofs.Laws.{length-zeroed, length-shift}
-use Rattle.plans.proofs.Laws.{shifted-up, shifted-down}
+use Rattle.plans.proofs.Laws.{length-zeroed, length-shift, shifted-up, shifted-down}
 use mathlib.Core.Path.{_∙_}
 use native.Mathlib.Omega.{arith}
 use borrow.Author.Needs.{needs}

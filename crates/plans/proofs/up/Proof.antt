@@ -1,6 +1,5 @@
 use native.Mathlib.Nat.{add-zero, sub-zero}
-use lib.Seq.{paste-zero}
-use lib.Seq.{paste}
+use lib.Seq.{paste-zero, paste}
 use Rattle.plans.proofs.Laws.{up-more}
 use mathlib.Core.Path.{_≡_, refl, ap, _∙_}
 use mathlib.Core.List.{List}

@@ -1,6 +1,6 @@
-use Rattle.layout.proofs.Laid.{laid}
-use Rattle.card.proofs.Stair.{row-done, stops, goes-on}
-use Rattle.card.specs.Stair.{rowsFrom}
+use Rattle.layout.proofs.GoodLayout.{good-layout}
+use Rattle.card.proofs.Rows.{row-done, stops, goes-on}
+use Rattle.card.specs.Rows.{rowsFrom}
 use Rattle.meaning.specs.Refusals.{cardTable, offsetsGood}
 use Rattle.meaning.specs.Card.{layout}
 use mathlib.Core.Bool.{not}
@@ -34,7 +34,7 @@ from-weights-requires : tie.Need-from-weights-requires
 from-weights-requires c κs =
     let a = c .before .before .before .before .before .args in
     let p = c .before .before .before .before .before .pre in
-    (laid (a .l) (now (a .card)) (p .0) (p .2) (sym (c .before .before .before .offsets-good .ensures) ∙ row-done _ _ (sym (c .before .before .row .ensures) ∙ c .enum-told .given .1)), p .1 .initial)
+    (good-layout (a .l) (now (a .card)) (p .0) (p .2) (sym (c .before .before .before .offsets-good .ensures) ∙ row-done _ _ (sym (c .before .before .row .ensures) ∙ c .enum-told .given .1)), p .1 .initial)
 
 returns-2 : tie.Need-returns-2
 unfolding rowsFrom cardTable

@@ -1,5 +1,5 @@
-use Rattle.card.proofs.Stair.{last-row, no-row}
-use Rattle.card.specs.Stair.{rowsFrom}
+use Rattle.card.proofs.Rows.{last-row, no-row}
+use Rattle.card.specs.Rows.{rowsFrom}
 use Rattle.meaning.specs.Refusals.{cardTable, setsGood}
 use Rattle.meaning.specs.Card.{layout}
 use mathlib.Core.Bool.{not}

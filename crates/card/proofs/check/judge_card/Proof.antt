@@ -1,5 +1,5 @@
-use Rattle.card.proofs.Stair.{stops, goes-on, row-done}
-use Rattle.card.specs.Stair.{rowsFrom}
+use Rattle.card.proofs.Rows.{stops, goes-on, row-done}
+use Rattle.card.specs.Rows.{rowsFrom}
 use Rattle.meaning.specs.Refusals.{cardTable, cardAnswer, cardLongEnough}
 use borrow.Author.Tests.{leb-true}
 use lib.Dec.{leb}

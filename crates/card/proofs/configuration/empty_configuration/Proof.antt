@@ -9,7 +9,7 @@ no-plan-requires c κs = search needs
 
 returns : tie.Need-returns
 unfolding empty configurationOf
-returns c = λ i. record { beliefs = replicate 16 0; goals = replicate 16 0; plan = c .no-plan .ensures i; length = 0; phase = 0 }
+returns c = λ i. record { mind = record { beliefs = replicate 16 0; goals = replicate 16 0; length = 0; phase = 0 }; plan = c .no-plan .ensures i }
 
 pub empty-configuration-spec : {M : Type 1} → statement M
 empty-configuration-spec = tie.close (tie.spec no-plan-requires returns)

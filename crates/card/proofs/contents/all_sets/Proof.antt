@@ -1,15 +1,18 @@
-use native.Mathlib.Nat.{sub-zero}
+use Rattle.card.proofs.Laws.{sets-long}
 use Rattle.sets.proofs.Loops.{all-turn}
 use Rattle.sets.proofs.KnownAtoms.{good-∪}
 use Rattle.meaning.proofs.Parts.{length-part}
-use Rattle.meaning.specs.Refusals.{all, every, setGood, setsGood}
-use Rattle.meaning.specs.Card.{Bytes, part}
-use Rattle.house.specs.Order.{numbers}
+use Rattle.meaning.specs.Refusals.{all, every, setGood, bothGood, setsGood}
+use Rattle.meaning.specs.declared.Layout.{Layout}
+use Rattle.meaning.specs.declared.SpecificationEntry.{SpecificationEntry}
+use Rattle.meaning.specs.Card.{Bytes, specificationAt, initialBeliefs, initialGoals}
+use Rattle.runs.specs.Order.{numbers}
 use Rattle.paper.specs.Atoms.{Atoms, _∪_}
 use Rattle.paper.proofs.Sets.{length-∪}
-use mathlib.Core.Bool.{Bool, _&&_, and-true, and-assoc}
+use native.Mathlib.Nat.{sub-zero}
+use mathlib.Core.Bool.{Bool, _&&_, and-true}
 use mathlib.Core.Path.{_≡_, sym, ap, ap₂, _∙_}
-use Prim.Native.Nat.{ℕ, _+_, _-_, _*_, _≤_}
+use Prim.Native.Nat.{ℕ, _+_, _-_, _≤_}
 use native.Mathlib.Omega.{arith}
 use borrow.Author.Needs.{needs}
 use denote.Ref.{now}
@@ -18,24 +21,24 @@ use Rattle.card.proofs.contents.all_sets.Statement.{statement}
 use Rattle.card.proofs.contents.all_sets.Tie as tie
 
 -- row 9 of specification i's sets, of k atoms
-abbrev entry : Bytes → ℕ → ℕ → ℕ → Bool
-entry b from k i = setGood k (part b (from + 36 * i + 4) 16) && setGood k (part b (from + 36 * i + 20) 16)
+abbrev entry : Layout → Bytes → ℕ → ℕ → Bool
+entry l b k i = bothGood k (specificationAt l b i .add) (specificationAt l b i .del)
 
 -- what was found of the first i, and what is left to ask
-abbrev Asked : Bytes → ℕ → ℕ → Atoms → ℕ → Type 0
-Asked b from n s i = (k : ℕ) → (setGood k s && all (entry b from k) (numbers i (n - i))) ≡ (setGood k (part b 32 16) && (setGood k (part b 48 16) && every n (entry b from k)))
+abbrev Asked : Layout → Bytes → ℕ → Atoms → ℕ → Type 0
+Asked l b n s i = (k : ℕ) → (setGood k s && all (entry l b k) (numbers i (n - i))) ≡ (bothGood k (initialBeliefs b) (initialGoals b) && every n (entry l b k))
 
 abbrev Inv-loop : tie.InvT-loop
-Inv-loop card n from all₀ i₀ all i = (i ≤ n) × (length all ≡ 16) × Asked card from n all i
+Inv-loop card l n all₀ i₀ all i = (i ≤ n) × (length all ≡ 16) × Asked l card n all i
 
 abbrev μ-loop : tie.MeasureT-loop
-μ-loop card n from all₀ i₀ all i = n - i
+μ-loop card l n all₀ i₀ all i = n - i
 
-set-at-requires : tie.Need-set-at-requires Inv-loop μ-loop
-set-at-requires c κs = search needs
+initial-beliefs-requires : tie.Need-initial-beliefs-requires Inv-loop μ-loop
+initial-beliefs-requires c κs = search needs
 
-set-at-requires-2 : tie.Need-set-at-requires-2 Inv-loop μ-loop
-set-at-requires-2 c κs = search needs
+initial-goals-requires : tie.Need-initial-goals-requires Inv-loop μ-loop
+initial-goals-requires c κs = search needs
 
 union-requires : tie.Need-union-requires Inv-loop μ-loop
 union-requires c κs = search needs
@@ -45,37 +48,21 @@ loop-holds c =
     let a = c .before .before .before .before .before .args in
     let p = c .before .before .before .before .before .pre in
     let b = now (a .card) in
-    let X = part b 32 16 in
-    let Y = part b 48 16 in
+    let X = initialBeliefs b in
+    let Y = initialGoals b in
     let lx : length X ≡ 16 = length-part b 32 16 (omega arith) in
     let ly : length Y ≡ 16 = length-part b 48 16 (omega arith) in
-    let e : c .union .result ≡ X ∪ Y = c .union .ensures ∙ ap₂ _∪_ (c .before .before .set-at .ensures) (c .before .set-at2 .ensures) in
-    let f = entry b (a .l .specifications .offset) in
+    let e : c .union .result ≡ X ∪ Y = c .union .ensures ∙ ap₂ _∪_ (c .before .before .initial-beliefs .ensures) (c .before .initial-goals .ensures) in
+    let f = entry (a .l) b in
     let n = a .l .specifications .count in (
       omega arith,
       ap length e ∙ length-∪ X Y (lx ∙ sym ly) ∙ lx,
       λ k. ap (λ s. setGood k s && all (f k) (numbers 0 (n - 0))) e
-          ∙ ap₂ (λ x y. x && all (f k) (numbers 0 y)) (good-∪ k X Y (lx ∙ sym ly)) (sub-zero n)
-          ∙ and-assoc (setGood k X) (setGood k Y) (every n (f k)),
+          ∙ ap₂ (λ x y. x && all (f k) (numbers 0 y)) (good-∪ k X Y (lx ∙ sym ly)) (sub-zero n),
     )
 
-mul-at : tie.Need-mul-at Inv-loop μ-loop
-mul-at c = search needs
-
-add-at : tie.Need-add-at Inv-loop μ-loop
-add-at c = search needs
-
-add-set-at : tie.Need-add-set-at Inv-loop μ-loop
-add-set-at c = search needs
-
-set-at-requires-3 : tie.Need-set-at-requires-3 Inv-loop μ-loop
-set-at-requires-3 c κs = search needs
-
-add-set-at-2 : tie.Need-add-set-at-2 Inv-loop μ-loop
-add-set-at-2 c = search needs
-
-set-at-requires-4 : tie.Need-set-at-requires-4 Inv-loop μ-loop
-set-at-requires-4 c κs = search needs
+read-specification-requires : tie.Need-read-specification-requires Inv-loop μ-loop
+read-specification-requires c κs = search needs
 
 union-requires-2 : tie.Need-union-requires-2 Inv-loop μ-loop
 union-requires-2 c κs = search needs
@@ -91,20 +78,20 @@ loop-less c = search needs
 
 loop-again : tie.Need-loop-again Inv-loop μ-loop
 loop-again c =
-    let a = c .before .before .before .before .before .before .before .before .before .before .before .args in
-    let l = c .before .before .before .before .before .loop in
+    let a = c .before .before .before .before .before .before .before .before .before .before .before .before .args in
+    let l = c .before .before .before .before .before .before .loop in
     let b = now (a .card) in
-    let from = a .l .specifications .offset in
     let n = a .l .specifications .count in
-    let X = part b (from + 36 * l .i + 4) 16 in
-    let Y = part b (from + 36 * l .i + 20) 16 in
-    let lx : length X ≡ 16 = length-part b (from + 36 * l .i + 4) 16 (omega arith) in
-    let ly : length Y ≡ 16 = length-part b (from + 36 * l .i + 20) 16 (omega arith) in
+    let x : SpecificationEntry = specificationAt (a .l) b (l .i) in
+    let X = x .add in
+    let Y = x .del in
+    let told = c .before .before .before .before .read-specification .ensures in
+    let (lx, ly) = sets-long (a .l) b (c .before .before .before .before .before .before .before .before .before .before .before .before .pre) (l .i) (omega arith) in
     let lxy : length (X ∪ Y) ≡ 16 = length-∪ X Y (lx ∙ sym ly) ∙ lx in
     let la : length (l .all) ≡ 16 = l .inv .1 in
     let e : c .union3 .result ≡ l .all ∪ (X ∪ Y) =
-    c .union3 .ensures ∙ ap (λ z. l .all ∪ z) (c .before .union2 .ensures ∙ ap₂ _∪_ (c .before .before .before .set-at3 .ensures) (c .before .before .set-at4 .ensures)) in
-    let f = entry b from in (
+    c .union3 .ensures ∙ ap (λ z. l .all ∪ z) (c .before .union2 .ensures ∙ ap (λ (s : SpecificationEntry). s .add ∪ s .del) told) in
+    let f = entry (a .l) b in (
       omega arith,
       ap length e ∙ length-∪ (l .all) (X ∪ Y) (la ∙ sym lxy) ∙ la,
       λ k. ap (λ s. setGood k s && all (f k) (numbers (l .i + 1) (n - (l .i + 1)))) e
@@ -121,7 +108,7 @@ returns c =
     let b = now (a .card) in
     let n = a .l .specifications .count in
     let k = a .l .atoms in
-    let f = entry b (a .l .specifications .offset) in
+    let f = entry (a .l) b in
     let z : n - l .i ≡ 0 = omega arith in
     sym (and-true (setGood k (l .all)))
     ∙ ap (λ m. setGood k (l .all) && all (f k) (numbers (l .i) m)) (sym z)
@@ -133,16 +120,11 @@ all-sets-spec =
     (tie.spec
     Inv-loop
     μ-loop
-    set-at-requires
-    set-at-requires-2
+    initial-beliefs-requires
+    initial-goals-requires
     union-requires
     loop-holds
-    mul-at
-    add-at
-    add-set-at
-    set-at-requires-3
-    add-set-at-2
-    set-at-requires-4
+    read-specification-requires
     union-requires-2
     union-requires-3
     add-i

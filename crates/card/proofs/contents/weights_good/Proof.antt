@@ -1,7 +1,7 @@
-use mathlib.Core.Bool.{Bool}
 use Rattle.sets.proofs.Loops.{Kept, kept-start, kept-turn, kept-all}
 use Rattle.meaning.specs.Refusals.{within, weightsGood}
 use Rattle.meaning.specs.Card.{weightAt}
+use mathlib.Core.Bool.{Bool}
 use mathlib.Core.Path.{_≡_, ap, _∙_}
 use Prim.Native.Nat.{ℕ, _-_, _≤_}
 use native.Mathlib.Omega.{arith}
@@ -11,22 +11,16 @@ use Rattle.card.proofs.contents.weights_good.Statement.{statement}
 use Rattle.card.proofs.contents.weights_good.Tie as tie
 
 abbrev Inv-loop : tie.InvT-loop
-Inv-loop card n good₀ a₀ good a = (a ≤ n) × Kept (λ a. within 1 1024 (weightAt card a)) n good a
+Inv-loop card l n good₀ a₀ good a = (a ≤ n) × Kept (λ a. within 1 1024 (weightAt card a)) n good a
 
 abbrev μ-loop : tie.MeasureT-loop
-μ-loop card n good₀ a₀ good a = n - a
+μ-loop card l n good₀ a₀ good a = n - a
 
 loop-holds : tie.Need-loop-holds Inv-loop μ-loop
 loop-holds c = (omega arith, kept-start _ _)
 
-mul-number-at : tie.Need-mul-number-at Inv-loop μ-loop
-mul-number-at c = search needs
-
-add-number-at : tie.Need-add-number-at Inv-loop μ-loop
-add-number-at c = search needs
-
-number-at-requires : tie.Need-number-at-requires Inv-loop μ-loop
-number-at-requires c κs = search needs
+read-weight-requires : tie.Need-read-weight-requires Inv-loop μ-loop
+read-weight-requires c κs = search needs
 
 in-range-requires : tie.Need-in-range-requires Inv-loop μ-loop
 in-range-requires c κs = search needs
@@ -41,9 +35,8 @@ loop-again : tie.Need-loop-again Inv-loop μ-loop
 loop-again c =
     let a = c .before .before .before .before .before .args in
     let l = c .before .before .before .loop in
-    let b = now (a .card) in
-    let t : ℕ → Bool = λ i. within 1 1024 (weightAt b i) in
-    let e : c .in-range .result ≡ t (l .a) = c .in-range .ensures ∙ ap (within 1 1024) (c .before .number-at .ensures .0) in
+    let t : ℕ → Bool = λ i. within 1 1024 (weightAt (now (a .card)) i) in
+    let e : c .in-range .result ≡ t (l .a) = c .in-range .ensures ∙ ap (within 1 1024) (c .before .read-weight .ensures .0) in
     (omega arith, rw e (kept-turn t (a .l .actions) (l .good) (l .a) (omega arith) (l .inv .1)))
 
 returns : tie.Need-returns Inv-loop μ-loop
@@ -51,8 +44,7 @@ unfolding weightsGood
 returns c =
     let a = c .before .before .before .args in
     let l = c .before .loop in
-    let b = now (a .card) in
-    let t : ℕ → Bool = λ i. within 1 1024 (weightAt b i) in
+    let t : ℕ → Bool = λ i. within 1 1024 (weightAt (now (a .card)) i) in
     kept-all t (a .l .actions) (l .good) (l .a) (omega arith) (l .inv .1)
 
 pub weights-good-spec : {M : Type 1} → statement M
@@ -62,9 +54,7 @@ weights-good-spec =
     Inv-loop
     μ-loop
     loop-holds
-    mul-number-at
-    add-number-at
-    number-at-requires
+    read-weight-requires
     in-range-requires
     add-a
     loop-less

@@ -3,26 +3,50 @@ use mathlib.Core.Logic.{⊎-elim}
 use mathlib.Core.Path.{_≡_}
 use Prim.Native.Nat.{suc, _-_}
 use native.Mathlib.Omega.{arith}
+use borrow.Author.Needs.{needs}
 use Rattle.card.proofs.nodes.kind_good.Statement.{statement}
 use Rattle.card.proofs.nodes.kind_good.Tie as tie
 
+cast-result : tie.Need-cast-result
+cast-result c = search needs
+
+cast-result-2 : tie.Need-cast-result-2
+cast-result-2 c = search needs
+
+cast-result-3 : tie.Need-cast-result-3
+cast-result-3 c = search needs
+
+cast-result-4 : tie.Need-cast-result-4
+cast-result-4 c = search needs
+
 returns : tie.Need-returns
-returns c = rw (c .match .keys1)
+returns c = rw (c .before .before .match .keys1)
 
 returns-2 : tie.Need-returns-2
-returns-2 c = rw (c .match .keys2)
+returns-2 c = rw (c .before .before .match .keys2)
 
 returns-3 : tie.Need-returns-3
-returns-3 c = ⊎-elim (λ e. rw e) (λ e. rw e) (either-of 1 (c .before .before .args .kind) (omega arith) (omega arith))
+returns-3 c = ⊎-elim (λ e. rw e) (λ e. rw e) (either-of 1 (c .before .before .before .before .args .x .kind) (omega arith) (omega arith))
 
 returns-4 : tie.Need-returns-4
-returns-4 c = ⊎-elim (λ e. rw e) (λ e. rw e) (either-of 4 (c .before .before .before .args .kind) (omega arith) (omega arith))
+returns-4 c = ⊎-elim (λ e. rw e) (λ e. rw e) (either-of 4 (c .before .before .before .before .before .args .x .kind) (omega arith) (omega arith))
 
 returns-5 : tie.Need-returns-5
 returns-5 c =
-    let k = c .before .before .before .args .kind in
+    let k = c .before .before .before .args .x .kind in
     let e : k ≡ suc (suc (suc (suc (suc (suc (k - 6)))))) = omega arith in
     rw e
 
 pub kind-good-spec : {M : Type 1} → statement M
-kind-good-spec = tie.close (tie.spec returns returns-2 returns-3 returns-4 returns-5)
+kind-good-spec =
+    tie.close
+    (tie.spec
+    cast-result
+    cast-result-2
+    cast-result-3
+    cast-result-4
+    returns
+    returns-2
+    returns-3
+    returns-4
+    returns-5)

@@ -9,7 +9,7 @@ add-result : tie.Need-add-result
 add-result c = search needs
 
 returns : tie.Need-returns
-returns c = rw (c .before .in-range .ensures)
+returns c = rw (c .before .before .in-range .ensures)
 
 pub span-good-spec : {M : Type 1} → statement M
 span-good-spec = tie.close (tie.spec in-range-requires add-result returns)

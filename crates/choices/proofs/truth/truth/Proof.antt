@@ -11,17 +11,32 @@ member-requires c κs = search needs
 member-requires-2 : tie.Need-member-requires-2
 member-requires-2 c κs = search needs
 
+cast-result : tie.Need-cast-result
+cast-result c = search needs
+
 element-copy-out-result : tie.Need-element-copy-out-result
 element-copy-out-result c = search needs
+
+cast-result-2 : tie.Need-cast-result-2
+cast-result-2 c = search needs
 
 element-copy-out-result-2 : tie.Need-element-copy-out-result-2
 element-copy-out-result-2 c = search needs
 
+cast-result-3 : tie.Need-cast-result-3
+cast-result-3 c = search needs
+
 element-copy-out-result-3 : tie.Need-element-copy-out-result-3
 element-copy-out-result-3 c = search needs
 
+cast-result-4 : tie.Need-cast-result-4
+cast-result-4 c = search needs
+
 element-copy-out-result-4 : tie.Need-element-copy-out-result-4
 element-copy-out-result-4 c = search needs
+
+cast-result-5 : tie.Need-cast-result-5
+cast-result-5 c = search needs
 
 element-copy-out-result-5 : tie.Need-element-copy-out-result-5
 element-copy-out-result-5 c = search needs
@@ -43,7 +58,7 @@ returns-5 c = rw (c .before .before .match .keys5)
 
 returns-6 : tie.Need-returns-6
 returns-6 c =
-    let k = c .before .before .before .args .k in
+    let k = c .before .before .before .before .before .args .x .kind in
     let e : k ≡ suc (suc (suc (suc (suc (k - 5))))) = omega arith in
     rw e
 
@@ -53,10 +68,15 @@ truth-spec =
     (tie.spec
     member-requires
     member-requires-2
+    cast-result
     element-copy-out-result
+    cast-result-2
     element-copy-out-result-2
+    cast-result-3
     element-copy-out-result-3
+    cast-result-4
     element-copy-out-result-4
+    cast-result-5
     element-copy-out-result-5
     returns
     returns-2

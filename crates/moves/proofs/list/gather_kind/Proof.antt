@@ -1,7 +1,10 @@
 use mathlib.Core.Logic.{⊎-elim}
-use Rattle.moves.proofs.Gathering.{Gathering, gathering-none, gathering-yes, gathering-no, gathered, code-at, at-most-256}
-use Rattle.choices.specs.Choosing.{choiceAt, countOf}
-use Rattle.choices.specs.Minds.{mentalOf}
+use Rattle.moves.proofs.Gathering.{Gathering, gathering-none, gathering-yes, gathering-no, gathered, code-at}
+use Rattle.layout.proofs.GoodLayout.{at-most-256}
+use Rattle.choices.specs.Asking.{choiceAt}
+use Rattle.layout.specs.Entries.{countOf}
+use Rattle.layout.specs.PlaceParts.{lent}
+use Rattle.meaning.specs.Configurations.{stateOf}
 use Rattle.meaning.specs.Card.{agentFor}
 use Rattle.paper.specs.Next.{enabled}
 use mathlib.Core.Path.{sym, _∙_}
@@ -13,7 +16,7 @@ use Rattle.moves.proofs.list.gather_kind.Statement.{statement}
 use Rattle.moves.proofs.list.gather_kind.Tie as tie
 
 abbrev Inv-loop : tie.InvT-loop
-Inv-loop card l m plan marks kind codes₀ at n j₀ i₀ codes j i = (i ≤ countOf l kind) × Gathering (enabled (agentFor l card) (mentalOf m plan)) (choiceAt kind) at codes₀ i j codes
+Inv-loop card l m plan marks kind codes₀ at n j₀ i₀ codes j i = (i ≤ countOf l kind) × Gathering (enabled (agentFor l card) (stateOf (lent m plan) .mental)) (choiceAt kind) at codes₀ i j codes
 
 abbrev μ-loop : tie.MeasureT-loop
 μ-loop card l m plan marks kind codes₀ at n j₀ i₀ codes j i = countOf l kind - i
@@ -22,10 +25,10 @@ count-of-requires : tie.Need-count-of-requires Inv-loop μ-loop
 count-of-requires c κs = search needs
 
 loop-holds : tie.Need-loop-holds Inv-loop μ-loop
-loop-holds c = (omega arith, gathering-none _ _ _ _ (c .before .before .pre .4))
+loop-holds c = (omega arith, gathering-none _ _ _ _ (c .before .before .pre .2))
 
-can-requires : tie.Need-can-requires Inv-loop μ-loop
-can-requires c κs = search needs
+is-open-requires : tie.Need-is-open-requires Inv-loop μ-loop
+is-open-requires c κs = search needs
 
 mul-codes : tie.Need-mul-codes Inv-loop μ-loop
 mul-codes c = search needs
@@ -34,21 +37,21 @@ cast-codes : tie.Need-cast-codes Inv-loop μ-loop
 cast-codes c =
     let a = c .before .before .before .before .before .before .args in
     let p = c .before .before .before .before .before .before .pre in
-    let h = at-most-256 (a .l) (now (a .card)) (p .0 .laid) (a .kind) in
+    let h = at-most-256 (a .l) (now (a .card)) (p .0 .ready .card .layout) (a .kind) in
     omega arith
 
 add-codes : tie.Need-add-codes Inv-loop μ-loop
 add-codes c =
     let a = c .before .before .before .before .before .before .args in
     let p = c .before .before .before .before .before .before .pre in
-    let h = at-most-256 (a .l) (now (a .card)) (p .0 .laid) (a .kind) in
+    let h = at-most-256 (a .l) (now (a .card)) (p .0 .ready .card .layout) (a .kind) in
     omega arith
 
 mul-codes-2 : tie.Need-mul-codes-2 Inv-loop μ-loop
 mul-codes-2 c =
     let a = c .before .before .before .before .before .before .args in
     let p = c .before .before .before .before .before .before .pre in
-    let h = at-most-256 (a .l) (now (a .card)) (p .0 .laid) (a .kind) in
+    let h = at-most-256 (a .l) (now (a .card)) (p .0 .ready .card .layout) (a .kind) in
     let l = c .before .before .before .loop .inv .1 .low in
     omega arith
 
@@ -56,7 +59,7 @@ element-write-codes : tie.Need-element-write-codes Inv-loop μ-loop
 element-write-codes c =
     let a = c .before .before .before .before .before .before .args in
     let p = c .before .before .before .before .before .before .pre in
-    let h = at-most-256 (a .l) (now (a .card)) (p .0 .laid) (a .kind) in
+    let h = at-most-256 (a .l) (now (a .card)) (p .0 .ready .card .layout) (a .kind) in
     let g = c .before .before .before .loop .inv .1 in
     let l = g .low in
     let e = g .long in
@@ -66,7 +69,7 @@ add-j : tie.Need-add-j Inv-loop μ-loop
 add-j c =
     let a = c .before .before .before .before .before .before .args in
     let p = c .before .before .before .before .before .before .pre in
-    let h = at-most-256 (a .l) (now (a .card)) (p .0 .laid) (a .kind) in
+    let h = at-most-256 (a .l) (now (a .card)) (p .0 .ready .card .layout) (a .kind) in
     let l = c .before .before .before .loop .inv .1 .low in
     omega arith
 
@@ -74,7 +77,7 @@ add-i : tie.Need-add-i Inv-loop μ-loop
 add-i c =
     let a = c .before .before .before .before .before .before .args in
     let p = c .before .before .before .before .before .before .pre in
-    let h = at-most-256 (a .l) (now (a .card)) (p .0 .laid) (a .kind) in
+    let h = at-most-256 (a .l) (now (a .card)) (p .0 .ready .card .layout) (a .kind) in
     omega arith
 
 loop-less : tie.Need-loop-less Inv-loop μ-loop
@@ -84,13 +87,13 @@ loop-again : tie.Need-loop-again Inv-loop μ-loop
 loop-again c =
     let a = c .before .before .before .before .before .before .args in
     let p = c .before .before .before .before .before .before .pre in
-    let h = at-most-256 (a .l) (now (a .card)) (p .0 .laid) (a .kind) in
+    let h = at-most-256 (a .l) (now (a .card)) (p .0 .ready .card .layout) (a .kind) in
     let l = c .before .before .before .loop in
     let g = l .inv .1 in
     let w = g .low in
-    let e = c .before .can .ensures in
+    let e = c .before .is-open .ensures in
     ⊎-elim
-    (λ w. (omega arith, rw (w .1, w .2) (gathering-yes _ _ _ _ _ _ _ g (sym e ∙ w .0 .taken) _ (code-at (a .kind) (l .i) (p .3)) (omega arith))))
+    (λ w. (omega arith, rw (w .1, w .2) (gathering-yes _ _ _ _ _ _ _ g (sym e ∙ w .0 .taken) _ (code-at (a .kind) (l .i) (p .1)) (omega arith))))
     (λ w. (omega arith, rw (w .1, w .2) (gathering-no _ _ _ _ _ _ _ g (sym e ∙ w .0 .left))))
     (c .if1 .came)
 
@@ -98,8 +101,9 @@ returns : tie.Need-returns Inv-loop μ-loop
 returns c =
     let a = c .before .before .before .before .args in
     let p = c .before .before .before .before .pre in
-    let h = at-most-256 (a .l) (now (a .card)) (p .0 .laid) (a .kind) in
-    gathered _ _ _ _ _ _ _ (c .before .loop .inv .1) _ (omega arith) h
+    let h = at-most-256 (a .l) (now (a .card)) (p .0 .ready .card .layout) (a .kind) in
+    let g = gathered _ _ _ _ _ _ _ (c .before .loop .inv .1) _ (omega arith) h in
+    (g .0, (g .1, g .2))
 
 pub gather-kind-spec : {M : Type 1} → statement M
 gather-kind-spec =
@@ -109,7 +113,7 @@ gather-kind-spec =
     μ-loop
     count-of-requires
     loop-holds
-    can-requires
+    is-open-requires
     mul-codes
     cast-codes
     add-codes

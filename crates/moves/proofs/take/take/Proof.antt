@@ -1,106 +1,118 @@
-use mathlib.Core.Logic.{inl, inr}
 use Prim.Native.Nat.{_/_, _%_}
-use Rattle.card.proofs.GoodCard.{good-card}
-use Rattle.meaning.specs.declared.Refusal.{Refusal}
+use Rattle.runs.specs.Step.{step}
+use Rattle.choices.specs.Asking.{choiceAt}
 use Rattle.meaning.specs.declared.Layout.{Layout}
-use Rattle.meaning.specs.Card.{agent, agentFor}
 use Rattle.meaning.specs.Configurations.{stateOf}
+use Rattle.meaning.specs.Card.{agentFor, agent}
 use Rattle.meaning.specs.Calls.{reply}
-use Rattle.meaning.proofs.Calls.{takes-refused}
-use Rattle.meaning.proofs.Configurations.{good}
-use Rattle.choices.specs.Minds.{configurationIn}
-use Rattle.choices.specs.Choosing.{choiceAt}
-use Rattle.moves.specs.Reached.{moveBy, taking}
-use Rattle.moves.proofs.Taking.{judged-bad, judged-good, held-configuration, mind-within, taken, takes-unknown, takes-known}
-use mathlib.Core.Path.{refl, sym, ap, _∙_}
+use Rattle.meaning.proofs.Calls.{takes-refused, good-judged}
+use Rattle.moves.proofs.Taking.{takes-unknown, takes-known}
+use Rattle.moves.specs.Steps.{takenBy}
+use Rattle.card.specs.Rows.{answerOf}
+use Rattle.choices.proofs.Accepting.{accepted-card, card-refused, judged-so, is-ready}
+use mathlib.Core.Path.{sym, ap, _∙_}
+use Rattle.layout.specs.PlaceParts.{lent}
 use native.Mathlib.Omega.{arith}
 use borrow.Author.Needs.{needs}
 use denote.Ref.{now}
 use Rattle.moves.proofs.take.take.Statement.{statement}
 use Rattle.moves.proofs.take.take.Tie as tie
 
-judge-mind-requires : tie.Need-judge-mind-requires
-judge-mind-requires c κs =
-    let a = c .before .before .args in
-    let p = c .before .before .pre in
-    good-card (a .l) (now (a .card)) (p .0) (p .1) .laid .atoms
+check-requires : tie.Need-check-requires
+check-requires c κs = search needs
+
+enum-known-checked : tie.Need-enum-known-checked
+enum-known-checked c = search needs
 
 enum-told : tie.Need-enum-told
 enum-told c = search needs
 
-enum-told-2 : tie.Need-enum-told-2
-enum-told-2 c = search needs
+answer-of-requires : tie.Need-answer-of-requires
+answer-of-requires c κs = search needs
 
 returns : tie.Need-returns
 returns c =
     let a = c .before .before .before .before .before .args in
-    let p = c .before .before .before .before .before .pre in
     let b = now (a .card) in
-    let d = configurationIn (a .m) (now (a .plan)) in
-    let g = c .before .before .judge-mind in
-    let e = judged-bad (a .l) b d (p .0) (p .1) (g .result) (g .ensures .0) _ (c .enum-told2 .given .1) in
-    (ap (λ x. reply x d) (e .0) ∙ sym (takes-refused b d (a .choice) Refusal.Configuration (e .1)), inr refl)
+    let d = lent (a .m) (now (a .plan)) in
+    let told = c .before .enum-told .given .1 in
+    let e = card-refused b d _ (sym (c .before .before .before .check .ensures) ∙ told) in
+    let s = c .answer-of .ensures ∙ ap answerOf told in
+    ap (λ x. reply x d) s ∙ sym (takes-refused b d (a .choice) _ e)
+
+judge-configuration-requires : tie.Need-judge-configuration-requires
+judge-configuration-requires c κs = accepted-card (now (c .before .before .before .before .before .before .args .card)) _ (sym (c .before .before .before .before .check .ensures) ∙ c .before .before .checked .given .1) .layout .atoms
+
+enum-told-2 : tie.Need-enum-told-2
+enum-told-2 c = search needs
+
+enum-told-3 : tie.Need-enum-told-3
+enum-told-3 c = search needs
 
 returns-2 : tie.Need-returns-2
 returns-2 c =
-    let a = c .before .before .before .before .before .before .args in
-    let p = c .before .before .before .before .before .before .pre in
+    let a = c .before .before .before .before .before .before .before .before .before .args in
     let b = now (a .card) in
-    let d = configurationIn (a .m) (now (a .plan)) in
-    let g = c .before .before .before .judge-mind in
-    let e = judged-good (a .l) b d (p .0) (p .1) (g .result) (g .ensures .0) (c .before .enum-told .given .1) in
-    (takes-unknown b d (e .1) (a .choice) (omega arith), inr refl)
-
-cast-attempt : tie.Need-cast-attempt
-cast-attempt c = search needs
-
-cast-attempt-2 : tie.Need-cast-attempt-2
-cast-attempt-2 c = search needs
-
-attempt-requires : tie.Need-attempt-requires
-attempt-requires c κs =
-    let a = c .before .before .before .before .before .before .before .args in
-    let p = c .before .before .before .before .before .before .before .pre in
-    let b = now (a .card) in
-    let d = configurationIn (a .m) (now (a .plan)) in
-    let g = c .before .before .before .before .judge-mind in
-    let e = judged-good (a .l) b d (p .0) (p .1) (g .result) (g .ensures .0) (c .before .before .enum-told .given .1) in
-    (good-card (a .l) b (p .0) (p .1), held-configuration (a .l) d (g .ensures .1) (e .0), omega arith)
-
-answer-to-requires : tie.Need-answer-to-requires
-answer-to-requires c κs = search needs
+    let d = lent (a .m) (now (a .plan)) in
+    let j = c .before .before .judge-configuration in
+    let g = sym (c .before .before .before .before .before .before .before .check .ensures) ∙ c .before .before .before .before .before .checked .given .1 in
+    let e = judged-so b d _ g (j .result) (j .ensures .0) ∙ c .enum-told3 .given .1 in
+    ap (λ x. reply x d) (c .enum-told3 .given .1) ∙ sym (takes-refused b d (a .choice) _ e)
 
 returns-3 : tie.Need-returns-3
-unfolding agent stateOf
 returns-3 c =
     let a = c .before .before .before .before .before .before .before .before .before .before .args in
-    let p = c .before .before .before .before .before .before .before .before .before .before .pre in
     let b = now (a .card) in
-    let d = configurationIn (a .m) (now (a .plan)) in
-    let g = c .before .before .before .before .before .before .before .judge-mind in
-    let e = judged-good (a .l) b d (p .0) (p .1) (g .result) (g .ensures .0) (c .before .before .before .before .before .enum-told .given .1) in
-    let t = c .before .before .attempt in
-    let k = choiceAt (a .choice / 256) (a .choice % 256) in
-    let A = agentFor (a .l) b in
-    let w = mind-within A d k (t .result) (t .ensures .0) (good (a .l) d (e .0) .fits) in (
-      ap (λ x. reply x (configurationIn (t .result .mind) (t .last .1 .1 .1 .0))) (c .answer-to .ensures)
-          ∙ taken A d k (t .result) (t .ensures .0) (t .last .1 .1 .1 .0) (t .ensures .1)
-          ∙ ap (λ (x : Layout). taking (moveBy (agentFor x b) (stateOf d) k) d) (p .1)
-          ∙ takes-known b d (e .1) (a .choice) (omega arith),
-      inl w,
-    )
+    let d = lent (a .m) (now (a .plan)) in
+    let j = c .before .before .before .judge-configuration in
+    let g = sym (c .before .before .before .before .before .before .before .before .check .ensures) ∙ c .before .before .before .before .before .before .checked .given .1 in
+    let e = judged-so b d _ g (j .result) (j .ensures .0) ∙ c .before .enum-told2 .given .1 in
+    takes-unknown b d e (a .choice) (omega arith)
+
+cast-take-choice : tie.Need-cast-take-choice
+cast-take-choice c = search needs
+
+cast-take-choice-2 : tie.Need-cast-take-choice-2
+cast-take-choice-2 c = search needs
+
+take-choice-requires : tie.Need-take-choice-requires
+take-choice-requires c κs =
+    let a = c .before .before .before .before .before .before .before .before .before .before .before .args in
+    let b = now (a .card) in
+    let d = lent (a .m) (now (a .plan)) in
+    let j = c .before .before .before .before .judge-configuration in
+    let g = sym (c .before .before .before .before .before .before .before .before .before .check .ensures) ∙ c .before .before .before .before .before .before .before .checked .given .1 in
+    (is-ready b d _ g (j .result) (j .ensures .0) (c .before .before .enum-told2 .given .1) (j .ensures .1), omega arith)
+
+returns-4 : tie.Need-returns-4
+unfolding agent
+returns-4 c =
+    let a = c .before .before .before .before .before .before .before .before .before .before .before .before .args in
+    let b = now (a .card) in
+    let d = lent (a .m) (now (a .plan)) in
+    let j = c .before .before .before .before .before .judge-configuration in
+    let g = sym (c .before .before .before .before .before .before .before .before .before .before .check .ensures) ∙ c .before .before .before .before .before .before .before .before .checked .given .1 in
+    let e = judged-so b d _ g (j .result) (j .ensures .0) ∙ c .before .before .before .enum-told2 .given .1 in
+    let s = good-judged b _ g .1 in
+    c .take-choice .ensures
+    ∙ ap (λ (x : Layout). takenBy (step (agentFor x b) (stateOf d) (choiceAt (a .choice / 256) (a .choice % 256))) d) s
+    ∙ takes-known b d e (a .choice) (omega arith)
 
 pub take-spec : {M : Type 1} → statement M
 take-spec =
     tie.close
     (tie.spec
-    judge-mind-requires
+    check-requires
+    enum-known-checked
     enum-told
-    enum-told-2
+    answer-of-requires
     returns
+    judge-configuration-requires
+    enum-told-2
+    enum-told-3
     returns-2
-    cast-attempt
-    cast-attempt-2
-    attempt-requires
-    answer-to-requires
-    returns-3)
+    returns-3
+    cast-take-choice
+    cast-take-choice-2
+    take-choice-requires
+    returns-4)

@@ -1,19 +1,12 @@
-use borrow.Author.Needs.{needs}
+use Rattle.layout.specs.declared.place.PlaceParts.{PlaceParts}
+use lib.Dec.{leb, eqb}
+use mathlib.Core.Bool.{_&&_}
+use mathlib.Core.Path.{ap}
 use Rattle.place.proofs.judge.counts_good.Statement.{statement}
 use Rattle.place.proofs.judge.counts_good.Tie as tie
 
-number-at-requires : tie.Need-number-at-requires
-number-at-requires c κs = search needs
-
-number-at-requires-2 : tie.Need-number-at-requires-2
-number-at-requires-2 c κs = search needs
-
-number-at-requires-3 : tie.Need-number-at-requires-3
-number-at-requires-3 c κs = search needs
-
 returns : tie.Need-returns
-returns c = rw (c .before .before .number-at .ensures .0, c .before .number-at2 .ensures .0, c .number-at3 .ensures .0)
+returns c = ap (λ (h : PlaceParts). leb (h .length) 1024 && (leb (h .phase) 2 && eqb (h .zero) 0)) (c .before .before .before .pre)
 
 pub counts-good-spec : {M : Type 1} → statement M
-counts-good-spec =
-    tie.close (tie.spec number-at-requires number-at-requires-2 number-at-requires-3 returns)
+counts-good-spec = tie.close (tie.spec returns)

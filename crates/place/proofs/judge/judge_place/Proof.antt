@@ -1,8 +1,8 @@
 use borrow.Author.Tests.{leb-true}
 use lib.Dec.{leb}
 use Rattle.meaning.specs.Refusals.{placeTable}
-use Rattle.card.specs.Stair.{rowsFrom}
-use Rattle.card.proofs.Stair.{stops, goes-on, row-done}
+use Rattle.card.specs.Rows.{rowsFrom}
+use Rattle.card.proofs.Rows.{stops, goes-on, row-done}
 use mathlib.Core.Path.{refl, sym, _∙_}
 use borrow.Author.Needs.{needs}
 use denote.Ref.{now}

@@ -1,8 +1,5 @@
-use Rattle.card.proofs.GoodCard.{good-card}
-use Rattle.meaning.specs.declared.Answer.the-variants.{Done}
-use Rattle.meaning.specs.Calls.{reply}
-use Rattle.meaning.proofs.Calls.{loads-good}
-use mathlib.Core.Path.{sym, ap, _∙_}
+use Rattle.place.proofs.Laws.{load-card-refused, is-good, load-good}
+use mathlib.Core.Path.{sym, _∙_}
 use borrow.Author.Needs.{needs}
 use denote.Ref.{now}
 use Rattle.place.proofs.load.load.Statement.{statement}
@@ -11,16 +8,45 @@ use Rattle.place.proofs.load.load.Tie as tie
 size-requires : tie.Need-size-requires
 size-requires c κs = search needs
 
-first-requires : tie.Need-first-requires
-first-requires c κs =
-    let s = c .before .before .before .before .before in
-    (good-card (s .args .l) (now (s .args .card)) (s .pre .0) (s .pre .1), search needs)
+check-requires : tie.Need-check-requires
+check-requires c κs = search needs
+
+enum-known-checked : tie.Need-enum-known-checked
+enum-known-checked c = search needs
+
+enum-told : tie.Need-enum-told
+enum-told c = search needs
+
+empty-mind-requires : tie.Need-empty-mind-requires
+empty-mind-requires c κs = search needs
+
+answer-of-requires : tie.Need-answer-of-requires
+answer-of-requires c κs = search needs
 
 returns : tie.Need-returns
 returns c =
-    let s = c .before .before .before .before .before .before in
-    let f = c .first .ensures in
-    (ap (reply Done) (f .0) ∙ sym (loads-good (now (s .args .card)) (s .pre .0)), f .1)
+    let b = now (c .before .before .before .before .before .before .before .before .before .before .args .card) in
+    let told = c .before .before .before .enum-told .given .1 in
+    load-card-refused b _ _ told (c .before .before .before .before .before .check .ensures) _ (c .answer-of .ensures) _ (c .before .empty-mind .ensures)
+
+first-requires : tie.Need-first-requires
+first-requires c κs = (is-good _ _ (sym (c .before .before .before .before .check .ensures) ∙ c .before .before .checked .given .1), search needs)
+
+returns-2 : tie.Need-returns-2
+returns-2 c =
+    let b = now (c .before .before .before .before .before .before .before .before .before .before .args .card) in
+    load-good b _ (sym (c .before .before .before .before .before .check .ensures) ∙ c .before .before .before .checked .given .1) _ (c .first .ensures)
 
 pub load-spec : {M : Type 1} → statement M
-load-spec = tie.close (tie.spec size-requires first-requires returns)
+load-spec =
+    tie.close
+    (tie.spec
+    size-requires
+    check-requires
+    enum-known-checked
+    enum-told
+    empty-mind-requires
+    answer-of-requires
+    returns
+    first-requires
+    returns-2)

@@ -1,6 +1,7 @@
+use Rattle.layout.specs.declared.place.PlaceParts.{PlaceParts}
 use Rattle.meaning.specs.Configurations.{padded, configurationOf}
 use Rattle.meaning.specs.Place.{placed}
-use Rattle.meaning.specs.Card.{byte, numberAt, part}
+use Rattle.meaning.specs.Card.{numberAt, part}
 use lib.Seq.{take-all}
 use lib.ListN.{length-drop, length, drop}
 use mathlib.Core.Path.{_≡_, sym, ap, _∙_}
@@ -10,42 +11,34 @@ use denote.Ref.{now}
 use Rattle.place.proofs.restore.read.Statement.{statement}
 use Rattle.place.proofs.restore.read.Tie as tie
 
-number-at-requires : tie.Need-number-at-requires
-number-at-requires c κs = search needs
-
-set-at-requires : tie.Need-set-at-requires
-set-at-requires c κs = search needs
-
-set-at-requires-2 : tie.Need-set-at-requires-2
-set-at-requires-2 c κs = search needs
+read-parts-requires : tie.Need-read-parts-requires
+read-parts-requires c κs = search needs
 
 fill-requires : tie.Need-fill-requires
-fill-requires c κs = search needs
+fill-requires c κs =
+    let e = ap (λ (h : PlaceParts). h .length) (c .before .before .before .read-parts .ensures .0) in
+    search (needs, e)
 
-shared-slice-read-phase : tie.Need-shared-slice-read-phase
-shared-slice-read-phase c = search needs
+cast-t9 : tie.Need-cast-t9
+cast-t9 c = search needs
+
+cast-t10 : tie.Need-cast-t10
+cast-t10 c =
+    let e = ap (λ (h : PlaceParts). h .phase) (c .before .before .before .before .before .read-parts .ensures .0) in
+    search (needs, e)
 
 returns : tie.Need-returns
 unfolding configurationOf placed part
 returns c =
     let b = now (c .before .before .before .before .before .before .before .args .p) in
-    let s = c .before .before .before .before .before .before .before .pre .0 in
-    let n = c .before .before .before .before .before .number-at in
-    let f = s .phase in
-    let t = s .ends in
-    let l : length (drop 44 b) ≡ n .result = length-drop 44 b ∙ omega (arith, n .ensures .0) in
-    let π : part b 44 (n .result) ≡ drop 44 b = take-all (n .result) (drop 44 b) (omega arith) in
-    let k : byte b 8 ≡ numberAt b 8 = omega arith in
-    let m = s .fits in
-    (λ i. record { beliefs = c .before .before .before .before .set-at .ensures i; goals = c .before .before .before .set-at2 .ensures i; plan = (c .before .fill .ensures ∙ ap padded π) i; length = sym l i; phase = k i }, omega (arith, n .ensures .0))
+    let t = c .before .before .before .before .before .before .before .pre .0 .ends in
+    let h = c .before .before .before .before .before .read-parts .ensures .0 in
+    let n = c .before .before .before .before .before .read-parts .result .length in
+    let e : n ≡ numberAt b 4 = ap (λ (x : PlaceParts). x .length) h in
+    let l : length (drop 44 b) ≡ n = length-drop 44 b ∙ omega arith in
+    let π : part b 44 n ≡ drop 44 b = take-all n (drop 44 b) (omega arith) in
+    let q = c .before .fill .ensures ∙ ap padded π in
+    λ i. record { mind = record { beliefs = h i .beliefs; goals = h i .goals; length = sym l i; phase = h i .phase }; plan = q i }
 
 pub read-spec : {M : Type 1} → statement M
-read-spec =
-    tie.close
-    (tie.spec
-    number-at-requires
-    set-at-requires
-    set-at-requires-2
-    fill-requires
-    shared-slice-read-phase
-    returns)
+read-spec = tie.close (tie.spec read-parts-requires fill-requires cast-t9 cast-t10 returns)

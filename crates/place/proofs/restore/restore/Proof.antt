@@ -1,60 +1,78 @@
-use Rattle.meaning.specs.declared.Answer.the-variants.{Done}
-use Rattle.meaning.specs.Calls.{reply}
-use Rattle.place.proofs.Laws.{few-atoms, sized, restores-good, restores-refused}
-use mathlib.Core.Path.{_≡_, sym, ap, _∙_}
+use Rattle.place.proofs.Laws.{sized, restore-card-refused, is-good, restore-good, restore-refused}
+use mathlib.Core.Path.{sym, _∙_}
 use borrow.Author.Needs.{needs}
 use denote.Ref.{now}
-use lib.ListN.{length}
 use Rattle.place.proofs.restore.restore.Statement.{statement}
 use Rattle.place.proofs.restore.restore.Tie as tie
 
 size-requires : tie.Need-size-requires
 size-requires c κs = search needs
 
-judge-place-requires : tie.Need-judge-place-requires
-judge-place-requires c κs =
-    let p = c .before .before .before .before .before .pre in
-    few-atoms _ _ (p .0) (p .1)
+check-requires : tie.Need-check-requires
+check-requires c κs = search needs
+
+enum-known-checked : tie.Need-enum-known-checked
+enum-known-checked c = search needs
 
 enum-told : tie.Need-enum-told
 enum-told c = search needs
 
-enum-told-2 : tie.Need-enum-told-2
-enum-told-2 c = search needs
-
 empty-mind-requires : tie.Need-empty-mind-requires
 empty-mind-requires c κs = search needs
 
+answer-of-requires : tie.Need-answer-of-requires
+answer-of-requires c κs = search needs
+
 returns : tie.Need-returns
 returns c =
-    let s = c .before .before .before .before .before .before .before .before .before .before in
-    let told = c .before .before .enum-told2 .given .1 in
-    let j = c .before .before .before .before .judge-place .ensures in
-    let m = c .empty-mind in
-    ((λ i. reply (told i) (m .ensures .0 i)) ∙ sym (restores-refused (now (s .args .card)) (s .args .l) (s .pre .0) (s .pre .1) (now (s .args .p)) _ (sym j ∙ told)), m .ensures .1)
+    let a = c .before .before .before .before .before .before .before .before .before .before .before .args in
+    let told = c .before .before .before .enum-told .given .1 in
+    restore-card-refused (now (a .card)) _ _ told (c .before .before .before .before .before .check .ensures) _ (c .answer-of .ensures) (now (a .p)) _ (c .before .empty-mind .ensures)
 
-read-requires : tie.Need-read-requires
-read-requires c κs =
-    let r : length (now (c .before .before .before .before .before .before .before .before .before .args .plan)) ≡ 1024 = search needs in
-    (sized _ _ (sym (c .before .before .before .judge-place .ensures) ∙ c .before .enum-told .given .1), r)
+judge-place-requires : tie.Need-judge-place-requires
+judge-place-requires c κs = is-good _ _ (sym (c .before .before .before .check .ensures) ∙ c .before .checked .given .1) .layout .atoms
+
+enum-told-2 : tie.Need-enum-told-2
+enum-told-2 c = search needs
+
+enum-told-3 : tie.Need-enum-told-3
+enum-told-3 c = search needs
+
+empty-mind-requires-2 : tie.Need-empty-mind-requires-2
+empty-mind-requires-2 c κs = search needs
 
 returns-2 : tie.Need-returns-2
 returns-2 c =
-    let s = c .before .before .before .before .before .before .before .before .before .before in
-    let told = c .before .before .enum-told .given .1 in
-    let j = c .before .before .before .before .judge-place .ensures in
-    let m = c .read in
-    (ap (reply Done) (m .ensures .0) ∙ sym (restores-good (now (s .args .card)) (s .args .l) (s .pre .0) (s .pre .1) (now (s .args .p)) (sym j ∙ told)), m .ensures .1)
+    let a = c .before .before .before .before .before .before .before .before .before .before .before .before .before .before .args in
+    let good = sym (c .before .before .before .before .before .before .before .before .check .ensures) ∙ c .before .before .before .before .before .before .checked .given .1 in
+    let told = c .before .before .enum-told3 .given .1 in
+    restore-refused (now (a .card)) _ good (now (a .p)) _ _ _ told (c .before .before .before .before .judge-place .ensures) (c .empty-mind2 .ensures)
+
+read-requires : tie.Need-read-requires
+read-requires c κs = (sized _ _ (sym (c .before .before .before .judge-place .ensures) ∙ c .before .enum-told2 .given .1), search needs)
+
+returns-3 : tie.Need-returns-3
+returns-3 c =
+    let a = c .before .before .before .before .before .before .before .before .before .before .before .before .before .before .args in
+    let good = sym (c .before .before .before .before .before .before .before .before .check .ensures) ∙ c .before .before .before .before .before .before .checked .given .1 in
+    let done = sym (c .before .before .before .before .judge-place .ensures) ∙ c .before .before .enum-told2 .given .1 in
+    restore-good (now (a .card)) _ good (now (a .p)) _ done (c .read .ensures)
 
 pub restore-spec : {M : Type 1} → statement M
 restore-spec =
     tie.close
     (tie.spec
     size-requires
-    judge-place-requires
+    check-requires
+    enum-known-checked
     enum-told
-    enum-told-2
     empty-mind-requires
+    answer-of-requires
     returns
+    judge-place-requires
+    enum-told-2
+    enum-told-3
+    empty-mind-requires-2
+    returns-2
     read-requires
-    returns-2)
+    returns-3)

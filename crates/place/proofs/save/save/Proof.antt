@@ -1,6 +1,8 @@
-use Rattle.choices.specs.Minds.{configurationIn}
-use Rattle.place.proofs.Laws.{few-atoms, saved-good, save-done, save-refused}
-use mathlib.Core.Path.{_≡_, sym, _∙_}
+use Rattle.place.proofs.Laws.{save-refused, save-no-room, save-done}
+use Rattle.card.specs.Rows.{answerOf}
+use Rattle.choices.proofs.Accepting.{accepted-card, card-refused, judged-so, is-ready}
+use Rattle.layout.specs.PlaceParts.{lent}
+use mathlib.Core.Path.{_≡_, sym, ap, _∙_}
 use borrow.Author.Needs.{needs}
 use denote.Ref.{now}
 use lib.ListN.{length}
@@ -14,62 +16,110 @@ lb c = search needs
 lg : (c : tie.Start) → length (c .args .m .goals) ≡ 16
 lg c = search needs
 
-judge-save-requires : tie.Need-judge-save-requires
-judge-save-requires c κs =
-    let p = c .before .before .pre in
-    few-atoms _ _ (p .0) (p .1)
+check-requires : tie.Need-check-requires
+check-requires c κs = search needs
+
+enum-known-checked : tie.Need-enum-known-checked
+enum-known-checked c = search needs
 
 enum-told : tie.Need-enum-told
 enum-told c = search needs
 
-enum-told-2 : tie.Need-enum-told-2
-enum-told-2 c = search needs
+answer-of-requires : tie.Need-answer-of-requires
+answer-of-requires c κs = search needs
 
 returns : tie.Need-returns
 returns c =
-    let s = c .before .before .before .before .before in
-    let a = s .args in
-    let j = c .before .before .judge-save in
-    save-refused (now (a .card)) (a .l) (s .pre .0) (s .pre .1) (configurationIn (a .m) (now (a .plan))) (lb s) (lg s) (j .ensures .1) (now (a .out)) (j .result) _ (j .ensures .0) (c .enum-told2 .given .1)
+    let a = c .before .before .before .before .before .before .args in
+    let b = now (a .card) in
+    let d = lent (a .m) (now (a .plan)) in
+    let told = c .before .enum-told .given .1 in
+    save-refused b d (now (a .out)) _ (card-refused b d _ (sym (c .before .before .before .check .ensures) ∙ told)) _ (c .answer-of .ensures ∙ ap answerOf told)
 
-fill-requires : tie.Need-fill-requires
-fill-requires c κs =
-    let j = c .before .before .before .judge-save in
-    let (g, room) = saved-good _ _ _ (sym (j .ensures .0) ∙ c .before .enum-told .given .1) in
-    (g .fits, g .phase, room, j .ensures .1)
+judge-configuration-requires : tie.Need-judge-configuration-requires
+judge-configuration-requires c κs = accepted-card (now (c .before .before .before .before .before .before .args .card)) _ (sym (c .before .before .before .check .ensures) ∙ c .before .checked .given .1) .layout .atoms
 
-add-t7 : tie.Need-add-t7
-add-t7 c =
-    let (g, room) = saved-good _ _ _ (sym (c .before .before .before .before .before .before .before .judge-save .ensures .0) ∙ c .before .before .before .before .before .enum-told .given .1) in
-    let h = g .fits in
+enum-told-2 : tie.Need-enum-told-2
+enum-told-2 c = search needs
+
+enum-told-3 : tie.Need-enum-told-3
+enum-told-3 c = search needs
+
+returns-2 : tie.Need-returns-2
+returns-2 c =
+    let a = c .before .before .before .before .before .before .before .before .before .args in
+    let b = now (a .card) in
+    let d = lent (a .m) (now (a .plan)) in
+    let j = c .before .before .judge-configuration in
+    let g = sym (c .before .before .before .before .before .before .check .ensures) ∙ c .before .before .before .before .checked .given .1 in
+    let e = c .enum-told3 .given .1 in
+    save-refused b d (now (a .out)) _ (judged-so b d _ g (j .result) (j .ensures .0) ∙ e) _ e
+
+add-n : tie.Need-add-n
+add-n c =
+    let a = c .before .before .before .before .before .before .before .before .before .before .args in
+    let b = now (a .card) in
+    let d = lent (a .m) (now (a .plan)) in
+    let j = c .before .before .before .judge-configuration in
+    let g = sym (c .before .before .before .before .before .before .before .check .ensures) ∙ c .before .before .before .before .before .checked .given .1 in
+    let r = is-ready b d _ g (j .result) (j .ensures .0) (c .before .enum-told2 .given .1) (j .ensures .1) in
+    let h = r .fits in
     search (needs, h)
 
-cast-t12 : tie.Need-cast-t12
-cast-t12 c =
-    let (g, room) = saved-good _ _ _ (sym (c .before .before .before .before .before .before .before .judge-save .ensures .0) ∙ c .before .before .before .before .before .enum-told .given .1) in
-    let h = g .fits in
-    search (needs, h)
+cast-if1 : tie.Need-cast-if1
+cast-if1 c = search needs
+
+returns-3 : tie.Need-returns-3
+returns-3 c =
+    let a = c .before .before .before .before .before .before .before .before .before .before .before .args in
+    let b = now (a .card) in
+    let d = lent (a .m) (now (a .plan)) in
+    let j = c .before .before .before .before .judge-configuration in
+    let g = sym (c .before .before .before .before .before .before .before .before .check .ensures) ∙ c .before .before .before .before .before .before .checked .given .1 in
+    let e = judged-so b d _ g (j .result) (j .ensures .0) ∙ c .before .before .enum-told2 .given .1 in
+    let r = is-ready b d _ g (j .result) (j .ensures .0) (c .before .before .enum-told2 .given .1) (j .ensures .1) in
+    save-no-room b d (now (a .out)) _ e r (lb (c .before .before .before .before .before .before .before .before .before .before .before)) (lg (c .before .before .before .before .before .before .before .before .before .before .before)) (c .if1 .taken)
+
+write-place-requires : tie.Need-write-place-requires
+write-place-requires c κs =
+    let a = c .before .before .before .before .before .before .before .before .before .before .before .before .args in
+    let b = now (a .card) in
+    let d = lent (a .m) (now (a .plan)) in
+    let j = c .before .before .before .before .before .judge-configuration in
+    let g = sym (c .before .before .before .before .before .before .before .before .before .check .ensures) ∙ c .before .before .before .before .before .before .before .checked .given .1 in
+    let r = is-ready b d _ g (j .result) (j .ensures .0) (c .before .before .before .enum-told2 .given .1) (j .ensures .1) in
+    (r .fits, r .phase, c .before .if1 .left, r .room)
 
 same-length : tie.Need-same-length
 same-length c = search needs
 
-returns-2 : tie.Need-returns-2
-returns-2 c =
-    let s = c .before .before .before .before .before .before .before .before .before .before in
-    let a = s .args in
-    let j = c .before .before .before .before .before .before .before .judge-save in
-    save-done (now (a .card)) (a .l) (s .pre .0) (s .pre .1) (configurationIn (a .m) (now (a .plan))) (lb s) (lg s) (j .ensures .1) (now (a .out)) (c .before .before .before .fill .last .1 .1 .0) (sym (j .ensures .0) ∙ c .before .before .before .before .before .enum-told .given .1) (c .before .before .before .fill .ensures)
+returns-4 : tie.Need-returns-4
+returns-4 c =
+    let a = c .before .before .before .before .before .before .before .before .before .before .before .before .before .before .before .args in
+    let b = now (a .card) in
+    let d = lent (a .m) (now (a .plan)) in
+    let j = c .before .before .before .before .before .before .before .before .judge-configuration in
+    let g = sym (c .before .before .before .before .before .before .before .before .before .before .before .before .check .ensures) ∙ c .before .before .before .before .before .before .before .before .before .before .checked .given .1 in
+    let e = judged-so b d _ g (j .result) (j .ensures .0) ∙ c .before .before .before .before .before .before .enum-told2 .given .1 in
+    let r = is-ready b d _ g (j .result) (j .ensures .0) (c .before .before .before .before .before .before .enum-told2 .given .1) (j .ensures .1) in
+    save-done b d (now (a .out)) _ e r (lb (c .before .before .before .before .before .before .before .before .before .before .before .before .before .before .before)) (lg (c .before .before .before .before .before .before .before .before .before .before .before .before .before .before .before)) _ (c .before .before .before .before .if1 .left) (c .before .before .write-place .ensures)
 
 pub save-spec : {M : Type 1} → statement M
 save-spec =
     tie.close
     (tie.spec
-    judge-save-requires
+    check-requires
+    enum-known-checked
     enum-told
-    enum-told-2
+    answer-of-requires
     returns
-    fill-requires
-    add-t7
-    cast-t12
+    judge-configuration-requires
+    enum-told-2
+    enum-told-3
+    returns-2
+    add-n
+    cast-if1
+    returns-3
+    write-place-requires
     same-length
-    returns-2)
+    returns-4)

@@ -1,10 +1,8 @@
+use Rattle.verdict.specs.Verdicts.{selectionsVerdict}
 use Rattle.verdict.proofs.Offenders.{verdict-light, verdict-heavy}
-use Rattle.meaning.specs.Card.{weight, plan, agentFor, agent, layout, initialPlan}
+use Rattle.meaning.specs.Card.{weight, plan, agent, layout, initialPlan}
 use Rattle.meaning.specs.declared.Layout.{Layout}
-use Rattle.house.specs.Weight.{weigh, light, lowers, firstOffender}
-use Rattle.house.specs.declared.Verdict.{Verdict}
-use Rattle.house.specs.declared.Offender.{Offender}
-use Rattle.paper.specs.Language.{Agent}
+use Rattle.runs.specs.Weight.{weigh}
 use mathlib.Core.Path.{_≡_, sym, ap, _∙_}
 use Prim.Native.Nat.{_≤_, _<_}
 use native.Mathlib.Omega.{arith}
@@ -25,12 +23,11 @@ returns c =
     let a = c .before .before .before .before .before .args in
     let b = now (a .card) in
     let w = weight b in
-    let says : a .l ≡ layout b = c .before .before .before .before .before .pre .0 .laid .says in
+    let says : a .l ≡ layout b = c .before .before .before .before .before .pre .0 .layout .says in
     let π : plan (a .l) b (a .l .initial) ≡ initialPlan b = ap (λ (x : Layout). plan x b (x .initial)) says in
     let e : weigh w (initialPlan b) ≤ 1024 = rw (← π, ← c .before .before .plan-weight .ensures) (omega arith) in
-    let A : agentFor (a .l) b ≡ agent b = ap (λ (x : Layout). agentFor x b) says in
     c .from-selections .ensures
-    ∙ ap (λ (x : Agent). firstOffender (λ r. light w (r .π)) Offender.Selection 0 (x .PS) (firstOffender (lowers w) Offender.Revision 0 (x .PR) Verdict.Bounded)) A
+    ∙ ap (λ (x : Layout). selectionsVerdict x b) says
     ∙ sym (verdict-light w (agent b) (initialPlan b) e)
 
 returns-2 : tie.Need-returns-2
@@ -39,7 +36,7 @@ returns-2 c =
     let a = c .before .before .before .before .args in
     let b = now (a .card) in
     let w = weight b in
-    let says : a .l ≡ layout b = c .before .before .before .before .pre .0 .laid .says in
+    let says : a .l ≡ layout b = c .before .before .before .before .pre .0 .layout .says in
     let π : plan (a .l) b (a .l .initial) ≡ initialPlan b = ap (λ (x : Layout). plan x b (x .initial)) says in
     let e : 1024 < weigh w (initialPlan b) = rw (← π, ← c .before .plan-weight .ensures) (omega arith) in
     sym (verdict-heavy w (agent b) (initialPlan b) e)

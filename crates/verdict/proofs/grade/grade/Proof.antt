@@ -1,9 +1,9 @@
 use Rattle.meaning.specs.declared.Answer.the-variants.{Done}
 use Rattle.card.proofs.GoodCard.{good-card}
 use Rattle.meaning.proofs.Calls.{good-judged, refused-judged, grades-good, grades-refused}
-use Rattle.card.specs.Stair.{answerOf}
-use Rattle.house.specs.declared.Verdict.{Verdict}
-use Rattle.house.specs.declared.Offender.{Offender}
+use Rattle.card.specs.Rows.{answerOf}
+use Rattle.runs.specs.declared.Verdict.{Verdict}
+use Rattle.runs.specs.declared.Offender.{Offender}
 use mathlib.Core.Path.{sym, ap, _∙_}
 use borrow.Author.Needs.{needs}
 use denote.Ref.{now}

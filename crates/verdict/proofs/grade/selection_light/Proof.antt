@@ -1,35 +1,22 @@
 use Rattle.card.proofs.GoodCard.{good-as}
-use Rattle.meaning.specs.Card.{plan}
+use Rattle.meaning.specs.declared.SelectionEntry.{SelectionEntry}
+use mathlib.Core.Path.{ap}
 use borrow.Author.Needs.{needs}
-use denote.Ref.{now}
 use Rattle.verdict.proofs.grade.selection_light.Statement.{statement}
 use Rattle.verdict.proofs.grade.selection_light.Tie as tie
 
-mul-at : tie.Need-mul-at
-mul-at c = search needs
-
-add-at : tie.Need-add-at
-add-at c = search needs
-
-add-read-span : tie.Need-add-read-span
-add-read-span c = search needs
-
-read-span-requires : tie.Need-read-span-requires
-read-span-requires c κs = search needs
+read-selection-requires : tie.Need-read-selection-requires
+read-selection-requires c κs = search needs
 
 plan-weight-requires : tie.Need-plan-weight-requires
 plan-weight-requires c κs =
-    let a = c .before .before .before .before .args in
-    let p = c .before .before .before .before .pre in
-    (p .0, p .1, good-as (a .l) 1 _ _ (c .read-span .ensures .0) (p .0 .selections (a .i) (p .2) .plan))
+    let a = c .before .before .args in
+    let p = c .before .before .pre in
+    let e = ap (λ (x : SelectionEntry). x .plan) (c .read-selection .ensures .0) in
+    (p .0, p .1, good-as (a .l) 1 _ _ e (p .0 .selections (a .i) (p .2) .plan))
 
 returns : tie.Need-returns
-returns c =
-    let a = c .before .before .before .before .before .args in
-    let b = now (a .card) in
-    rw (c .plan-weight .ensures, c .before .read-span .ensures .0)
+returns c = rw (c .plan-weight .ensures, c .before .read-selection .ensures .0)
 
 pub selection-light-spec : {M : Type 1} → statement M
-selection-light-spec =
-    tie.close
-    (tie.spec mul-at add-at add-read-span read-span-requires plan-weight-requires returns)
+selection-light-spec = tie.close (tie.spec read-selection-requires plan-weight-requires returns)

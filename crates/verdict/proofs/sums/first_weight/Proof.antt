@@ -1,5 +1,5 @@
 use Rattle.meaning.specs.Card.{part, weight}
-use Rattle.house.specs.Weight.{weigh}
+use Rattle.runs.specs.Weight.{weigh}
 use Rattle.verdict.proofs.Weights.{weigh-part, part-most}
 use mathlib.Core.Path.{_≡_, ap}
 use Prim.Native.Nat.{_+_, _*_, _/_, _%_}

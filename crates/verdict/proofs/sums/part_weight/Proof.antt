@@ -1,7 +1,7 @@
 use Rattle.verdict.proofs.Weights.{weigh-next, weigh-done}
 use Rattle.meaning.proofs.Parts.{length-part, part-at}
 use Rattle.meaning.specs.Card.{part, weight}
-use Rattle.house.specs.Weight.{weigh}
+use Rattle.runs.specs.Weight.{weigh}
 use mathlib.Core.Path.{_≡_, sym, ap, _∙_}
 use Prim.Native.Nat.{_+_, _-_, _*_, _≤_, _<_}
 use native.Mathlib.Omega.{arith}
@@ -57,7 +57,7 @@ loop-again c =
     let at = a .l .pool .offset + a .from in
     let π = part b at (a .n) in
     let p = c .before .before .before .before .before .before .before .pre in
-    let d = p .0 .laid in
+    let d = p .0 .layout in
     let g = p .1 in
     let n : length π ≡ a .n = length-part b at (a .n) (omega arith) in
     let e : c .weight-of .result ≡ weight b (getD π (l .i) 0) = c .weight-of .ensures .0 ∙ ap (weight b) (sym (part-at b at (a .n) (l .i) (omega arith))) in
@@ -74,7 +74,7 @@ returns c =
     let at = a .l .pool .offset + a .from in
     let π = part b at (a .n) in
     let p = c .before .before .before .before .before .pre in
-    let d = p .0 .laid in
+    let d = p .0 .layout in
     let g = p .1 in
     let n : length π ≡ a .n = length-part b at (a .n) (omega arith) in
     let s = weigh-done (weight b) π (l .i) (omega arith) in

@@ -1,6 +1,6 @@
 use lib.ListN.{length-set, length-replicate, getD-replicate, length, getD}
 use Rattle.meaning.specs.Card.{part, weight}
-use Rattle.house.specs.Weight.{weigh}
+use Rattle.runs.specs.Weight.{weigh}
 use Rattle.sets.proofs.Loops.{below-turn}
 use Rattle.verdict.proofs.Weights.{weigh-part, weigh-no-part, part-most}
 use mathlib.Core.Path.{_≡_, refl, sym, ap, _∙_}
@@ -87,7 +87,7 @@ loop-again c =
       omega arith,
       simp length-set (l .inv .1),
       u,
-      below-turn (λ j. weigh (weight b) (part b at (16 * j))) (l .sums) (l .k + 1) (l .total + c .part-weight .result) 0 (let r = l .inv .1 in let d = p .laid .pool in omega arith) (l .inv .3) u,
+      below-turn (λ j. weigh (weight b) (part b at (16 * j))) (l .sums) (l .k + 1) (l .total + c .part-weight .result) 0 (let r = l .inv .1 in let d = p .layout .pool in omega arith) (l .inv .3) u,
     )
 
 returns : tie.Need-returns Inv-loop μ-loop

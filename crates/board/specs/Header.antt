@@ -1,0 +1,42 @@
+-- What include/rigtemple.h says of each call: the parts in which C sees what the guide answers.
+use mathlib.Core.Path.{_≡_}
+use mathlib.Core.List.{List}
+use Prim.Native.Nat.{ℕ}
+use Rattle.meaning.specs.declared.Configuration.{Configuration}
+use Rattle.meaning.specs.declared.Reply.{Reply}
+use Rattle.meaning.specs.declared.Graded.{Graded}
+use Rattle.meaning.specs.declared.Written.{Written}
+use Rattle.meaning.specs.declared.Ran.{Ran}
+use Rattle.meaning.specs.Card.{Bytes}
+use Rattle.meaning.specs.Refusals.{answerNumber}
+use Rattle.meaning.specs.Numbers.{endingNumber, verdictNumber, verdictOffender, verdictRule}
+
+-- A configuration from its parts: "`beliefs` and `goals` are 16 bytes each, `plan` is 1,024 bytes."
+abbrev pub whole : Bytes → Bytes → Bytes → ℕ → ℕ → Configuration
+whole b g p n f = record { mind = record { beliefs = b; goals = g; length = n; phase = f }; plan = p }
+
+-- ---- what a call tells: n is its return value, the answer's number; c is what the lent parts hold when it returns
+
+-- of `load`, `take` and `restore`
+abbrev pub replied : Reply → ℕ → Configuration → Type 0
+replied x n c = (n ≡ answerNumber (x .answer)) × (c ≡ x .configuration)
+
+-- of `grade`: the verdict, the offender's kind and its number
+abbrev pub gradedAs : Graded → ℕ → ℕ → ℕ → ℕ → Type 0
+gradedAs x n verdict offender rule =
+    (n ≡ answerNumber (x .answer))
+    × (verdict ≡ verdictNumber (x .verdict))
+    × (offender ≡ verdictOffender (x .verdict))
+    × (rule ≡ verdictRule (x .verdict))
+
+-- of `list` and `save`: how many were written, and what the lent buffer then holds
+abbrev pub wrote : Written → List ℕ → ℕ → ℕ → List ℕ → Type 0
+wrote x leaves n count out = (n ≡ answerNumber (x .answer)) × (count ≡ x .count) × (out ≡ leaves)
+
+-- of `run`: how many moves, and why it ended
+abbrev pub ranTo : Ran → ℕ → Configuration → ℕ → ℕ → Type 0
+ranTo x n c count ending =
+    (n ≡ answerNumber (x .answer))
+    × (c ≡ x .configuration)
+    × (count ≡ x .count)
+    × (ending ≡ endingNumber (x .ending))

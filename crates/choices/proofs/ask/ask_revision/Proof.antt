@@ -1,0 +1,60 @@
+use mathlib.Core.Path.{sym, ap, ap₂, _∙_, subst}
+use Rattle.layout.specs.PlaceParts.{lent}
+use Rattle.meaning.specs.Card.{plan}
+use Rattle.paper.specs.Next.{isPrefix}
+use mathlib.Core.Bool.{false}
+use Rattle.choices.specs.Asking.{askedBy}
+use Rattle.choices.proofs.Asking.{asks-revision}
+use Rattle.card.specs.GoodCard.{GoodSpan}
+use Rattle.meaning.specs.declared.RevisionEntry.{RevisionEntry}
+use native.Mathlib.Omega.{arith}
+use borrow.Author.Needs.{needs}
+use denote.Ref.{now}
+use lib.ListN.{length, getD, take}
+use Rattle.choices.proofs.ask.ask_revision.Statement.{statement}
+use Rattle.choices.proofs.ask.ask_revision.Tie as tie
+
+read-revision-requires : tie.Need-read-revision-requires
+read-revision-requires c κs = search needs
+
+add-at : tie.Need-add-at
+add-at c = search needs
+
+cast-starts-with : tie.Need-cast-starts-with
+cast-starts-with c = search needs
+
+starts-with-requires : tie.Need-starts-with-requires
+starts-with-requires c κs =
+    let a = c .before .before .before .before .before .before .before .args in
+    let r = c .before .before .before .before .before .before .before .pre .0 .ready in
+    let e = ap (λ (x : RevisionEntry). x .head) (c .before .before .before .before .before .read-revision .ensures .0) in
+    let g = r .card .revisions (a .i) (c .before .before .before .before .before .before .before .pre .1) .head in
+    let h = subst (GoodSpan (a .l) 1) (sym e) g in
+    (h .some, (let x = h .inside in let y = r .card .layout .ends in omega arith), r .fits, r .room)
+
+holds-requires : tie.Need-holds-requires
+holds-requires c κs = search needs
+
+asked-by-requires : tie.Need-asked-by-requires
+asked-by-requires c κs = search needs
+
+returns : tie.Need-returns
+unfolding plan
+returns c =
+    let a = c .before .before .before .before .before .before .before .before .before .before .args in
+    let e = c .before .before .before .before .before .before .before .before .read-revision .ensures .0 in
+    let b = c .before .holds .ensures ∙ ap (λ (x : RevisionEntry). getD (now (a .marks)) (x .node) false) e in
+    let f = c .before .before .starts-with .ensures ∙ ap (λ (x : RevisionEntry). isPrefix (plan (a .l) (now (a .card)) (x .head)) (take (a .m .length) (now (a .plan)))) e in
+    c .asked-by .ensures ∙ ap₂ askedBy f b ∙ asks-revision (a .l) (now (a .card)) (lent (a .m) (now (a .plan))) (now (a .marks)) (c .before .before .before .before .before .before .before .before .before .before .pre .0) (a .i) (c .before .before .before .before .before .before .before .before .before .before .pre .1)
+
+pub ask-revision-spec : {M : Type 1} → statement M
+ask-revision-spec =
+    tie.close
+    (tie.spec
+    read-revision-requires
+    add-at
+    cast-starts-with
+    starts-with-requires
+    holds-requires
+    asked-by-requires
+    returns)

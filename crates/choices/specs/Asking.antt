@@ -1,0 +1,47 @@
+-- Why a choice is closed, and the guide's own choice, as the code tells them.
+use mathlib.Core.Bool.{Bool, true, false, _&&_}
+use mathlib.Core.Option.{Option, none, some}
+use Prim.Native.Nat.{ℕ, zero, suc}
+use lib.ListN.{getElem?}
+use Rattle.paper.specs.Language.{Agent, Config}
+use Rattle.paper.specs.Transitions.{_⊨_, Choice, select, act, revise}
+use Rattle.paper.specs.Next.{isEmpty, startsWith, isPrefix, enabled}
+use Rattle.runs.specs.Order.{kind, number, ofKind, first}
+use Rattle.meaning.specs.declared.Layout.{Layout}
+use Rattle.meaning.specs.declared.Configuration.{Configuration}
+use Rattle.meaning.specs.Card.{Bytes, agentFor}
+use Rattle.meaning.specs.Configurations.{stateOf}
+use Rattle.choices.specs.declared.ask.Asked.{Asked}
+use Rattle.choices.specs.declared.ask.Chosen.{Chosen}
+
+-- by whether the plan's front fits, and whether the conditions hold: 02, Wish 1: "in its place and this order"
+abbrev pub askedBy : Bool → Bool → Asked
+askedBy true true = Asked.Open
+askedBy true false = Asked.Condition
+askedBy false h = Asked.Front
+
+-- of what stands under a number, if anything does
+abbrev pub askedOf : {R : Type 0} → (R → Bool) → (R → Bool) → Option R → Asked
+askedOf front holds none = Asked.NoRule
+askedOf front holds (some r) = askedBy (front r) (holds r)
+
+-- 02, Wish 1: why a choice is closed, if it is; open exactly if it is enabled (proofs/Asking.antt, `open-enabled`)
+unfoldable pub asked : Agent → Config → Choice → Asked
+asked A c (select n) = askedOf (λ r. isEmpty (c .π)) (λ r. (c ⊨ r .β) && (c ⊨ r .κ)) (getElem? (A .PS) n)
+asked A c (act n) = askedOf (λ s. startsWith (s .a) (c .π)) (λ s. c ⊨ s .β) (getElem? (A .AS) n)
+asked A c (revise n) = askedOf (λ r. isPrefix (r .πₕ) (c .π)) (λ r. c ⊨ r .β) (getElem? (A .PR) n)
+
+-- the choice of a kind and a number
+abbrev pub choiceAt : ℕ → ℕ → Choice
+choiceAt zero n = select n
+choiceAt (suc zero) n = act n
+choiceAt (suc (suc k)) n = revise n
+
+-- a choice, if there is one, by its kind and its number
+abbrev pub chosen : Option Choice → Chosen
+chosen none = Chosen.Nothing
+chosen (some k) = Chosen.At (kind k) (number k)
+
+-- the lowest enabled choice of a kind
+abbrev pub firstOpen : Layout → Bytes → Configuration → ℕ → Chosen
+firstOpen l b c k = chosen (first (enabled (agentFor l b) (stateOf c .mental)) (ofKind (agentFor l b) k))

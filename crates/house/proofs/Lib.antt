@@ -1,5 +1,0 @@
-pub mod Numbers
-pub mod Order
-pub mod Listing
-pub mod Run
-pub mod Weight

@@ -1,4 +1,0 @@
-pub mod Order
-pub mod Run
-pub mod Weight
-pub mod Theorems

@@ -1,0 +1,68 @@
+// Bytes, a card's or a place's: a number or a set from an offset on, the mark, and bytes copied.
+ghost use mathlib.Core.Path.{_≡_};
+ghost use Prim.Native.Nat.{_+_, _*_, _≤_};
+ghost use lib.Dec.{ltb};
+ghost use lib.ListN.{length, drop};
+ghost use lib.Seq.{paste};
+ghost use Rattle.meaning.specs.Card.{numberAt, part};
+ghost use Rattle.meaning.specs.Refusals.{marked};
+
+// Two bytes, low byte first.
+fn joined(low: u8, high: u8) -> usize
+    ensures { λ r. ⌜ (r ≡ low + 256 * high) × (r ≤ 65535) ⌝ }
+{
+    (low as usize) + 256 * (high as usize)
+}
+
+// The number at an offset.
+pub fn number_at(bytes: &[u8], at: usize) -> usize
+    requires { ⌜ at + 2 ≤ length (now bytes) ⌝ }
+    ensures { λ r. ⌜ (r ≡ numberAt (now (bytes .entry)) at) × (r ≤ 65535) ⌝ }
+{
+    joined(bytes[at], bytes[at + 1])
+}
+
+// Whether a byte is below a number.
+pub fn byte_below(x: u8, n: usize) -> bool
+    ensures { λ r. ⌜ r ≡ ltb x n ⌝ }
+{
+    (x as usize) < n
+}
+
+// Not row 2: "first two bytes or edition differ". The first byte is 33 hex, the second is given, and the edition is 1.
+pub fn mark_good(bytes: &[u8], second: u8) -> bool
+    requires { ⌜ 4 ≤ length (now bytes) ⌝ }
+    ensures { λ r. ⌜ r ≡ marked second (now (bytes .entry)) ⌝ }
+{
+    let edition = number_at(bytes, 2);
+    (bytes[0] == 0x33) & ((bytes[1] == second) & (edition == 1))
+}
+
+// n bytes of src, from `from` on, over those of dst from `to` on.
+pub fn copy(dst: &mut [u8], to: usize, src: &[u8], from: usize, n: usize)
+    requires { ⌜ (to + n ≤ length (now dst)) × (from + n ≤ length (now src)) ⌝ }
+    ensures { λ r. ⌜ now (dst .exit) ≡ paste (now (dst .entry)) to (drop from (now (src .entry))) n ⌝ }
+{
+    let mut i: usize = 0;
+    while i < n {
+        dst[to + i] = src[from + i];
+        i += 1;
+    }
+}
+
+// The set at an offset.
+pub fn set_at(bytes: &[u8], at: usize) -> [u8; 16]
+    requires { ⌜ at + 16 ≤ length (now bytes) ⌝ }
+    ensures { λ r. ⌜ r ≡ part (now (bytes .entry)) at 16 ⌝ }
+{
+    let mut set = [0u8; 16];
+    copy(&mut set, 0, bytes, at, 16);
+    set
+}
+
+// How many bytes a slice has. An array that is lent as a slice is known to be as long as its type says.
+pub fn size(s: &[u8]) -> usize
+    ensures { λ r. ⌜ r ≡ length (now (s .entry)) ⌝ }
+{
+    s.len()
+}

@@ -1,0 +1,120 @@
+// The entries of a card's sections, by their numbers; its weights and its initial sets.
+ghost use mathlib.Core.Path.{_≡_};
+ghost use Prim.Native.Nat.{_+_, _≤_, _<_};
+ghost use lib.ListN.{length};
+ghost use Rattle.meaning.specs.Card.{entryAt, weightAt, nodeAt, specificationAt, selectionAt, revisionAt, initialBeliefs, initialGoals};
+ghost use Rattle.meaning.specs.Refusals.{endOf};
+ghost use Rattle.layout.specs.GoodLayout.{TwoByteSpan, GoodLayout};
+ghost use Rattle.layout.specs.Entries.{countOf};
+use crate::bytes::number_at;
+use crate::bytes::set_at;
+use crate::header::read_span;
+use meaning::Layout;
+use meaning::Node;
+use meaning::RevisionEntry;
+use meaning::Section;
+use meaning::SelectionEntry;
+use meaning::SpecificationEntry;
+
+// Where entry i of a section stands, whose entries have a size: it ends within the section.
+fn entry_at(s: Section, size: usize, i: usize) -> usize
+    requires { ⌜ (i < s .count) × (endOf size s ≤ 65535) ⌝ }
+    ensures { λ r. ⌜ (r ≡ entryAt size s i) × (r + size ≤ endOf size s) ⌝ }
+{
+    s.offset + size * i
+}
+
+// How many choices a card has of a kind: "the kind (0 selection, 1 action, 2 revision)".
+pub fn count_of(l: Layout, kind: u8) -> usize
+    ensures { λ r. ⌜ r ≡ countOf l kind ⌝ }
+{
+    match kind {
+        0 => l.selections.count,
+        1 => l.specifications.count,
+        _ => l.revisions.count,
+    }
+}
+
+// "weights, one for each action": that of an action.
+pub fn read_weight(card: &[u8], l: Layout, action: usize) -> usize
+    requires { ⌜ GoodLayout l (now card) × (action < l .actions) ⌝ }
+    ensures { λ r. ⌜ (r ≡ weightAt (now (card .entry)) action) × (r ≤ 65535) ⌝ }
+{
+    number_at(card, 64 + 2 * action)
+}
+
+// "Node, 4 bytes: kind, a, b, 0."
+pub fn read_node(card: &[u8], l: Layout, i: usize) -> Node
+    requires { ⌜ GoodLayout l (now card) × (i < l .nodes .count) ⌝ }
+    ensures { λ r. ⌜ r ≡ nodeAt l (now (card .entry)) i ⌝ }
+{
+    let at = entry_at(l.nodes, 4, i);
+    Node {
+        kind: card[at],
+        a: card[at + 1],
+        b: card[at + 2],
+        zero: card[at + 3],
+    }
+}
+
+// "Specification, 36 bytes: action, node, 0, 0, Add, Del."
+pub fn read_specification(card: &[u8], l: Layout, i: usize) -> SpecificationEntry
+    requires { ⌜ GoodLayout l (now card) × (i < l .specifications .count) ⌝ }
+    ensures { λ r. ⌜ r ≡ specificationAt l (now (card .entry)) i ⌝ }
+{
+    let at = entry_at(l.specifications, 36, i);
+    let add = set_at(card, at + 4);
+    let del = set_at(card, at + 20);
+    SpecificationEntry {
+        action: card[at],
+        node: card[at + 1],
+        zero: number_at(card, at + 2),
+        add: add,
+        del: del,
+    }
+}
+
+// "Selection rule, 8 bytes: belief node, goal node, start, length (1..1,024), zero number."
+pub fn read_selection(card: &[u8], l: Layout, i: usize) -> SelectionEntry
+    requires { ⌜ GoodLayout l (now card) × (i < l .selections .count) ⌝ }
+    ensures { λ r. ⌜ (r ≡ selectionAt l (now (card .entry)) i) × TwoByteSpan (r .plan) ⌝ }
+{
+    let at = entry_at(l.selections, 8, i);
+    SelectionEntry {
+        belief: card[at],
+        goal: card[at + 1],
+        plan: read_span(card, at + 2),
+        zero: number_at(card, at + 6),
+    }
+}
+
+// "Revision rule, 12 bytes: node, 0, head start, head length (1..1,024), body start, body length (0..1,024), zero number."
+pub fn read_revision(card: &[u8], l: Layout, i: usize) -> RevisionEntry
+    requires { ⌜ GoodLayout l (now card) × (i < l .revisions .count) ⌝ }
+    ensures { λ r. ⌜ (r ≡ revisionAt l (now (card .entry)) i) × TwoByteSpan (r .head) × TwoByteSpan (r .body) ⌝ }
+{
+    let at = entry_at(l.revisions, 12, i);
+    RevisionEntry {
+        node: card[at],
+        plain: card[at + 1],
+        head: read_span(card, at + 2),
+        body: read_span(card, at + 6),
+        zero: number_at(card, at + 10),
+    }
+}
+
+// "initial beliefs"
+pub fn initial_beliefs(card: &[u8]) -> [u8; 16]
+    requires { ⌜ 64 ≤ length (now card) ⌝ }
+    ensures { λ r. ⌜ r ≡ initialBeliefs (now (card .entry)) ⌝ }
+{
+    set_at(card, 32)
+}
+
+// "initial goals"
+pub fn initial_goals(card: &[u8]) -> [u8; 16]
+    requires { ⌜ 64 ≤ length (now card) ⌝ }
+    ensures { λ r. ⌜ r ≡ initialGoals (now (card .entry)) ⌝ }
+{
+    set_at(card, 48)
+}

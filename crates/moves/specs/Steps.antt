@@ -1,0 +1,75 @@
+-- What a transition comes to, as the code tells it and as it leaves the lent plan.
+use mathlib.Core.Path.{_≡_}
+use mathlib.Core.List.{List}
+use Prim.Native.Nat.{ℕ, _+_, _%_}
+use Rattle.paper.specs.Transitions.{Choice}
+use Rattle.runs.specs.Order.{kind, number, guide}
+use Rattle.runs.specs.Step.{Reached, nothing, full, to, step, stepBy}
+use Rattle.meaning.specs.declared.Refusal.{Refusal}
+use Rattle.meaning.specs.declared.Answer.{Answer}
+use Rattle.meaning.specs.declared.Answer.the-variants.{Done, Refused}
+use Rattle.meaning.specs.declared.Layout.{Layout}
+use Rattle.meaning.specs.declared.Configuration.{Configuration}
+use Rattle.meaning.specs.declared.Reply.{Reply}
+use Rattle.meaning.specs.Card.{Bytes, agentFor, agent}
+use Rattle.meaning.specs.Configurations.{stateOf, configurationOf}
+use Rattle.meaning.specs.Refusals.{configurationAnswer}
+use Rattle.meaning.specs.Calls.{reply}
+use Rattle.layout.specs.PlaceParts.{lent}
+use Rattle.choices.specs.declared.ask.Asked.{Asked}
+use Rattle.choices.specs.Asking.{asked}
+use Rattle.moves.specs.declared.step.Transition.{Transition}
+use Rattle.moves.specs.declared.step.Stepped.{Stepped}
+
+-- what a transition comes to, as the code tells it
+abbrev pub transitionOf : Reached → Transition
+transitionOf nothing = Transition.Nothing
+transitionOf full = Transition.Full
+transitionOf (to k s) = Transition.Taken (kind k) (number k)
+
+-- the configuration afterwards: as it came in, unless a transition was taken
+abbrev pub configurationAfter : Reached → Configuration → Configuration
+configurationAfter nothing c = c
+configurationAfter full c = c
+configurationAfter (to k s) c = configurationOf s
+
+-- both, of what the code answers and leaves in the plan
+abbrev pub Steps : Reached → Configuration → Stepped → Bytes → Type 0
+Steps o c r p = (r .transition ≡ transitionOf o) × (lent (r .mind) p ≡ configurationAfter o c)
+
+-- of a card's choice
+abbrev pub StepsBy : Layout → Bytes → Configuration → Choice → Stepped → Bytes → Type 0
+StepsBy l b c k r p = Steps (step (agentFor l b) (stateOf c) k) c r p
+
+-- of the guide's own
+abbrev pub Advances : Layout → Bytes → Configuration → Stepped → Bytes → Type 0
+Advances l b c r p = Steps (stepBy (agentFor l b) (stateOf c) (guide (agentFor l b) (stateOf c))) c r p
+
+-- the guide's own move on any card and configuration: none where they are refused
+unfoldable pub ownMove : Bytes → Configuration → Reached
+ownMove b c = elim (configurationAnswer b c) [ Done ↦ stepBy (agent b) (stateOf c) (guide (agent b) (stateOf c)) | Refused r ↦ nothing ]
+
+-- a choice of a card is open
+abbrev pub Open : Layout → Bytes → Configuration → Choice → Type 0
+Open l b c k = asked (agentFor l b) (stateOf c .mental) k ≡ Asked.Open
+
+-- a transition taken: its sets, the plan's length, and the kind and number of the choice
+abbrev pub takenTo : List ℕ → List ℕ → ℕ → ℕ → ℕ → Stepped
+takenTo b g n k i = record { mind = record { beliefs = b; goals = g; length = n; phase = (k + 1) % 3 }; transition = Transition.Taken k i }
+
+-- 01, "Numbers the guide may answer", rows 0, 10 and 11
+abbrev pub answerTo : Transition → Answer
+answerTo (Transition.Taken k i) = Done
+answerTo Transition.Nothing = Refused Refusal.NotEnabled
+answerTo Transition.Full = Refused Refusal.PlanFull
+
+-- 01, "Numbers the guide may answer", row 10: "the code is no enabled choice", whatever the reason
+abbrev pub answerAsked : Asked → Answer
+answerAsked Asked.Open = Done
+answerAsked Asked.NoRule = Refused Refusal.NotEnabled
+answerAsked Asked.Front = Refused Refusal.NotEnabled
+answerAsked Asked.Condition = Refused Refusal.NotEnabled
+
+-- what taking a choice answers
+abbrev pub takenBy : Reached → Configuration → Reply
+takenBy o c = reply (answerTo (transitionOf o)) (configurationAfter o c)

@@ -1,0 +1,117 @@
+// A transition is made: the mind by value, the plan in place. Each is one of Definitions 9 to 11.
+ghost use mathlib.Core.Path.{_≡_};
+ghost use Prim.Native.Nat.{_+_, _%_, _≤_, _<_};
+ghost use Rattle.paper.specs.Transitions.{select, act, revise};
+ghost use Rattle.layout.specs.PlaceParts.{lent};
+ghost use Rattle.choices.specs.Ready.{Ready};
+ghost use Rattle.choices.specs.Asking.{choiceAt};
+ghost use Rattle.moves.specs.Steps.{Open, StepsBy, takenTo};
+use layout::entries::read_revision;
+use layout::entries::read_selection;
+use layout::entries::read_specification;
+use meaning::Layout;
+use meaning::Mind;
+
+// What a transition comes to: it is taken, by the kind and number of a choice; there is none; or its plan would be too long.
+pub enum Transition {
+    Taken(u8, usize),
+    Nothing,
+    Full,
+}
+
+// What a transition comes to, and the mind after it. One that is not taken leaves mind and plan as they were. The mind stands
+// first, so that it is copied in whole words.
+pub struct Stepped {
+    pub mind: Mind,
+    pub transition: Transition,
+}
+
+// "After any transition, the guide's or a chosen one, the phase is the kind taken plus 1, modulo 3."
+fn taken(beliefs: [u8; 16], goals: [u8; 16], n: usize, kind: u8, i: usize) -> Stepped
+    requires { ⌜ (n ≤ 1024) × (kind < 3) ⌝ }
+    ensures { λ r. ⌜ r ≡ takenTo beliefs goals n kind i ⌝ }
+{
+    Stepped {
+        mind: Mind {
+            beliefs: beliefs,
+            goals: goals,
+            length: n as u16,
+            phase: (kind + 1) % 3,
+        },
+        transition: Transition::Taken(kind, i),
+    }
+}
+
+// Selection rule i: "The rule's plan becomes the plan."
+fn step_selection(card: &[u8], l: Layout, m: Mind, plan: &mut [u8; 1024], i: usize) -> Stepped
+    requires { ⌜ Ready l (now card) (lent m (now plan)) × Open l (now card) (lent m (now plan)) (select i) ⌝ }
+    ensures { λ r. ⌜ StepsBy l (now (card .entry)) (lent m (now (plan .entry))) (select i) r (now (plan .exit)) ⌝ }
+{
+    let e = read_selection(card, l, i);
+    let pool = l.pool;
+    let s = e.plan;
+    let b = m.beliefs;
+    let g = m.goals;
+    plans::replace_front(plan, 0, 0, card, pool.offset + s.start, s.length);
+    taken(b, g, s.length, 0, i)
+}
+
+// Specification i: "Beliefs become (beliefs with Add) without Del. Goals become goals without Add. The first action leaves the
+// plan."
+fn step_action(card: &[u8], l: Layout, m: Mind, plan: &mut [u8; 1024], i: usize) -> Stepped
+    requires { ⌜ Ready l (now card) (lent m (now plan)) × Open l (now card) (lent m (now plan)) (act i) ⌝ }
+    ensures { λ r. ⌜ StepsBy l (now (card .entry)) (lent m (now (plan .entry))) (act i) r (now (plan .exit)) ⌝ }
+{
+    let e = read_specification(card, l, i);
+    let n = m.length as usize;
+    let b = m.beliefs;
+    let g = m.goals;
+    let add = e.add;
+    let del = e.del;
+    let beliefs = sets::difference(sets::union(b, add), del);
+    let goals = sets::difference(g, add);
+    plans::drop_front(plan, n, 1);
+    taken(beliefs, goals, n - 1, 1, i)
+}
+
+// Revision rule i: "The body takes the head's place; the rest stays." A plan that would be too long is not made.
+fn step_revision(card: &[u8], l: Layout, m: Mind, plan: &mut [u8; 1024], i: usize) -> Stepped
+    requires { ⌜ Ready l (now card) (lent m (now plan)) × Open l (now card) (lent m (now plan)) (revise i) ⌝ }
+    ensures { λ r. ⌜ StepsBy l (now (card .entry)) (lent m (now (plan .entry))) (revise i) r (now (plan .exit)) ⌝ }
+{
+    let e = read_revision(card, l, i);
+    let pool = l.pool;
+    let head = e.head;
+    let body = e.body;
+    let n = m.length as usize;
+    let after = body.length + (n - head.length);
+    if 1024 < after {
+        return Stepped {
+            transition: Transition::Full,
+            mind: m,
+        };
+    }
+    let b = m.beliefs;
+    let g = m.goals;
+    plans::replace_front(
+        plan,
+        n,
+        head.length,
+        card,
+        pool.offset + body.start,
+        body.length,
+    );
+    taken(b, g, after, 2, i)
+}
+
+// The transition of an open choice, by its kind and number.
+pub fn step(card: &[u8], l: Layout, m: Mind, plan: &mut [u8; 1024], kind: u8, i: usize) -> Stepped
+    requires { ⌜ Ready l (now card) (lent m (now plan)) × (kind < 3) × Open l (now card) (lent m (now plan)) (choiceAt kind i) ⌝ }
+    ensures { λ r. ⌜ StepsBy l (now (card .entry)) (lent m (now (plan .entry))) (choiceAt kind i) r (now (plan .exit)) ⌝ }
+{
+    match kind {
+        0 => step_selection(card, l, m, plan, i),
+        1 => step_action(card, l, m, plan, i),
+        _ => step_revision(card, l, m, plan, i),
+    }
+}

@@ -1,0 +1,6 @@
+pub mod Numbers
+pub mod Order
+pub mod Step
+pub mod Listing
+pub mod Run
+pub mod Weight

@@ -1,0 +1,5 @@
+pub mod Order
+pub mod Step
+pub mod Run
+pub mod Weight
+pub mod Theorems
