@@ -13,6 +13,7 @@ ghost use Rattle.layout.specs.PlaceParts.{lent};
 ghost use Rattle.choices.specs.Ready.{Judged};
 ghost use Rattle.choices.specs.Asking.{askedBy, asked, choiceAt, chosen, firstOpen};
 use layout::entries::count_of;
+use layout::entries::pool_at;
 use layout::entries::read_revision;
 use layout::entries::read_selection;
 use layout::entries::read_specification;
@@ -107,9 +108,8 @@ fn ask_revision(
     ensures { λ r. ⌜ r ≡ asked (agentFor l (now (card .entry))) (stateOf (lent m (now (plan .entry))) .mental) (revise i) ⌝ }
 {
     let e = read_revision(card, l, i);
-    let pool = l.pool;
     let head = e.head;
-    let at = pool.offset + head.start;
+    let at = pool_at(l, head.start);
     let front = plans::starts_with(card, at, head.length, plan, m.length as usize);
     let belief = holds(marks, e.node);
     asked_by(front, belief)

@@ -2,8 +2,12 @@
 use Prim.Native.Nat.{ℕ, zero, suc}
 use Rattle.meaning.specs.declared.Layout.{Layout}
 
+-- one of three by a kind
+abbrev pub byKind : ℕ → ℕ → ℕ → ℕ → ℕ
+byKind zero selection action revision = selection
+byKind (suc zero) selection action revision = action
+byKind (suc (suc k)) selection action revision = revision
+
 -- how many choices a card has of a kind
 abbrev pub countOf : Layout → ℕ → ℕ
-countOf l zero = l .selections .count
-countOf l (suc zero) = l .specifications .count
-countOf l (suc (suc k)) = l .revisions .count
+countOf l k = byKind k (l .selections .count) (l .specifications .count) (l .revisions .count)

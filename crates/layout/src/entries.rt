@@ -5,7 +5,7 @@ ghost use lib.ListN.{length};
 ghost use Rattle.meaning.specs.Card.{entryAt, weightAt, nodeAt, specificationAt, selectionAt, revisionAt, initialBeliefs, initialGoals};
 ghost use Rattle.meaning.specs.Refusals.{endOf};
 ghost use Rattle.layout.specs.GoodLayout.{TwoByteSpan, GoodLayout};
-ghost use Rattle.layout.specs.Entries.{countOf};
+ghost use Rattle.layout.specs.Entries.{byKind, countOf};
 use crate::bytes::number_at;
 use crate::bytes::set_at;
 use crate::header::read_span;
@@ -24,15 +24,27 @@ fn entry_at(s: Section, size: usize, i: usize) -> usize
     s.offset + size * i
 }
 
+// One of three numbers by a kind of choice.
+fn by_kind(kind: u8, selection: usize, action: usize, revision: usize) -> usize
+    ensures { λ r. ⌜ r ≡ byKind kind selection action revision ⌝ }
+{
+    match kind {
+        0 => selection,
+        1 => action,
+        _ => revision,
+    }
+}
+
 // How many choices a card has of a kind: "the kind (0 selection, 1 action, 2 revision)".
 pub fn count_of(l: Layout, kind: u8) -> usize
     ensures { λ r. ⌜ r ≡ countOf l kind ⌝ }
 {
-    match kind {
-        0 => l.selections.count,
-        1 => l.specifications.count,
-        _ => l.revisions.count,
-    }
+    by_kind(
+        kind,
+        l.selections.count,
+        l.specifications.count,
+        l.revisions.count,
+    )
 }
 
 // "weights, one for each action": that of an action.
@@ -101,6 +113,15 @@ pub fn read_revision(card: &[u8], l: Layout, i: usize) -> RevisionEntry
         body: read_span(card, at + 6),
         zero: number_at(card, at + 10),
     }
+}
+
+// Where action i of the pool stands: "The pool is one byte an action."
+pub fn pool_at(l: Layout, i: usize) -> usize
+    requires { ⌜ (l .pool .offset ≤ 65535) × (i ≤ 65535) ⌝ }
+    ensures { λ r. ⌜ r ≡ l .pool .offset + i ⌝ }
+{
+    let pool = l.pool;
+    pool.offset + i
 }
 
 // "initial beliefs"

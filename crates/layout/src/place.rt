@@ -21,6 +21,21 @@ pub struct PlaceParts {
     pub goals: [u8; 16],
 }
 
+// "the plan's L bytes at 44": where they begin, and where all before them has ended.
+pub fn plan_at() -> usize
+    ensures { λ r. ⌜ r ≡ 44 ⌝ }
+{
+    44
+}
+
+// "Exactly 44 + L bytes."
+pub fn place_size(length: usize) -> usize
+    requires { ⌜ length ≤ 65535 ⌝ }
+    ensures { λ r. ⌜ r ≡ 44 + length ⌝ }
+{
+    plan_at() + length
+}
+
 // All of a place but its mark and its plan.
 pub fn read_parts(p: &[u8]) -> PlaceParts
     requires { ⌜ 44 ≤ length (now p) ⌝ }

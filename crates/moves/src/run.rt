@@ -49,7 +49,7 @@ fn ended(m: Mind, count: u16, ending: Ending) -> RanInPlace
 }
 
 // At most budget moves of the guide's own. The budget is looked at first. The nodes are judged at most once a move: their marks
-// stay true until an action. The mind is taken over field by field: no unused byte is copied.
+// stay true until an action.
 fn run_on(card: &[u8], l: Layout, m: Mind, plan: &mut [u8; 1024], budget: u16) -> RanInPlace
     requires { ⌜ Ready l (now card) (lent m (now plan)) ⌝ }
     ensures { λ r. ⌜ ranWith r (now (plan .exit)) ≡ ran (run (agentFor l (now (card .entry))) budget (stateOf (lent m (now (plan .entry))))) ⌝ }
@@ -64,14 +64,8 @@ fn run_on(card: &[u8], l: Layout, m: Mind, plan: &mut [u8; 1024], budget: u16) -
         let transition = s.transition;
         match transition {
             Transition::Taken(kind, _) => {
-                let d = s.mind;
-                let b = d.beliefs;
-                let g = d.goals;
                 known = kind != 1;
-                cur.beliefs = b;
-                cur.goals = g;
-                cur.length = d.length;
-                cur.phase = d.phase;
+                cur = s.mind;
                 count += 1;
             }
             Transition::Nothing => {

@@ -6,6 +6,7 @@ ghost use Rattle.layout.specs.PlaceParts.{lent};
 ghost use Rattle.choices.specs.Ready.{Ready};
 ghost use Rattle.choices.specs.Asking.{choiceAt};
 ghost use Rattle.moves.specs.Steps.{Open, StepsBy, takenTo};
+use layout::entries::pool_at;
 use layout::entries::read_revision;
 use layout::entries::read_selection;
 use layout::entries::read_specification;
@@ -48,11 +49,11 @@ fn step_selection(card: &[u8], l: Layout, m: Mind, plan: &mut [u8; 1024], i: usi
     ensures { λ r. ⌜ StepsBy l (now (card .entry)) (lent m (now (plan .entry))) (select i) r (now (plan .exit)) ⌝ }
 {
     let e = read_selection(card, l, i);
-    let pool = l.pool;
     let s = e.plan;
+    let at = pool_at(l, s.start);
     let b = m.beliefs;
     let g = m.goals;
-    plans::replace_front(plan, 0, 0, card, pool.offset + s.start, s.length);
+    plans::replace_front(plan, 0, 0, card, at, s.length);
     taken(b, g, s.length, 0, i)
 }
 
@@ -80,7 +81,6 @@ fn step_revision(card: &[u8], l: Layout, m: Mind, plan: &mut [u8; 1024], i: usiz
     ensures { λ r. ⌜ StepsBy l (now (card .entry)) (lent m (now (plan .entry))) (revise i) r (now (plan .exit)) ⌝ }
 {
     let e = read_revision(card, l, i);
-    let pool = l.pool;
     let head = e.head;
     let body = e.body;
     let n = m.length as usize;
@@ -93,14 +93,8 @@ fn step_revision(card: &[u8], l: Layout, m: Mind, plan: &mut [u8; 1024], i: usiz
     }
     let b = m.beliefs;
     let g = m.goals;
-    plans::replace_front(
-        plan,
-        n,
-        head.length,
-        card,
-        pool.offset + body.start,
-        body.length,
-    );
+    let at = pool_at(l, body.start);
+    plans::replace_front(plan, n, head.length, card, at, body.length);
     taken(b, g, after, 2, i)
 }
 

@@ -1,7 +1,8 @@
 // A place judged against the card that it is given with: rows 1, 2, 3, 4, 8 and 9 of the refusal table in their order, for
 // every byte string. Each function asks one row and, where it is passed, calls the next.
 ghost use mathlib.Core.Path.{_≡_};
-ghost use Prim.Native.Nat.{_+_, _≤_};
+ghost use Prim.Native.Nat.{_≤_};
+ghost use lib.Dec.{leb};
 ghost use lib.ListN.{length, drop};
 ghost use Rattle.meaning.specs.Refusals.{actionsGood, placeCountsGood, placeOffsetsGood, firstGiven, placeTable};
 ghost use Rattle.layout.specs.PlaceParts.{placeParts};
@@ -10,6 +11,8 @@ use card::check::row;
 use card::contents::actions_good;
 use layout::bytes::mark_good;
 use layout::place::PlaceParts;
+use layout::place::place_size;
+use layout::place::plan_at;
 use layout::place::read_parts;
 use meaning::Answer;
 use meaning::Layout;
@@ -30,7 +33,8 @@ fn plan_good(p: &[u8], actions: usize) -> bool
     requires { ⌜ 44 ≤ length (now p) ⌝ }
     ensures { λ r. ⌜ r ≡ actionsGood actions (drop 44 (now (p .entry))) ⌝ }
 {
-    actions_good(p, 44, p.len() - 44, actions)
+    let at = plan_at();
+    actions_good(p, at, p.len() - at, actions)
 }
 
 // Row 8, then 9.
@@ -50,7 +54,7 @@ fn offsets_good(p: &[u8], h: PlaceParts) -> bool
     requires { ⌜ (h ≡ placeParts (now p)) × (h .length ≤ 65535) ⌝ }
     ensures { λ r. ⌜ r ≡ placeOffsetsGood (now (p .entry)) ⌝ }
 {
-    (h.offset == 44) & (p.len() == 44 + h.length)
+    (h.offset == plan_at()) & (p.len() == place_size(h.length))
 }
 
 // Row 4, then 8 and 9.
@@ -98,12 +102,19 @@ fn from_mark(l: Layout, p: &[u8]) -> Answer
     from_counts(l, p)
 }
 
-// The number that a place is answered with. Row 1: "place under 44".
+// Not row 1: "place under 44".
+fn length_good(p: &[u8]) -> bool
+    ensures { λ r. ⌜ r ≡ leb 44 (length (now (p .entry))) ⌝ }
+{
+    plan_at() <= p.len()
+}
+
+// The number that a place is answered with.
 pub fn judge_place(l: Layout, p: &[u8]) -> Answer
     requires { ⌜ l .atoms ≤ 128 ⌝ }
     ensures { λ r. ⌜ r ≡ firstGiven (placeTable l) (now (p .entry)) ⌝ }
 {
-    let a = row(44 <= p.len(), Refusal::Short);
+    let a = row(length_good(p), Refusal::Short);
     let Answer::Done = a else {
         return a;
     };

@@ -13,6 +13,7 @@ use choices::in_place::ReplyInPlace;
 use layout::bytes::size;
 use layout::entries::initial_beliefs;
 use layout::entries::initial_goals;
+use layout::entries::pool_at;
 use meaning::Answer;
 use meaning::Checked;
 use meaning::Layout;
@@ -23,12 +24,12 @@ fn first(card: &[u8], l: Layout, plan: &mut [u8; 1024]) -> Mind
     requires { ⌜ GoodCard l (now card) × (length (now plan) ≡ 1024) ⌝ }
     ensures { λ r. ⌜ lent r (now (plan .exit)) ≡ configurationOf (start (now (card .entry))) ⌝ }
 {
-    let pool = l.pool;
     let initial = l.initial;
     let n = initial.length;
+    let at = pool_at(l, initial.start);
     let beliefs = initial_beliefs(card);
     let goals = initial_goals(card);
-    plans::fill(plan, card, pool.offset + initial.start, n);
+    plans::fill(plan, card, at, n);
     Mind {
         beliefs: beliefs,
         goals: goals,

@@ -13,6 +13,7 @@ use card::check::answer_of;
 use card::check::check;
 use choices::in_place::ReplyInPlace;
 use layout::bytes::size;
+use layout::place::plan_at;
 use layout::place::read_parts;
 use meaning::Answer;
 use meaning::Checked;
@@ -27,12 +28,14 @@ fn read(p: &[u8], plan: &mut [u8; 1024]) -> Mind
     let n = h.length;
     let beliefs = h.beliefs;
     let goals = h.goals;
-    plans::fill(plan, p, 44, n);
+    let length = n as u16;
+    let phase = h.phase as u8;
+    plans::fill(plan, p, plan_at(), n);
     Mind {
         beliefs: beliefs,
         goals: goals,
-        length: n as u16,
-        phase: h.phase as u8,
+        length: length,
+        phase: phase,
     }
 }
 

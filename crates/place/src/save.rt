@@ -7,6 +7,7 @@ use card::check::answer_of;
 use card::check::check;
 use choices::configuration::judge_configuration;
 use choices::in_place::WrittenInPlace;
+use layout::place::place_size;
 use layout::place::write_place;
 use meaning::Answer;
 use meaning::Checked;
@@ -33,16 +34,17 @@ pub fn save(card: &[u8], m: Mind, plan: &[u8; 1024], out: &mut [u8]) -> WrittenI
             count: 0,
         };
     };
-    let n = 44 + m.length;
-    if out.len() < n as usize {
+    let n = place_size(m.length as usize);
+    if out.len() < n {
         return WrittenInPlace {
             answer: Answer::Refused(Refusal::NoRoom),
             count: 0,
         };
     }
+    let count = n as u16;
     write_place(m, plan, out);
     WrittenInPlace {
         answer: Answer::Done,
-        count: n,
+        count: count,
     }
 }

@@ -14,8 +14,8 @@ use Rattle.paper.specs.Transitions.{Choice, select, act, revise, Entry, Step, e
 use Rattle.paper.specs.Next.{enabled}
 use Rattle.paper.proofs.Relation.{none≢some, some-inj, false≢true, enabled-exactly}
 use Rattle.runs.specs.Order.{State, kind, numbers, ofKind, inTurn, first, guide}
-use Rattle.runs.specs.Step.{after}
 use Rattle.runs.specs.Theorems.{AtRest, GuideTakes, OrderLaw}
+use Rattle.runs.proofs.Step.{phase-after}
 
 -- ---- every choice that has a transition is tried
 
@@ -119,7 +119,7 @@ no-step : (A : Agent) {c c′ : Config} {k : Choice} → enabled A c k ≡ false
 no-step A {c} {c′} {k} h s = false≢true (sym h ∙ enabled-exactly A c k .1 (c′, s))
 
 pub guide-takes : (A : Agent) (s : State) (k : Choice) → guide A s ≡ some k → GuideTakes A s k
-unfolding guide after
+unfolding guide
 guide-takes A s k e =
     let f = found (enabled A (s .mental)) (inTurn A (s .phase)) k e in
     record {
@@ -128,7 +128,7 @@ guide-takes A s k e =
       behind = f .behind;
       tried = f .split;
       passed = λ j i c x. no-step A (f .failing j i) x;
-      phase = λ c. refl;
+      phase = λ s′. phase-after A s s′ k;
     }
 
 pub rests : (A : Agent) (s : State) → (guide A s ≡ none) ↔ AtRest A (s .mental)

@@ -11,7 +11,7 @@ use Rattle.runs.specs.declared.Ending.{Ending}
 use Rattle.runs.specs.declared.Offender.{Offender}
 use Rattle.runs.specs.declared.Verdict.{Verdict}
 use Rattle.runs.specs.Order.{State, kind, inTurn, guide, code, enabledCodes}
-use Rattle.runs.specs.Step.{after}
+use Rattle.runs.specs.Step.{after, to, step}
 use Rattle.runs.specs.Run.{Chain, Outcome, run}
 use Rattle.runs.specs.Weight.{weigh, Bounded, verdict, selections}
 
@@ -34,7 +34,7 @@ pub record GuideTakes (A : Agent) (s : State) (k : Choice) : Type 0 where
   -- number is taken.": none of the choices tried before it has a transition.
   pub passed : (j : Choice) → List·Memᴰ j before → (c : Config) → Step A (s .mental) j c → ⊥
   -- 01, "A configuration and its transitions", The guide's order: "the phase is the kind taken plus 1, modulo 3"
-  pub phase : (c : Config) → after s k c .phase ≡ (kind k + 1) % 3
+  pub phase : (s′ : State) → step A s k ≡ to k s′ → s′ .phase ≡ (kind k + 1) % 3
 
 -- 00, demand 2: "The guide's own order is document 01's."
 pub record OrderLaws (A : Agent) (s : State) : Type 0 where

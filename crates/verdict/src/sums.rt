@@ -7,6 +7,7 @@ ghost use Rattle.meaning.specs.Card.{weight, part};
 ghost use Rattle.card.specs.GoodCard.{GoodCard, GoodSpan};
 ghost use Rattle.verdict.specs.Summed.{Summed};
 ghost use Rattle.verdict.specs.Verdicts.{planWeight};
+use layout::entries::pool_at;
 use layout::entries::read_weight;
 use meaning::Layout;
 use meaning::Span;
@@ -24,8 +25,7 @@ fn part_weight(card: &[u8], l: Layout, from: usize, n: usize) -> usize
     requires { ⌜ GoodCard l (now card) × (from + n ≤ l .pool .count) ⌝ }
     ensures { λ r. ⌜ r ≡ weigh (weight (now (card .entry))) (part (now (card .entry)) (l .pool .offset + from) n) ⌝ }
 {
-    let pool = l.pool;
-    let at = pool.offset + from;
+    let at = pool_at(l, from);
     let mut total: usize = 0;
     let mut i: usize = 0;
     while i < n {

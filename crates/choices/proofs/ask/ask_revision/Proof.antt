@@ -1,6 +1,6 @@
 use mathlib.Core.Path.{sym, ap, ap₂, _∙_, subst}
 use Rattle.layout.specs.PlaceParts.{lent}
-use Rattle.meaning.specs.Card.{plan}
+use Rattle.meaning.specs.Card.{part, plan}
 use Rattle.paper.specs.Next.{isPrefix}
 use mathlib.Core.Bool.{false}
 use Rattle.choices.specs.Asking.{askedBy}
@@ -17,19 +17,20 @@ use Rattle.choices.proofs.ask.ask_revision.Tie as tie
 read-revision-requires : tie.Need-read-revision-requires
 read-revision-requires c κs = search needs
 
-add-at : tie.Need-add-at
-add-at c = search needs
+pool-at-requires : tie.Need-pool-at-requires
+pool-at-requires c κs = search needs
 
 cast-starts-with : tie.Need-cast-starts-with
 cast-starts-with c = search needs
 
 starts-with-requires : tie.Need-starts-with-requires
 starts-with-requires c κs =
-    let a = c .before .before .before .before .before .before .before .args in
-    let r = c .before .before .before .before .before .before .before .pre .0 .ready in
-    let e = ap (λ (x : RevisionEntry). x .head) (c .before .before .before .before .before .read-revision .ensures .0) in
-    let g = r .card .revisions (a .i) (c .before .before .before .before .before .before .before .pre .1) .head in
+    let a = c .before .before .before .before .before .args in
+    let r = c .before .before .before .before .before .pre .0 .ready in
+    let e = ap (λ (x : RevisionEntry). x .head) (c .before .before .before .read-revision .ensures .0) in
+    let g = r .card .revisions (a .i) (c .before .before .before .before .before .pre .1) .head in
     let h = subst (GoodSpan (a .l) 1) (sym e) g in
+    let at = c .before .pool-at .ensures in
     (h .some, (let x = h .inside in let y = r .card .layout .ends in omega arith), r .fits, r .room)
 
 holds-requires : tie.Need-holds-requires
@@ -41,18 +42,19 @@ asked-by-requires c κs = search needs
 returns : tie.Need-returns
 unfolding plan
 returns c =
-    let a = c .before .before .before .before .before .before .before .before .before .before .args in
-    let e = c .before .before .before .before .before .before .before .before .read-revision .ensures .0 in
+    let a = c .before .before .before .before .before .before .before .before .args in
+    let e = c .before .before .before .before .before .before .read-revision .ensures .0 in
     let b = c .before .holds .ensures ∙ ap (λ (x : RevisionEntry). getD (now (a .marks)) (x .node) false) e in
-    let f = c .before .before .starts-with .ensures ∙ ap (λ (x : RevisionEntry). isPrefix (plan (a .l) (now (a .card)) (x .head)) (take (a .m .length) (now (a .plan)))) e in
-    c .asked-by .ensures ∙ ap₂ askedBy f b ∙ asks-revision (a .l) (now (a .card)) (lent (a .m) (now (a .plan))) (now (a .marks)) (c .before .before .before .before .before .before .before .before .before .before .pre .0) (a .i) (c .before .before .before .before .before .before .before .before .before .before .pre .1)
+    let at = c .before .before .before .before .pool-at .ensures in
+    let f = c .before .before .starts-with .ensures ∙ (λ j. isPrefix (part (now (a .card)) (at j) (c .before .before .before .before .before .before .read-revision .result .head .length)) (take (a .m .length) (now (a .plan)))) ∙ ap (λ (x : RevisionEntry). isPrefix (plan (a .l) (now (a .card)) (x .head)) (take (a .m .length) (now (a .plan)))) e in
+    c .asked-by .ensures ∙ ap₂ askedBy f b ∙ asks-revision (a .l) (now (a .card)) (lent (a .m) (now (a .plan))) (now (a .marks)) (c .before .before .before .before .before .before .before .before .pre .0) (a .i) (c .before .before .before .before .before .before .before .before .pre .1)
 
 pub ask-revision-spec : {M : Type 1} → statement M
 ask-revision-spec =
     tie.close
     (tie.spec
     read-revision-requires
-    add-at
+    pool-at-requires
     cast-starts-with
     starts-with-requires
     holds-requires

@@ -49,11 +49,11 @@ loop-less c = search needs
 
 loop-again : tie.Need-loop-again Inv-loop μ-loop
 loop-again c =
-    let a = c .before .before .before .before .before .before .before .before .before .before .before .before .before .before .before .args in
-    let l = c .before .before .before .before .before .before .before .before .before .before .before .before .loop in
-    let s = c .before .before .before .before .before .before .advance in
-    let x = running-moved (a .l) (now (a .card)) (a .budget) (stateOf (lent (a .m) (now (a .plan)))) (lent (l .cur) (l .plan)) (l .count) (l .inv .0) (omega arith) (s .result) (s .last .1 .1 .1 .0) (s .ensures) _ _ (c .before .before .before .before .transition .given .1) in
-    (x .goes, c .before .before .before .before .before .before .before .before .before .refresh .ensures .1, λ h. x .keeps h (c .before .before .before .before .before .before .before .before .before .refresh .last .1 .1 .1 .1 .0) (c .before .before .before .before .before .before .before .before .before .refresh .ensures .0))
+    let a = c .before .before .before .before .before .before .before .before .before .before .before .before .before .args in
+    let l = c .before .before .before .before .before .before .before .before .before .before .loop in
+    let s = c .before .before .before .before .advance in
+    let x = running-moved (a .l) (now (a .card)) (a .budget) (stateOf (lent (a .m) (now (a .plan)))) (lent (l .cur) (l .plan)) (l .count) (l .inv .0) (omega arith) (s .result) (s .last .1 .1 .1 .0) (s .ensures) _ _ (c .before .before .transition .given .1) in
+    (x .goes, c .before .before .before .before .before .before .before .refresh .ensures .1, λ h. x .keeps h (c .before .before .before .before .before .before .before .refresh .last .1 .1 .1 .1 .0) (c .before .before .before .before .before .before .before .refresh .ensures .0))
 
 enum-told : tie.Need-enum-told Inv-loop μ-loop
 enum-told c = search needs

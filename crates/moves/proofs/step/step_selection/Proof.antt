@@ -1,6 +1,6 @@
 use Rattle.moves.specs.declared.step.Stepped.{Stepped}
 use Rattle.meaning.specs.Configurations.{padded, configurationOf}
-use Rattle.meaning.specs.Card.{plan, selectionAt}
+use Rattle.meaning.specs.Card.{part, plan, selectionAt}
 use Rattle.runs.specs.Order.{kind, number}
 use Rattle.runs.specs.Step.{Reached}
 use Rattle.card.specs.GoodCard.{GoodSpan}
@@ -22,41 +22,42 @@ read-selection-requires c κs =
     let a = c .before .args in
     (c .before .pre .0 .card .layout, selection-known (a .l) (now (a .card)) (lent (a .m) (now (a .plan))) (c .before .pre .0) (a .i) (c .before .pre .1))
 
-add-replace-front : tie.Need-add-replace-front
-add-replace-front c = search needs
+pool-at-requires : tie.Need-pool-at-requires
+pool-at-requires c κs = search needs
 
 replace-front-requires : tie.Need-replace-front-requires
 replace-front-requires c κs =
-    let a = c .before .before .before .before .before .before .before .before .before .args in
-    let z = plan-empty (a .l) (now (a .card)) (lent (a .m) (now (a .plan))) (c .before .before .before .before .before .before .before .before .before .pre .0) (a .i) (c .before .before .before .before .before .before .before .before .before .pre .1) in
-    let k = selection-known (a .l) (now (a .card)) (lent (a .m) (now (a .plan))) (c .before .before .before .before .before .before .before .before .before .pre .0) (a .i) (c .before .before .before .before .before .before .before .before .before .pre .1) in
-    let e = ap (λ (x : SelectionEntry). x .plan) (c .before .before .before .before .before .before .before .read-selection .ensures .0) in
-    let g = subst (GoodSpan (a .l) 1) (sym e) (c .before .before .before .before .before .before .before .before .before .pre .0 .card .selections (a .i) k .plan) in
+    let a = c .before .before .before .before .before .before .before .args in
+    let z = plan-empty (a .l) (now (a .card)) (lent (a .m) (now (a .plan))) (c .before .before .before .before .before .before .before .pre .0) (a .i) (c .before .before .before .before .before .before .before .pre .1) in
+    let k = selection-known (a .l) (now (a .card)) (lent (a .m) (now (a .plan))) (c .before .before .before .before .before .before .before .pre .0) (a .i) (c .before .before .before .before .before .before .before .pre .1) in
+    let e = ap (λ (x : SelectionEntry). x .plan) (c .before .before .before .before .before .read-selection .ensures .0) in
+    let g = subst (GoodSpan (a .l) 1) (sym e) (c .before .before .before .before .before .before .before .pre .0 .card .selections (a .i) k .plan) in
     let x = g .inside in
     let y = g .fits in
-    let w = c .before .before .before .before .before .before .before .before .before .pre .0 .card .layout .ends in
-    (omega arith, omega arith, omega arith, omega arith, rw z at (c .before .before .before .before .before .before .before .before .before .pre .0 .zeros))
+    let w = c .before .before .before .before .before .before .before .pre .0 .card .layout .ends in
+    let at = c .before .before .before .pool-at .ensures in
+    (omega arith, omega arith, omega arith, omega arith, rw z at (c .before .before .before .before .before .before .before .pre .0 .zeros))
 
 taken-requires : tie.Need-taken-requires
 taken-requires c κs =
-    let a = c .before .before .before .before .before .before .before .before .before .before .args in
-    let k = selection-known (a .l) (now (a .card)) (lent (a .m) (now (a .plan))) (c .before .before .before .before .before .before .before .before .before .before .pre .0) (a .i) (c .before .before .before .before .before .before .before .before .before .before .pre .1) in
-    let e = ap (λ (x : SelectionEntry). x .plan) (c .before .before .before .before .before .before .before .before .read-selection .ensures .0) in
-    let g = subst (GoodSpan (a .l) 1) (sym e) (c .before .before .before .before .before .before .before .before .before .before .pre .0 .card .selections (a .i) k .plan) in
+    let a = c .before .before .before .before .before .before .before .before .args in
+    let k = selection-known (a .l) (now (a .card)) (lent (a .m) (now (a .plan))) (c .before .before .before .before .before .before .before .before .pre .0) (a .i) (c .before .before .before .before .before .before .before .before .pre .1) in
+    let e = ap (λ (x : SelectionEntry). x .plan) (c .before .before .before .before .before .before .read-selection .ensures .0) in
+    let g = subst (GoodSpan (a .l) 1) (sym e) (c .before .before .before .before .before .before .before .before .pre .0 .card .selections (a .i) k .plan) in
     (g .fits, omega arith)
 
 returns : tie.Need-returns
 unfolding plan configurationOf kind number
 returns c =
-    let a = c .before .before .before .before .before .before .before .before .before .before .before .args in
+    let a = c .before .before .before .before .before .before .before .before .before .args in
     let b = now (a .card) in
     let d = lent (a .m) (now (a .plan)) in
-    let k = selection-known (a .l) (now (a .card)) (lent (a .m) (now (a .plan))) (c .before .before .before .before .before .before .before .before .before .before .before .pre .0) (a .i) (c .before .before .before .before .before .before .before .before .before .before .before .pre .1) in
-    let t = selects-to (a .l) (now (a .card)) (lent (a .m) (now (a .plan))) (c .before .before .before .before .before .before .before .before .before .before .before .pre .0) (a .i) (c .before .before .before .before .before .before .before .before .before .before .before .pre .1) in
-    let e = ap (λ (x : SelectionEntry). x .plan) (c .before .before .before .before .before .before .before .before .before .read-selection .ensures .0) in
-    let n = ap (λ (x : SelectionEntry). x .plan .length) (c .before .before .before .before .before .before .before .before .before .read-selection .ensures .0) ∙ sym (plan-length (a .l) b d (c .before .before .before .before .before .before .before .before .before .before .before .pre .0) (a .i) 1 (selectionAt (a .l) b (a .i) .plan) (c .before .before .before .before .before .before .before .before .before .before .before .pre .0 .card .selections (a .i) k .plan)) in
+    let k = selection-known (a .l) (now (a .card)) (lent (a .m) (now (a .plan))) (c .before .before .before .before .before .before .before .before .before .pre .0) (a .i) (c .before .before .before .before .before .before .before .before .before .pre .1) in
+    let t = selects-to (a .l) (now (a .card)) (lent (a .m) (now (a .plan))) (c .before .before .before .before .before .before .before .before .before .pre .0) (a .i) (c .before .before .before .before .before .before .before .before .before .pre .1) in
+    let e = ap (λ (x : SelectionEntry). x .plan) (c .before .before .before .before .before .before .before .read-selection .ensures .0) in
+    let n = ap (λ (x : SelectionEntry). x .plan .length) (c .before .before .before .before .before .before .before .read-selection .ensures .0) ∙ sym (plan-length (a .l) b d (c .before .before .before .before .before .before .before .before .before .pre .0) (a .i) 1 (selectionAt (a .l) b (a .i) .plan) (c .before .before .before .before .before .before .before .before .before .pre .0 .card .selections (a .i) k .plan)) in
     let r = c .taken .ensures in
-    let q = c .before .replace-front .ensures ∙ ap padded (append-nil _ ∙ ap (plan (a .l) b) e) in (
+    let q = c .before .replace-front .ensures ∙ ap padded (append-nil _ ∙ (λ j. part b (c .before .before .before .before .before .pool-at .ensures j) (c .before .before .before .before .before .before .before .read-selection .result .plan .length)) ∙ ap (plan (a .l) b) e) in (
       ap (λ (x : Stepped). x .transition) r ∙ ap transitionOf (sym t),
       (λ j. lent (r j .mind) (q j)) ∙ (λ j. lent (record { beliefs = a .m .beliefs; goals = a .m .goals; length = n j; phase = 1 }) (padded (plan (a .l) b (selectionAt (a .l) b (a .i) .plan)))) ∙ ap (λ (x : Reached). configurationAfter x d) (sym t),
     )
@@ -66,7 +67,7 @@ step-selection-spec =
     tie.close
     (tie.spec
     read-selection-requires
-    add-replace-front
+    pool-at-requires
     replace-front-requires
     taken-requires
     returns)

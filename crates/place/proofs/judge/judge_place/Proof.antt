@@ -1,14 +1,16 @@
 use borrow.Author.Tests.{leb-true}
-use lib.Dec.{leb}
 use Rattle.meaning.specs.Refusals.{placeTable}
 use Rattle.card.specs.Rows.{rowsFrom}
 use Rattle.card.proofs.Rows.{stops, goes-on, row-done}
-use mathlib.Core.Path.{refl, sym, _∙_}
+use mathlib.Core.Bool.{not}
+use mathlib.Core.Path.{sym, ap, _∙_}
 use borrow.Author.Needs.{needs}
 use denote.Ref.{now}
-use lib.ListN.{length}
 use Rattle.place.proofs.judge.judge_place.Statement.{statement}
 use Rattle.place.proofs.judge.judge_place.Tie as tie
+
+length-good-requires : tie.Need-length-good-requires
+length-good-requires c κs = search needs
 
 row-requires : tie.Need-row-requires
 row-requires c κs = search needs
@@ -22,20 +24,31 @@ enum-told-2 c = search needs
 returns : tie.Need-returns
 unfolding placeTable
 returns c =
-    let b = now (c .before .before .before .before .args .p) in
-    stops _ _ b (leb 44 (length b)) refl (c .before .before .row .result) (c .before .before .row .ensures) _ (c .enum-told2 .given .1)
+    let b = now (c .before .before .before .before .before .args .p) in
+    let good = c .before .before .before .length-good in
+    stops _ _ b (good .result) (ap not (sym (good .ensures))) (c .before .before .row .result) (c .before .before .row .ensures) _ (c .enum-told2 .given .1)
 
 from-mark-requires : tie.Need-from-mark-requires
 from-mark-requires c κs =
-    (leb-true 44 _ (row-done _ _ (sym (c .before .before .row .ensures) ∙ c .enum-told .given .1)), c .before .before .before .before .pre)
+    let good = row-done _ _ (sym (c .before .before .row .ensures) ∙ c .enum-told .given .1) in
+    (leb-true 44 _ (sym (c .before .before .before .length-good .ensures) ∙ good), c .before .before .before .before .before .pre)
 
 returns-2 : tie.Need-returns-2
 unfolding rowsFrom placeTable
 returns-2 c =
-    let b = now (c .before .before .before .before .before .args .p) in
+    let b = now (c .before .before .before .before .before .before .args .p) in
+    let good = c .before .before .before .before .length-good in
     let told = c .before .before .before .row in
-    c .from-mark .ensures ∙ sym (goes-on _ _ b (leb 44 (length b)) refl (told .result) (told .ensures) (c .before .enum-told .given .1))
+    c .from-mark .ensures ∙ sym (goes-on _ _ b (good .result) (ap not (sym (good .ensures))) (told .result) (told .ensures) (c .before .enum-told .given .1))
 
 pub judge-place-spec : {M : Type 1} → statement M
 judge-place-spec =
-    tie.close (tie.spec row-requires enum-told enum-told-2 returns from-mark-requires returns-2)
+    tie.close
+    (tie.spec
+    length-good-requires
+    row-requires
+    enum-told
+    enum-told-2
+    returns
+    from-mark-requires
+    returns-2)

@@ -2,18 +2,23 @@ use Rattle.layout.specs.declared.place.PlaceParts.{PlaceParts}
 use lib.Dec.{eqb}
 use lib.ListN.{length}
 use mathlib.Core.Bool.{_&&_}
-use mathlib.Core.Path.{ap}
+use mathlib.Core.Path.{ap, _∙_}
 use Prim.Native.Nat.{_+_}
 use borrow.Author.Needs.{needs}
 use denote.Ref.{now}
 use Rattle.place.proofs.judge.offsets_good.Statement.{statement}
 use Rattle.place.proofs.judge.offsets_good.Tie as tie
 
-add-result : tie.Need-add-result
-add-result c = search needs
+plan-at-requires : tie.Need-plan-at-requires
+plan-at-requires c κs = search needs
+
+place-size-requires : tie.Need-place-size-requires
+place-size-requires c κs = search needs
 
 returns : tie.Need-returns
-returns c = ap (λ (h : PlaceParts). eqb (h .offset) 44 && eqb (length (now (c .before .before .args .p))) (44 + h .length)) (c .before .before .pre .0)
+returns c =
+    let a = c .before .before .before .before .args in
+    (λ i. eqb (a .h .offset) (c .before .before .plan-at .ensures i) && eqb (length (now (a .p))) (c .place-size .ensures i)) ∙ ap (λ (h : PlaceParts). eqb (h .offset) 44 && eqb (length (now (c .before .before .before .before .args .p))) (44 + h .length)) (c .before .before .before .before .pre .0)
 
 pub offsets-good-spec : {M : Type 1} → statement M
-offsets-good-spec = tie.close (tie.spec add-result returns)
+offsets-good-spec = tie.close (tie.spec plan-at-requires place-size-requires returns)

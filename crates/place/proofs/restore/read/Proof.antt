@@ -14,31 +14,34 @@ use Rattle.place.proofs.restore.read.Tie as tie
 read-parts-requires : tie.Need-read-parts-requires
 read-parts-requires c κs = search needs
 
-fill-requires : tie.Need-fill-requires
-fill-requires c κs =
-    let e = ap (λ (h : PlaceParts). h .length) (c .before .before .before .read-parts .ensures .0) in
+cast-length : tie.Need-cast-length
+cast-length c = search needs
+
+cast-phase : tie.Need-cast-phase
+cast-phase c =
+    let e = ap (λ (h : PlaceParts). h .phase) (c .before .before .before .read-parts .ensures .0) in
     search (needs, e)
 
-cast-t9 : tie.Need-cast-t9
-cast-t9 c = search needs
+plan-at-requires : tie.Need-plan-at-requires
+plan-at-requires c κs = search needs
 
-cast-t10 : tie.Need-cast-t10
-cast-t10 c =
-    let e = ap (λ (h : PlaceParts). h .phase) (c .before .before .before .before .before .read-parts .ensures .0) in
+fill-requires : tie.Need-fill-requires
+fill-requires c κs =
+    let e = ap (λ (h : PlaceParts). h .length) (c .before .before .before .before .before .read-parts .ensures .0) in
     search (needs, e)
 
 returns : tie.Need-returns
 unfolding configurationOf placed part
 returns c =
-    let b = now (c .before .before .before .before .before .before .before .args .p) in
-    let t = c .before .before .before .before .before .before .before .pre .0 .ends in
-    let h = c .before .before .before .before .before .read-parts .ensures .0 in
-    let n = c .before .before .before .before .before .read-parts .result .length in
+    let b = now (c .before .before .before .before .before .before .before .before .args .p) in
+    let t = c .before .before .before .before .before .before .before .before .pre .0 .ends in
+    let h = c .before .before .before .before .before .before .read-parts .ensures .0 in
+    let n = c .before .before .before .before .before .before .read-parts .result .length in
     let e : n ≡ numberAt b 4 = ap (λ (x : PlaceParts). x .length) h in
     let l : length (drop 44 b) ≡ n = length-drop 44 b ∙ omega arith in
     let π : part b 44 n ≡ drop 44 b = take-all n (drop 44 b) (omega arith) in
-    let q = c .before .fill .ensures ∙ ap padded π in
+    let q = c .fill .ensures ∙ (λ i. padded (part b (c .before .plan-at .ensures i) n)) ∙ ap padded π in
     λ i. record { mind = record { beliefs = h i .beliefs; goals = h i .goals; length = sym l i; phase = h i .phase }; plan = q i }
 
 pub read-spec : {M : Type 1} → statement M
-read-spec = tie.close (tie.spec read-parts-requires fill-requires cast-t9 cast-t10 returns)
+read-spec = tie.close (tie.spec read-parts-requires cast-length cast-phase plan-at-requires fill-requires returns)

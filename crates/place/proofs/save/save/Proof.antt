@@ -1,3 +1,6 @@
+use Rattle.meaning.specs.declared.Answer.the-variants.{Done, Refused}
+use Rattle.meaning.specs.declared.Refusal.the-variants.{NoRoom}
+use Rattle.meaning.specs.Calls.{written, saves, saveLeaves}
 use Rattle.place.proofs.Laws.{save-refused, save-no-room, save-done}
 use Rattle.card.specs.Rows.{answerOf}
 use Rattle.choices.proofs.Accepting.{accepted-card, card-refused, judged-so, is-ready}
@@ -55,8 +58,11 @@ returns-2 c =
     let e = c .enum-told3 .given .1 in
     save-refused b d (now (a .out)) _ (judged-so b d _ g (j .result) (j .ensures .0) ∙ e) _ e
 
-add-n : tie.Need-add-n
-add-n c =
+cast-place-size : tie.Need-cast-place-size
+cast-place-size c = search needs
+
+place-size-requires : tie.Need-place-size-requires
+place-size-requires c κs =
     let a = c .before .before .before .before .before .before .before .before .before .before .args in
     let b = now (a .card) in
     let d = lent (a .m) (now (a .plan)) in
@@ -66,43 +72,60 @@ add-n c =
     let h = r .fits in
     search (needs, h)
 
-cast-if1 : tie.Need-cast-if1
-cast-if1 c = search needs
-
-returns-3 : tie.Need-returns-3
-returns-3 c =
-    let a = c .before .before .before .before .before .before .before .before .before .before .before .args in
+-- "the lent list or place buffer is too short"
+no-room : (c : tie.Then1) →
+    let a = c .before .before .before .before .before .before .before .before .before .before .before .before .args in
+    let d = lent (a .m) (now (a .plan)) in
+    (written (Refused NoRoom) 0 d ≡ saves (now (a .card)) d (now (a .out))) × (now (a .out) ≡ saveLeaves (now (a .card)) d (now (a .out)))
+no-room c =
+    let a = c .before .before .before .before .before .before .before .before .before .before .before .before .args in
     let b = now (a .card) in
     let d = lent (a .m) (now (a .plan)) in
-    let j = c .before .before .before .before .judge-configuration in
-    let g = sym (c .before .before .before .before .before .before .before .before .check .ensures) ∙ c .before .before .before .before .before .before .checked .given .1 in
-    let e = judged-so b d _ g (j .result) (j .ensures .0) ∙ c .before .before .enum-told2 .given .1 in
-    let r = is-ready b d _ g (j .result) (j .ensures .0) (c .before .before .enum-told2 .given .1) (j .ensures .1) in
-    save-no-room b d (now (a .out)) _ e r (lb (c .before .before .before .before .before .before .before .before .before .before .before)) (lg (c .before .before .before .before .before .before .before .before .before .before .before)) (c .if1 .taken)
+    let j = c .before .before .before .before .before .judge-configuration in
+    let g = sym (c .before .before .before .before .before .before .before .before .before .check .ensures) ∙ c .before .before .before .before .before .before .before .checked .given .1 in
+    let e = judged-so b d _ g (j .result) (j .ensures .0) ∙ c .before .before .before .enum-told2 .given .1 in
+    let r = is-ready b d _ g (j .result) (j .ensures .0) (c .before .before .before .enum-told2 .given .1) (j .ensures .1) in
+    save-no-room b d (now (a .out)) _ e r (lb (c .before .before .before .before .before .before .before .before .before .before .before .before)) (lg (c .before .before .before .before .before .before .before .before .before .before .before .before)) (rw (c .before .place-size .ensures) at (c .if1 .taken))
 
-write-place-requires : tie.Need-write-place-requires
-write-place-requires c κs =
+returns-3 : tie.Need-returns-3
+returns-3 c = no-room c
+
+cast-count : tie.Need-cast-count
+cast-count c =
     let a = c .before .before .before .before .before .before .before .before .before .before .before .before .args in
     let b = now (a .card) in
     let d = lent (a .m) (now (a .plan)) in
     let j = c .before .before .before .before .before .judge-configuration in
     let g = sym (c .before .before .before .before .before .before .before .before .before .check .ensures) ∙ c .before .before .before .before .before .before .before .checked .given .1 in
     let r = is-ready b d _ g (j .result) (j .ensures .0) (c .before .before .before .enum-told2 .given .1) (j .ensures .1) in
-    (r .fits, r .phase, c .before .if1 .left, r .room)
+    let h = r .fits in
+    let n = c .before .place-size .ensures in
+    search (needs, h, n)
+
+write-place-requires : tie.Need-write-place-requires
+write-place-requires c κs =
+    let a = c .before .before .before .before .before .before .before .before .before .before .before .before .before .args in
+    let b = now (a .card) in
+    let d = lent (a .m) (now (a .plan)) in
+    let j = c .before .before .before .before .before .before .judge-configuration in
+    let g = sym (c .before .before .before .before .before .before .before .before .before .before .check .ensures) ∙ c .before .before .before .before .before .before .before .before .checked .given .1 in
+    let r = is-ready b d _ g (j .result) (j .ensures .0) (c .before .before .before .before .enum-told2 .given .1) (j .ensures .1) in
+    (r .fits, r .phase, rw (c .before .before .place-size .ensures) at (c .before .if1 .left), r .room)
 
 same-length : tie.Need-same-length
 same-length c = search needs
 
 returns-4 : tie.Need-returns-4
 returns-4 c =
-    let a = c .before .before .before .before .before .before .before .before .before .before .before .before .before .before .before .args in
+    let a = c .before .before .before .before .before .before .before .before .before .before .before .before .before .before .before .before .args in
     let b = now (a .card) in
     let d = lent (a .m) (now (a .plan)) in
-    let j = c .before .before .before .before .before .before .before .before .judge-configuration in
-    let g = sym (c .before .before .before .before .before .before .before .before .before .before .before .before .check .ensures) ∙ c .before .before .before .before .before .before .before .before .before .before .checked .given .1 in
-    let e = judged-so b d _ g (j .result) (j .ensures .0) ∙ c .before .before .before .before .before .before .enum-told2 .given .1 in
-    let r = is-ready b d _ g (j .result) (j .ensures .0) (c .before .before .before .before .before .before .enum-told2 .given .1) (j .ensures .1) in
-    save-done b d (now (a .out)) _ e r (lb (c .before .before .before .before .before .before .before .before .before .before .before .before .before .before .before)) (lg (c .before .before .before .before .before .before .before .before .before .before .before .before .before .before .before)) _ (c .before .before .before .before .if1 .left) (c .before .before .write-place .ensures)
+    let j = c .before .before .before .before .before .before .before .before .before .judge-configuration in
+    let g = sym (c .before .before .before .before .before .before .before .before .before .before .before .before .before .check .ensures) ∙ c .before .before .before .before .before .before .before .before .before .before .before .checked .given .1 in
+    let e = judged-so b d _ g (j .result) (j .ensures .0) ∙ c .before .before .before .before .before .before .before .enum-told2 .given .1 in
+    let r = is-ready b d _ g (j .result) (j .ensures .0) (c .before .before .before .before .before .before .before .enum-told2 .given .1) (j .ensures .1) in
+    let s = save-done b d (now (a .out)) _ e r (lb (c .before .before .before .before .before .before .before .before .before .before .before .before .before .before .before .before)) (lg (c .before .before .before .before .before .before .before .before .before .before .before .before .before .before .before .before)) _ (rw (c .before .before .before .before .before .place-size .ensures) at (c .before .before .before .before .if1 .left)) (c .before .before .write-place .ensures) in
+    (ap (λ k. written Done k d) (c .before .before .before .before .before .place-size .ensures) ∙ s .0, s .1)
 
 pub save-spec : {M : Type 1} → statement M
 save-spec =
@@ -117,9 +140,10 @@ save-spec =
     enum-told-2
     enum-told-3
     returns-2
-    add-n
-    cast-if1
+    cast-place-size
+    place-size-requires
     returns-3
+    cast-count
     write-place-requires
     same-length
     returns-4)

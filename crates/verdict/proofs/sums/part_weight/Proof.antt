@@ -17,8 +17,8 @@ Inv-loop card l from n at total₀ i₀ total i = (i ≤ n) × (total ≤ 1024 *
 abbrev μ-loop : tie.MeasureT-loop
 μ-loop card l from n at total₀ i₀ total i = n - i
 
-add-at : tie.Need-add-at Inv-loop μ-loop
-add-at c = search needs
+pool-at-requires : tie.Need-pool-at-requires Inv-loop μ-loop
+pool-at-requires c κs = search needs
 
 loop-holds : tie.Need-loop-holds Inv-loop μ-loop
 loop-holds c = (omega arith, omega arith, omega arith)
@@ -31,13 +31,14 @@ shared-slice-read-weight-of c = search needs
 
 weight-of-requires : tie.Need-weight-of-requires Inv-loop μ-loop
 weight-of-requires c κs =
-    let a = c .before .before .before .before .before .before .args in
+    let a = c .before .before .before .before .before .args in
     let l = c .before .before .loop in
-    let p = c .before .before .before .before .before .before .pre in
+    let p = c .before .before .before .before .before .pre in
     let b = now (a .card) in
     let g = p .1 in
     let k : a .from + l .i < a .l .pool .count = omega arith in
-    let e : a .l .pool .offset + (a .from + l .i) ≡ a .l .pool .offset + a .from + l .i = omega arith in
+    let h = c .before .before .before .pool-at .ensures in
+    let e : a .l .pool .offset + (a .from + l .i) ≡ c .before .before .before .pool-at .result + l .i = omega arith in
     (p .0, rw e at (p .0 .pool (a .from + l .i) k))
 
 add-total : tie.Need-add-total Inv-loop μ-loop
@@ -51,12 +52,13 @@ loop-less c = search needs
 
 loop-again : tie.Need-loop-again Inv-loop μ-loop
 loop-again c =
-    let a = c .before .before .before .before .before .before .before .args in
+    let a = c .before .before .before .before .before .before .args in
     let l = c .before .before .before .loop in
     let b = now (a .card) in
-    let at = a .l .pool .offset + a .from in
+    let at = c .before .before .before .before .pool-at .result in
+    let h = c .before .before .before .before .pool-at .ensures in
     let π = part b at (a .n) in
-    let p = c .before .before .before .before .before .before .before .pre in
+    let p = c .before .before .before .before .before .before .pre in
     let d = p .0 .layout in
     let g = p .1 in
     let n : length π ≡ a .n = length-part b at (a .n) (omega arith) in
@@ -68,18 +70,19 @@ loop-again c =
 
 returns : tie.Need-returns Inv-loop μ-loop
 returns c =
-    let a = c .before .before .before .before .before .args in
+    let a = c .before .before .before .before .args in
     let l = c .before .loop in
     let b = now (a .card) in
-    let at = a .l .pool .offset + a .from in
+    let at = c .before .before .pool-at .result in
+    let h = c .before .before .pool-at .ensures in
     let π = part b at (a .n) in
-    let p = c .before .before .before .before .before .pre in
+    let p = c .before .before .before .before .pre in
     let d = p .0 .layout in
     let g = p .1 in
     let n : length π ≡ a .n = length-part b at (a .n) (omega arith) in
     let s = weigh-done (weight b) π (l .i) (omega arith) in
     let u = l .inv .2 in
-    omega arith
+    rw (sym h) (omega arith)
 
 pub part-weight-spec : {M : Type 1} → statement M
 part-weight-spec =
@@ -87,7 +90,7 @@ part-weight-spec =
     (tie.spec
     Inv-loop
     μ-loop
-    add-at
+    pool-at-requires
     loop-holds
     add-weight-of
     shared-slice-read-weight-of

@@ -2,8 +2,8 @@ use mathlib.Core.Path.{_≡_}
 use Prim.Native.Nat.{suc, _-_}
 use native.Mathlib.Omega.{arith}
 use borrow.Author.Needs.{needs}
-use Rattle.layout.proofs.entries.count_of.Statement.{statement}
-use Rattle.layout.proofs.entries.count_of.Tie as tie
+use Rattle.layout.proofs.entries.by_kind.Statement.{statement}
+use Rattle.layout.proofs.entries.by_kind.Tie as tie
 
 returns : tie.Need-returns
 returns c = search needs
@@ -16,5 +16,5 @@ returns-3 c =
     let e : c .before .args .kind ≡ suc (suc (c .before .args .kind - 2)) = omega arith in
     rw e
 
-pub count-of-spec : {M : Type 1} → statement M
-count-of-spec = tie.close (tie.spec returns returns-2 returns-3)
+pub by-kind-spec : {M : Type 1} → statement M
+by-kind-spec = tie.close (tie.spec returns returns-2 returns-3)
