@@ -4,12 +4,18 @@
  * call on each card, for a transition inside a run, and how a transition's time grows with nodes,
  * rules and the plan: medians, and the library's time divided by the engine's.
  */
+#include <stdio.h>
+#include <stdlib.h>
+#include <string.h>
+#include <time.h>
+
 #include "../tests/cards.h"
 
 #include "../include/rigtemple.h"
 #include "engine.h"
 
-enum { FEWEST = 31, MOST = 301, CHOICES = 64, RUN_BUDGET = 1000, ROOM = RIGTEMPLE_MOST_CHOICES };
+enum { FEWEST = 31, MOST = 301, CHOICES = 64, RUN_BUDGET = 1000 };
+enum { ROOM = RIGTEMPLE_MOST_LIST_ENTRIES };
 
 /* The shortest batch that is measured, and how long a table is to be measured, in nanoseconds. A
  * line of a table is FEWEST to MOST batches of each side. */
@@ -50,7 +56,7 @@ struct input {
     const char *name;
     struct card_bytes card;
     struct rigtemple_configuration middle;
-    uint8_t place[RIGTEMPLE_LARGEST_PLACE];
+    uint8_t place[RIGTEMPLE_MOST_PLACE_BYTES];
     uint16_t place_len;
     uint16_t choice[CHOICES];
 };
@@ -59,7 +65,7 @@ struct input {
 struct left {
     struct rigtemple_configuration c;
     uint16_t answer, list[ROOM], count, number;
-    uint8_t verdict, offender, ending, place[RIGTEMPLE_LARGEST_PLACE];
+    uint8_t verdict, offender, ending, place[RIGTEMPLE_MOST_PLACE_BYTES];
 };
 
 /* The parts of the configuration `c` points to, as the calls take them. */
@@ -201,7 +207,7 @@ static void compare_once(const struct row *row, const struct input *in, unsigned
     memset(&other, 0, sizeof other);
     row->make(&ours, in, times, &one);
     row->make(&engine, in, times, &other);
-    if (memcmp(&one, &other, sizeof one) != 0 || one.answer != RIGTEMPLE_DONE) {
+    if (memcmp(&one, &other, sizeof one) != 0 || one.answer != RIGTEMPLE_ANSWER_DONE) {
         printf("not the same answers: %s, %s\n", row->call, in->name);
         exit(1);
     }

@@ -6,7 +6,7 @@
  * or goals have changed. In a run the plan stands at the end of its 1,024 bytes, so that its front
  * moves and its rest never does.
  */
-#include "../tests/libc.h"
+#include <string.h>
 
 #include "engine.h"
 

@@ -2,11 +2,12 @@
  * The engine: the eight calls of document 01 in hand-written C, with no proofs, as the
  * program that the library is measured against. The parameters and answers are those of the
  * functions `rigtemple_..._parts` in include/rigtemple.h.
- *
- * The includer brings uint8_t, uint16_t and size_t (tests/libc.h, or <stdint.h> and <stddef.h>).
  */
 #ifndef RIGTEMPLE_ENGINE_H
 #define RIGTEMPLE_ENGINE_H
+
+#include <stddef.h>
+#include <stdint.h>
 
 uint16_t engine_check(const uint8_t *card, size_t card_len);
 

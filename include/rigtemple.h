@@ -10,100 +10,143 @@
  * What holds for every call:
  *
  *  - It ends, on all bytes and all numbers, and answers a number: 0 for done, 1 to 13 for a
- *    refusal (the constants below). Where more than one refusal would fit, the card's come
- *    first (1 to 9 in that order), then the place's (1, 2, 3, 4, 8, 9) or the
- *    configuration's (13), then 10, 11 and 12.
+ *    refusal. Where more than one refusal would fit, the card's come first (1 to 9 in that
+ *    order), then the place's (1, 2, 3, 4, 8, 9) or the configuration's (13), then 10, 11
+ *    and 12.
  *  - Every buffer is the caller's. The library keeps no memory, no pointer and no state
- *    between calls, allocates nothing, and needs at most 8,192 bytes of stack.
+ *    between calls, and allocates nothing.
  *  - No pointer may be null, not even beside a length of 0, and no two that are given to
  *    one call may overlap. Pointers to uint16_t are aligned as C has it. Give a buffer to
  *    one thread at a time.
  *  - A card may be any bytes at all: it is judged anew in each call, and a card that is
  *    not good is refused with 1 to 9.
  *
- * Memory to lend: the card (RIGTEMPLE_LARGEST_CARD bytes at most), a configuration (1,060
- * bytes), a list of RIGTEMPLE_MOST_CHOICES entries (1,536 bytes) and a place of
- * RIGTEMPLE_LARGEST_PLACE bytes are always enough: 27,792 bytes together.
+ * Memory to lend: the card (RIGTEMPLE_MOST_CARD_BYTES), a configuration (1,060 bytes), a list
+ * of RIGTEMPLE_MOST_LIST_ENTRIES (1,536 bytes) and a place of RIGTEMPLE_MOST_PLACE_BYTES are
+ * always enough: 27,792 bytes together.
+ *
+ * Bytes of stack, as tests/stack.sh measures them on x86-64: check 808, load 936, grade 2,984,
+ * list 2,824, take 1,512, run 1,640, save 936, restore 1,016.
  *
  * Save before you show. The weaver acts on what the screen tells; a move that is shown and
  * not kept is lost when the view is torn down, and a band is woven twice. And where a place
- * was kept but is refused, say so: to load the card instead begins again from the top.
- *
- *     struct rigtemple_configuration c;
- *     uint8_t place[RIGTEMPLE_LARGEST_PLACE], ending = RIGTEMPLE_SPENT;
- *     uint16_t answer, taken, size;
- *
- *     if (kept_len == 0)
- *         answer = rigtemple_load(card, card_len, &c);
- *     else
- *         answer = rigtemple_restore(card, card_len, kept, kept_len, &c);
- *     while (answer == RIGTEMPLE_DONE && ending == RIGTEMPLE_SPENT) {
- *         answer = rigtemple_save(card, card_len, &c, place, sizeof place, &size);
- *         if (answer != RIGTEMPLE_DONE || !keep(place, size))
- *             break;
- *         show(&c);
- *         wait_for_the_weaver();
- *         answer = rigtemple_run(card, card_len, &c, 1, &taken, &ending);
- *     }
- *     show_why_it_stopped(answer, ending);
+ * was kept but is refused, say so, and keep nothing over it: to load the card instead begins
+ * again from the top. The example turned_screen.c does so.
  */
 #ifndef RIGTEMPLE_H
 #define RIGTEMPLE_H
 
-/* Where there are no <stdint.h> and <stddef.h>, define RIGTEMPLE_NO_STDINT, and uint8_t,
- * uint16_t and size_t, before this header is included. */
-#ifndef RIGTEMPLE_NO_STDINT
 #include <stddef.h>
 #include <stdint.h>
-#endif
 
 #ifdef __cplusplus
 extern "C" {
 #endif
 
-/* Sizes. */
-#define RIGTEMPLE_SET_BYTES 16       /* a set of atoms */
-#define RIGTEMPLE_LARGEST_CARD 24128 /* bytes of the largest card */
-#define RIGTEMPLE_LONGEST_PLAN 1024  /* actions of the longest plan */
-#define RIGTEMPLE_LARGEST_PLACE 1068 /* bytes of the largest place: 44 and the longest plan */
-#define RIGTEMPLE_MOST_CHOICES 768   /* choices that there are codes for: no list is longer */
+/* The version of this header's interface. The first number rises with a change that an app has
+ * to follow, and the second is then 0; the second rises with what is only added. */
+#define RIGTEMPLE_VERSION "1.0"
+#define RIGTEMPLE_VERSION_FIRST 1
+#define RIGTEMPLE_VERSION_SECOND 0
 
-/* Answers. */
-#define RIGTEMPLE_DONE 0           /* done: none of those below */
-#define RIGTEMPLE_SHORT 1          /* a card under 64 bytes; a place under 44 */
-#define RIGTEMPLE_MARK 2           /* the first two bytes or the edition differ */
-#define RIGTEMPLE_COUNT 3          /* a number of atoms, actions, entries or bytes is out of range;
-                                      in a place the plan's length, the phase or the zero field */
-#define RIGTEMPLE_OFFSETS 4        /* an offset or the total length is not the required one */
-#define RIGTEMPLE_WEIGHT 5         /* a weight is 0 or over 1,024 */
-#define RIGTEMPLE_NODE 6           /* a node of the card's conditions breaks its rule */
-#define RIGTEMPLE_RULE 7           /* a specification, a rule or the initial plan breaks its rule */
-#define RIGTEMPLE_ACTION_BYTE 8    /* a byte of the pool or of a place's plan is no action */
-#define RIGTEMPLE_ATOM 9           /* a set has an atom that the card does not have */
-#define RIGTEMPLE_NOT_ENABLED 10   /* the code is no enabled choice */
-#define RIGTEMPLE_PLAN_FULL 11     /* the choice is enabled, but leaves more than 1,024 actions */
-#define RIGTEMPLE_NO_ROOM 12       /* the lent list or place is too short */
-#define RIGTEMPLE_CONFIGURATION 13 /* the configuration does not belong to the card: a plan over
-                                      1,024, an unknown action or atom, a phase over 2, or anything
-                                      but zero after the plan's end */
+/* Marks an answer that must not be ignored, for the compilers that know it. */
+#if defined(__cplusplus) && __cplusplus >= 201703L
+#define RIGTEMPLE_LOOK_AT_ANSWER [[nodiscard]]
+#elif defined(__STDC_VERSION__) && __STDC_VERSION__ >= 202311L
+#define RIGTEMPLE_LOOK_AT_ANSWER [[nodiscard]]
+#elif defined(__GNUC__)
+#define RIGTEMPLE_LOOK_AT_ANSWER __attribute__((__warn_unused_result__))
+#else
+#define RIGTEMPLE_LOOK_AT_ANSWER
+#endif
 
-/* Kinds of moves, and the code of a choice: 256 times the kind plus the number of the
- * selection rule, specification or revision rule, counted from 0. */
-#define RIGTEMPLE_SELECT 0 /* the plan is empty: a selection rule's plan becomes the plan */
-#define RIGTEMPLE_ACT 1    /* the first action is done, by one of its specifications */
-#define RIGTEMPLE_REVISE 2 /* a revision rule's body takes its head's place in front */
-#define RIGTEMPLE_CHOICE(kind, number) ((uint16_t)(256 * (kind) + (number)))
+/* Sizes, each with its unit. */
+#define RIGTEMPLE_SET_BYTES 16          /* a set of atoms */
+#define RIGTEMPLE_MOST_CARD_BYTES 24128 /* the largest card */
+#define RIGTEMPLE_MOST_PLAN_ACTIONS 1024
+#define RIGTEMPLE_MOST_PLACE_BYTES 1068 /* the largest place: 44 and the longest plan */
+#define RIGTEMPLE_MOST_LIST_ENTRIES 768 /* choices that there are codes for: no list is longer */
+
+/* Answers; rigtemple_answer_name and rigtemple_answer_sentence say them in words. */
+#define RIGTEMPLE_ANSWER_DONE 0
+#define RIGTEMPLE_ANSWER_SHORT 1
+#define RIGTEMPLE_ANSWER_MARK 2
+#define RIGTEMPLE_ANSWER_COUNT 3
+#define RIGTEMPLE_ANSWER_OFFSETS 4
+#define RIGTEMPLE_ANSWER_WEIGHT 5
+#define RIGTEMPLE_ANSWER_NODE 6
+#define RIGTEMPLE_ANSWER_RULE 7
+#define RIGTEMPLE_ANSWER_ACTION_BYTE 8
+#define RIGTEMPLE_ANSWER_ATOM 9
+#define RIGTEMPLE_ANSWER_NOT_ENABLED 10
+#define RIGTEMPLE_ANSWER_PLAN_FULL 11
+#define RIGTEMPLE_ANSWER_NO_ROOM 12
+#define RIGTEMPLE_ANSWER_CONFIGURATION 13
+
+/* The name of an answer in document 01, for a log: "plan full" for 11. */
+static inline const char *rigtemple_answer_name(uint16_t answer)
+{
+    static const char *const names[] = {
+        "done", "short",       "mark", "count",       "offsets",   "weight",  "node",
+        "rule", "action byte", "atom", "not enabled", "plan full", "no room", "configuration",
+    };
+    return answer <= RIGTEMPLE_ANSWER_CONFIGURATION ? names[answer] : "no answer of the guide";
+}
+
+/* What an answer says was refused. */
+static inline const char *rigtemple_answer_sentence(uint16_t answer)
+{
+    static const char *const sentences[] = {
+        "nothing was refused",
+        "the card is under 64 bytes, or the place under 44",
+        "the first two bytes are not 33 41 hex (a card) or 33 50 hex (a place), or the edition "
+        "is not 1",
+        "the number of atoms, of actions or of a section's entries or bytes is out of range; in a "
+        "place the plan is over 1,024, the phase over 2, or bytes 10 and 11 are not zero",
+        "an offset or the total length is not the required one",
+        "an action's weight is 0 or over 1,024",
+        "a node has an unknown kind, an unknown atom, a child that is not lower, or a field that "
+        "should be zero",
+        "a specification, a rule or the initial plan has an unknown action or node, a condition "
+        "of the wrong kind, a plan outside the pool, a length out of range, or a field that "
+        "should be zero",
+        "a byte of the pool, or of a place's plan, is not below the number of actions",
+        "a set has an atom at or above the number of atoms",
+        "the choice is none of those that list gives",
+        "the choice is enabled, but leaves more than 1,024 actions",
+        "the lent list or buffer is too short",
+        "the configuration has a plan over 1,024, an action or atom that the card doesn't know, a "
+        "phase over 2, or something after the plan's end",
+    };
+    return answer <= RIGTEMPLE_ANSWER_CONFIGURATION ? sentences[answer]
+                                                    : "the guide gives no such answer";
+}
+
+/* Kinds of moves. */
+#define RIGTEMPLE_KIND_SELECTION 0 /* the plan is empty: a selection rule's plan becomes the plan */
+#define RIGTEMPLE_KIND_ACTION 1    /* the first action is done, by one of its specifications */
+#define RIGTEMPLE_KIND_REVISION 2  /* a revision rule's body takes its head's place in front */
+
+/* The code of a choice: 256 times the kind plus the number of the selection rule, specification
+ * or revision rule, from 0. A kind over 2 or a number over 255, also one below 0, makes
+ * RIGTEMPLE_NO_CHOICE, which rigtemple_take refuses with 10. It is a constant where its arguments
+ * are; each is written twice in it, so give it no i++. */
+#define RIGTEMPLE_NO_CHOICE 65535
+#define RIGTEMPLE_CHOICE(kind, number)                                                        \
+    ((uint16_t)((unsigned long long)(kind) > 2 || (unsigned long long)(number) > 255          \
+                    ? RIGTEMPLE_NO_CHOICE                                                     \
+                    : 256 * (unsigned long long)(kind) + (unsigned long long)(number)))
 #define RIGTEMPLE_KIND_OF(choice) ((choice) / 256)
 #define RIGTEMPLE_NUMBER_OF(choice) ((choice) % 256)
 
 /* Endings of a run. */
-#define RIGTEMPLE_SPENT 0 /* as many moves were taken as the budget allows */
-#define RIGTEMPLE_REST 1  /* no move is possible */
-#define RIGTEMPLE_FULL 2  /* the next move would leave more than 1,024 actions; it is not taken */
+#define RIGTEMPLE_ENDING_SPENT 0 /* as many moves were taken as the budget allows */
+#define RIGTEMPLE_ENDING_REST 1  /* no move is possible */
+#define RIGTEMPLE_ENDING_FULL 2  /* the next move would leave more than 1,024 actions: not taken */
 
 /* Verdicts on a card, and what makes it open. */
-#define RIGTEMPLE_BOUNDED 0 /* starting plans weigh at most 1,024, revisions lower the weight */
-#define RIGTEMPLE_OPEN 1    /* not so; an open card runs too */
+#define RIGTEMPLE_VERDICT_BOUNDED 0 /* starting plans weigh at most 1,024, revisions lower it */
+#define RIGTEMPLE_VERDICT_OPEN 1    /* not so; an open card runs too */
 #define RIGTEMPLE_OFFENDER_NONE 0
 #define RIGTEMPLE_OFFENDER_INITIAL_PLAN 1
 #define RIGTEMPLE_OFFENDER_SELECTION 2
@@ -112,12 +155,14 @@ extern "C" {
 /* A configuration. Atom k is in a set if bit (k modulo 8) of byte (k divided by 8) is 1. The
  * plan is the first `length` bytes of `plan`, one action each, next action first; all bytes
  * after them are zero. The phase (0, 1 or 2) is the kind of move that the guide tries first:
- * it is part of the place as much as the plan is. The empty configuration is all zeros.
- * Compare two by their members: the struct may end with padding that no call writes. */
+ * it is part of the place as much as the plan is. The empty configuration is all zeros, and
+ * every good card accepts it: after a refused load or restore a run from it may rest at once,
+ * like a pattern that is done, so look at the answer first. Compare two by their members: the
+ * struct may end with padding that no call writes. */
 struct rigtemple_configuration {
     uint8_t beliefs[RIGTEMPLE_SET_BYTES];
     uint8_t goals[RIGTEMPLE_SET_BYTES];
-    uint8_t plan[RIGTEMPLE_LONGEST_PLAN];
+    uint8_t plan[RIGTEMPLE_MOST_PLAN_ACTIONS];
     uint16_t length;
     uint8_t phase;
 };
@@ -125,30 +170,40 @@ struct rigtemple_configuration {
 /* ---- the functions of the library: the eight calls over the parts of a configuration.
  * `beliefs` and `goals` are 16 bytes each, `plan` is 1,024 bytes. ---- */
 
+RIGTEMPLE_LOOK_AT_ANSWER
 uint16_t rigtemple_check_parts(const uint8_t *card, size_t card_len);
 
+RIGTEMPLE_LOOK_AT_ANSWER
 uint16_t rigtemple_load_parts(const uint8_t *card, size_t card_len, uint8_t *beliefs,
                               uint8_t *goals, uint8_t *plan, uint16_t *length, uint8_t *phase);
 
+RIGTEMPLE_LOOK_AT_ANSWER
 uint16_t rigtemple_grade_parts(const uint8_t *card, size_t card_len, uint8_t *verdict,
                                uint8_t *offender, uint16_t *number);
 
+RIGTEMPLE_LOOK_AT_ANSWER
 uint16_t rigtemple_list_parts(const uint8_t *card, size_t card_len, const uint8_t *beliefs,
                               const uint8_t *goals, const uint8_t *plan, uint16_t length,
-                              uint8_t phase, uint16_t *list, size_t list_len, uint16_t *count);
+                              uint8_t phase, uint16_t *list, size_t room_in_entries,
+                              uint16_t *entries);
 
+RIGTEMPLE_LOOK_AT_ANSWER
 uint16_t rigtemple_take_parts(const uint8_t *card, size_t card_len, uint8_t *beliefs,
                               uint8_t *goals, uint8_t *plan, uint16_t *length, uint8_t *phase,
                               uint16_t choice);
 
+RIGTEMPLE_LOOK_AT_ANSWER
 uint16_t rigtemple_run_parts(const uint8_t *card, size_t card_len, uint8_t *beliefs,
                              uint8_t *goals, uint8_t *plan, uint16_t *length, uint8_t *phase,
-                             uint16_t budget, uint16_t *count, uint8_t *ending);
+                             uint16_t budget, uint16_t *moves, uint8_t *ending);
 
+RIGTEMPLE_LOOK_AT_ANSWER
 uint16_t rigtemple_save_parts(const uint8_t *card, size_t card_len, const uint8_t *beliefs,
                               const uint8_t *goals, const uint8_t *plan, uint16_t length,
-                              uint8_t phase, uint8_t *place, size_t place_len, uint16_t *count);
+                              uint8_t phase, uint8_t *place, size_t room_in_bytes,
+                              uint16_t *bytes);
 
+RIGTEMPLE_LOOK_AT_ANSWER
 uint16_t rigtemple_restore_parts(const uint8_t *card, size_t card_len, const uint8_t *place,
                                  size_t place_len, uint8_t *beliefs, uint8_t *goals,
                                  uint8_t *plan, uint16_t *length, uint8_t *phase);
@@ -157,6 +212,7 @@ uint16_t rigtemple_restore_parts(const uint8_t *card, size_t card_len, const uin
 
 /* Judges a card.
  * Answers 0 if it is good, and 1 to 9 if it is not. Nothing is written. */
+RIGTEMPLE_LOOK_AT_ANSWER
 static inline uint16_t rigtemple_check(const uint8_t *card, size_t card_len)
 {
     return rigtemple_check_parts(card, card_len);
@@ -166,6 +222,7 @@ static inline uint16_t rigtemple_check(const uint8_t *card, size_t card_len)
  * plan, and phase 0.
  * Answers 0, or 1 to 9. `c` is written in each case; a refusal leaves the empty
  * configuration in it. */
+RIGTEMPLE_LOOK_AT_ANSWER
 static inline uint16_t rigtemple_load(const uint8_t *card, size_t card_len,
                                       struct rigtemple_configuration *c)
 {
@@ -179,6 +236,7 @@ static inline uint16_t rigtemple_load(const uint8_t *card, size_t card_len,
  * before it needs a selection, whoever chooses, and no plan ever gets too long.
  * Answers 0, or 1 to 9. All three are written in each case; a refusal says open, the initial
  * plan, 0: a card that is refused is never called bounded. */
+RIGTEMPLE_LOOK_AT_ANSWER
 static inline uint16_t rigtemple_grade(const uint8_t *card, size_t card_len, uint8_t *verdict,
                                        uint8_t *offender, uint16_t *number)
 {
@@ -187,21 +245,24 @@ static inline uint16_t rigtemple_grade(const uint8_t *card, size_t card_len, uin
 
 /* Lists every enabled choice, as codes, rising, each once. The phase does not matter to it, nor
  * whether the plan that a choice leaves would fit.
- * `room` is how many entries `list` has; RIGTEMPLE_MOST_CHOICES are always enough. The codes
- * are written to the front of `list` and their number to `count`; entries after them stay.
- * Answers 0, or 1 to 9, 13, or 12 if there are more choices than `room`. A refusal writes
- * nothing to `list`, and 0 to `count`. */
+ * `room_in_entries` is how many codes `list` can hold, not its bytes;
+ * RIGTEMPLE_MOST_LIST_ENTRIES are always enough. The codes are written to the front of `list`
+ * and their number to `entries`; what lies after them stays.
+ * Answers 0, or 1 to 9, 13, or 12 if there are more choices than room. A refusal writes nothing
+ * to `list`, and 0 to `entries`. */
+RIGTEMPLE_LOOK_AT_ANSWER
 static inline uint16_t rigtemple_list(const uint8_t *card, size_t card_len,
                                       const struct rigtemple_configuration *c, uint16_t *list,
-                                      size_t room, uint16_t *count)
+                                      size_t room_in_entries, uint16_t *entries)
 {
     return rigtemple_list_parts(card, card_len, c->beliefs, c->goals, c->plan, c->length,
-                                c->phase, list, room, count);
+                                c->phase, list, room_in_entries, entries);
 }
 
 /* Takes the move that the weaver chose, and changes `c` to what it leaves.
  * Answers 0, or 1 to 9, 13, 10 if the code is no enabled choice (any number may be given), or
  * 11 if the plan would get too long. A refusal leaves `c` as it came in. */
+RIGTEMPLE_LOOK_AT_ANSWER
 static inline uint16_t rigtemple_take(const uint8_t *card, size_t card_len,
                                       struct rigtemple_configuration *c, uint16_t choice)
 {
@@ -210,40 +271,43 @@ static inline uint16_t rigtemple_take(const uint8_t *card, size_t card_len,
 }
 
 /* Runs by itself, for `budget` moves at most, and changes `c` to the configuration reached.
- * `count` becomes the number of moves taken and `ending` why it stopped: spent, rest or full.
+ * `moves` becomes the number of moves taken and `ending` why it stopped: spent, rest or full.
  * The budget is looked at first: a run of budget 0 is spent, at rest too. To know which move a
  * run of budget 1 made: its kind is the phase afterwards minus 1, modulo 3, and its number the
  * lowest of that kind in the list before it.
  * Answers 0 (with each of the three endings), or 1 to 9, or 13. A refusal leaves `c` as it came
- * in, and writes 0 to `count` and RIGTEMPLE_SPENT to `ending`. */
+ * in, and writes 0 to `moves` and RIGTEMPLE_ENDING_SPENT to `ending`. */
+RIGTEMPLE_LOOK_AT_ANSWER
 static inline uint16_t rigtemple_run(const uint8_t *card, size_t card_len,
                                      struct rigtemple_configuration *c, uint16_t budget,
-                                     uint16_t *count, uint8_t *ending)
+                                     uint16_t *moves, uint8_t *ending)
 {
     return rigtemple_run_parts(card, card_len, c->beliefs, c->goals, c->plan, &c->length,
-                               &c->phase, budget, count, ending);
+                               &c->phase, budget, moves, ending);
 }
 
-/* Saves a configuration as a place. `room` is how many bytes `place` has;
- * RIGTEMPLE_LARGEST_PLACE are always enough. Writes 44 bytes and one for each action of the
- * plan, no others, and their number to `count`. A place does not say which card it came from:
+/* Saves a configuration as a place. `room_in_bytes` is how many bytes `place` has;
+ * RIGTEMPLE_MOST_PLACE_BYTES are always enough. Writes 44 bytes and one for each action of the
+ * plan, no others, and their number to `bytes`. A place does not say which card it came from:
  * keep that beside it.
- * Answers 0, or 1 to 9, 13, or 12 if `room` is too short. A refusal writes nothing to `place`,
- * and 0 to `count`. */
+ * Answers 0, or 1 to 9, 13, or 12 if the room is too short. A refusal writes nothing to
+ * `place`, and 0 to `bytes`. */
+RIGTEMPLE_LOOK_AT_ANSWER
 static inline uint16_t rigtemple_save(const uint8_t *card, size_t card_len,
                                       const struct rigtemple_configuration *c, uint8_t *place,
-                                      size_t room, uint16_t *count)
+                                      size_t room_in_bytes, uint16_t *bytes)
 {
     return rigtemple_save_parts(card, card_len, c->beliefs, c->goals, c->plan, c->length,
-                                c->phase, place, room, count);
+                                c->phase, place, room_in_bytes, bytes);
 }
 
 /* Restores the configuration that was saved: `place_len` is the number that rigtemple_save
- * gave as its count, no more and no less. The place may be any bytes at all and is judged
+ * gave as its bytes, no more and no less. The place may be any bytes at all and is judged
  * against the card it is given with.
  * Answers 0, or 1 to 9 for the card, or 1, 2, 3, 4, 8 or 9 for the place; ask rigtemple_check
  * which of the two it was. `c` is written in each case; a refusal leaves the empty
  * configuration in it. */
+RIGTEMPLE_LOOK_AT_ANSWER
 static inline uint16_t rigtemple_restore(const uint8_t *card, size_t card_len,
                                          const uint8_t *place, size_t place_len,
                                          struct rigtemple_configuration *c)

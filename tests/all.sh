@@ -54,6 +54,9 @@ try python3 -B oracle/stored.py --check
 try tests/script.sh
 try tests/c.sh --seed "$seed"
 try tests/c.sh --seed "$seed" --engine
+try tests/library.sh
+try tests/example.sh
+try tests/languages.sh
 try tests/room.sh
 try python3 tests/definitions.py --seed "$seed" --cards 100
 try python3 tests/compare.py --seed "$seed" --cases "$cases"

@@ -5,7 +5,8 @@
 #
 # A FILE that ends in .c is compiled at -O3; all others (objects, archives) are linked as they
 # are. CFLAGS are given to the compiler too. Where PROGRAM ends in .o, its one FILE is compiled
-# and not linked. tests/run_c.sh runs the program.
+# and not linked. The kit has no C headers, and tests/libc/ stands in for them. tests/run_c.sh runs
+# the program.
 set -eu
 
 die() { printf 'build_c.sh: %s\n' "$*" >&2; exit 2; }
@@ -13,15 +14,15 @@ die() { printf 'build_c.sh: %s\n' "$*" >&2; exit 2; }
 [ $# -ge 2 ] || die "usage: build_c.sh PROGRAM FILE..."
 # shellcheck source=tests/kit.sh
 . "$(dirname "$0")/kit.sh"
+headers=$(cd "$(dirname "$0")/libc" && pwd)
 [ -x "$own/clang" ] || die "the kit has no clang for $(uname -m)"
 [ -x "$own/ld.lld" ] || die "the kit has no ld.lld for $(uname -m)"
 
-# The kit has no headers, so the machine's are left out too. No -ffreestanding: with it memcpy of
-# two bytes would be a call.
+# No -ffreestanding: with it memcpy of two bytes would be a call.
 compile() { # FILE OBJECT
     # shellcheck disable=SC2086  # CFLAGS are words
-    "$own/clang" --target=x86_64-unknown-linux-gnu -std=c11 -O3 -fPIC -nostdinc -Wall -Wextra \
-        -Werror ${CFLAGS:-} -c "$1" -o "$2"
+    "$own/clang" --target=x86_64-unknown-linux-gnu -std=c11 -O3 -fPIC -nostdinc \
+        -isystem "$headers" -Wall -Wextra -Werror ${CFLAGS:-} -c "$1" -o "$2"
 }
 
 program=$1

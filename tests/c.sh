@@ -1,7 +1,8 @@
 #!/bin/sh
-# The library as C sees it: include/rigtemple.h as C99 and as C++, the eight calls with a turned
-# screen, and the drill over the header against the oracle, byte for byte: on the stored requests of
-# crates/drill, and on requests by seed. The last line is 'N passed, M failed'.
+# The library as C sees it: include/rigtemple.h as C and as C++, its words for the answers, the
+# eight calls with a turned screen, and the drill over the header against the oracle, byte for
+# byte: on the stored requests of crates/drill, and on requests by seed. The last line is
+# 'N passed, M failed'.
 #
 #   tests/c.sh [--engine] [--seed N] [--cards N] [--largest BYTES]
 #
@@ -49,20 +50,38 @@ expect() { # WHAT COMMAND...
     fi
 }
 
-# The header by itself.
+# The header by itself, and with what is read from standard input after it.
 header() { # LANGUAGE EDITION
-    printf '#include "rigtemple.h"\n' | "$own/clang" -x "$1" "-std=$2" -pedantic -Wall -Wextra -Werror \
-        --target=x86_64-unknown-linux-gnu -nostdinc -fsyntax-only -I "$root/include" \
-        -include "$tests/libc.h" -
+    { printf '#include "rigtemple.h"\n'; cat; } | "$own/clang" -x "$1" "-std=$2" -pedantic -Wall \
+        -Wextra -Werror --target=x86_64-unknown-linux-gnu -nostdinc -isystem "$tests/libc" \
+        -fsyntax-only -I "$root/include" - 2>"$work/header.err"
 }
-expect "the header is C99" header c c99
-expect "the header is C++11" header c++ c++11
+told() { # LANGUAGE EDITION
+    ! echo 'static inline void f(const uint8_t *c) { rigtemple_check(c, 0); }' | header "$1" "$2" &&
+        grep -q 'ignoring return value' "$work/header.err"
+}
+for edition in 'c c99' 'c c11' 'c c2x' 'c++ c++11' 'c++ c++17'; do
+    # shellcheck disable=SC2086  # two words
+    expect "the header is $edition" header $edition </dev/null
+    # shellcheck disable=SC2086
+    expect "an answer that is ignored is told in $edition" told $edition
+done
+
+# The names and the sentences of the answers are those of docs/API.md's table.
+same_words() {
+    sed -n 's/^| \([0-9]*\) | \([a-z ]*\) | \([^|]*\) |.*/\1|\2|\3/p' "$root/docs/API.md" |
+        tr -d '`' | sort -n >"$work/words.wanted"
+    echo '14|no answer of the guide|the guide gives no such answer' >>"$work/words.wanted"
+    "$tests/run_c.sh" "$work/answer_words" | diff "$work/words.wanted" -
+}
+"$tests/build_c.sh" "$work/answer_words" "$tests/answer_words.c"
+expect "the words of the answers are docs/API.md's" same_words
 
 # The eight calls, with the screen turned in the middle of a run.
-"$tests/build_c.sh" "$work/turned_screen" "$tests/turned_screen.c" "$tests/cards.c" "$archive"
-"$tests/run_c.sh" "$work/turned_screen" >"$work/turned_screen.out" || true
-cat "$work/turned_screen.out"
-last=$(tail -n 1 "$work/turned_screen.out")
+"$tests/build_c.sh" "$work/eight_calls" "$tests/eight_calls.c" "$tests/cards.c" "$archive"
+"$tests/run_c.sh" "$work/eight_calls" >"$work/eight_calls.out" || true
+cat "$work/eight_calls.out"
+last=$(tail -n 1 "$work/eight_calls.out")
 case $last in
 *' passed, '*' failed')
     passed=$((passed + ${last%% passed*}))
@@ -70,7 +89,7 @@ case $last in
     failed=$((failed + ${counted% failed}))
     ;;
 *)
-    printf 'failed: turned_screen did not end\n'
+    printf 'failed: eight_calls did not end\n'
     failed=$((failed + 1))
     ;;
 esac
@@ -93,7 +112,8 @@ held() { # WHAT TABLE REQUESTS ANSWERS
 
 # The stored requests of crates/drill, then those of the seed.
 stored=$root/crates/drill
-python3 -B "$root/oracle/stored.py" --check >"$work/stored.out" || die "the stored requests are others"
+python3 -B "$root/oracle/stored.py" --check >"$work/stored.out" ||
+    die "the stored requests are others"
 held 'the stored requests' "$work/stored.out" "$stored/stdin" "$stored/stdout"
 python3 -B "$root/oracle/cases.py" --seed "$seed" --cards "$cards" --largest "$largest" \
     --requests "$work/requests" --answers "$work/answers" >"$work/cases.out"

@@ -1,4 +1,6 @@
 /* Cards written in C: document 01's layout, and the cards of the C programs. */
+#include <string.h>
+
 #include "cards.h"
 
 /* ---- the layout ---- */

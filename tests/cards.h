@@ -5,7 +5,8 @@
 #ifndef RIGTEMPLE_TESTS_CARDS_H
 #define RIGTEMPLE_TESTS_CARDS_H
 
-#include "libc.h"
+#include <stddef.h>
+#include <stdint.h>
 
 /* The kinds of nodes. */
 enum { NODE_TRUE, NODE_BELIEVES, NODE_HAS_GOAL, NODE_NOT, NODE_AND, NODE_OR };

@@ -78,7 +78,7 @@ def output(name, data):
     """What a program writes for some input. The programs are for x86-64; elsewhere they run in the kit's emulator."""
     own = platform.machine() in ("x86_64", "AMD64")
     words = [path(name)] if own else [os.path.join(TOP, "tests", "run_c.sh"), path(name)]
-    return subprocess.run(words, input=data, stdout=subprocess.PIPE).stdout
+    return subprocess.run(words, input=data, stdout=subprocess.PIPE, stderr=subprocess.DEVNULL).stdout
 
 
 # ---- the cases of a chunk

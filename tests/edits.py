@@ -8,8 +8,9 @@
 The gate says at which line of a proof the checker first found an error. The fact is the declaration that this line belongs to, in
 the crate with the edit applied: in a function's proof `returns` is what the function ensures, `loop-again` a loop's invariant,
 `NAME-requires` what a call requires; in the other files it is a law or a theorem. Where a function needs no proof file, the line is the
-function's own, and the fact is what it ensures. An edit fails here if the gate did not refuse it, or if the line belongs to no such
-declaration.
+function's own, and the fact is what it ensures. Of a theorem that is a record the fact is its field. An edit fails here if the gate
+did not refuse it, or if the line belongs to no such declaration; an edit that is named by a field of the three demands, as
+demands/must-fail/demand1_check_listed, if it was refused at another fact.
 """
 
 import glob
@@ -22,6 +23,7 @@ TOP = os.path.dirname(os.path.dirname(os.path.abspath(__file__)))
 REFUSED = re.compile(r"rt: must-fail (\w+)/(\w+): refused.*\(first at ([^:]+):(\d+):")
 # A declaration: at the left, in a module, or marked `pub`; what a `where` declares lies further in and is no fact by itself.
 DECLARED = re.compile(r"(?:  )?(?:abbrev )?([^\s:()]+) :|\s*pub ([^\s:()]+) :")
+FIELD = re.compile(r"      ([^\s=]+) = ")  # of a record that a declaration answers
 FUNCTION = re.compile(r"(?:pub )?(?:extern \"C\" )?fn (\w+)")
 
 
@@ -53,13 +55,21 @@ def edited(crate, edit, path):
 
 
 def fact_at(path, lines, number):
-    """The declaration at the top of a file that a line belongs to."""
-    declared = FUNCTION if path.startswith("src/") else DECLARED
+    """The declaration at the top of a file that a line belongs to, with the field of a record if it stands in one."""
+    declared, field = FUNCTION if path.startswith("src/") else DECLARED, ""
     for line in reversed(lines[:number]):
         match = declared.match(line)
         if match:
-            return next(filter(None, match.groups()))
+            return next(filter(None, match.groups())) + field
+        if path == "proofs/Demands.antt" and not field and FIELD.match(line):
+            field = " ." + FIELD.match(line)[1]
     return None
+
+
+def of_field(edit, fact):
+    """Whether an edit that is named by a field of a demand was refused at that field; any other edit is."""
+    named = re.fullmatch(r"demand(\d)_(\w+)", edit)
+    return not named or fact == "demand-%s .%s" % (named[1], named[2].replace("_", "-"))
 
 
 def refusals(log):
@@ -98,11 +108,13 @@ def main(words):
     failed = 0
     for key in keys:
         sentence, path, fact = told(key, refused)
+        if not of_field(key[1], fact):
+            fact = None
         failed += fact is None
         if words[1:]:
-            print("| `%s/%s` | %s | %s |" % (*key, sentence.replace("|", "\\|"), "`%s` `%s`" % (path, fact) if fact else "not refused"))
+            print("| `%s/%s` | %s | %s |" % (*key, sentence.replace("|", "\\|"), "`%s` `%s`" % (path, fact) if fact else "not refused at its fact"))
         else:
-            print("%-36s %s" % ("/".join(key), "%s, %s" % (path, fact) if fact else "not refused"))
+            print("%-36s %s" % ("/".join(key), "%s, %s" % (path, fact) if fact else "not refused at its fact"))
     print("%s%d passed, %d failed" % ("\n" if words[1:] else "", len(keys) - failed, failed))
     return 1 if failed else 0
 

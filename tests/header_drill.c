@@ -18,7 +18,9 @@
  * filled with EE hex. What a refused grading says beside its number is written as 0. A request
  * that breaks these rules ends the program.
  */
-#include "libc.h"
+#include <stdlib.h>
+#include <string.h>
+#include <unistd.h>
 
 #include "../include/rigtemple.h"
 
@@ -145,7 +147,7 @@ static void answer_grade(void)
     uint8_t verdict = LENT, offender = LENT;
     uint16_t rule = LENT;
     uint16_t number = rigtemple_grade(card, card_len, &verdict, &offender, &rule);
-    int done = number == RIGTEMPLE_DONE;
+    int done = number == RIGTEMPLE_ANSWER_DONE;
     put_number(number);
     put_byte(done ? verdict : 0);
     put_byte(done ? offender : 0);
@@ -195,7 +197,7 @@ static void answer_save(void)
     size_t room = get_number(SAVE_LIMIT);
     memset(place, LENT, sizeof place);
     uint16_t number = rigtemple_save(card, card_len, &c, place, room, &count);
-    if (count != (number == RIGTEMPLE_DONE ? 44 + c.length : 0))
+    if (count != (number == RIGTEMPLE_ANSWER_DONE ? 44 + c.length : 0))
         end(3);
     put_number(number);
     put_bytes(place, room);

@@ -1,6 +1,6 @@
 #!/usr/bin/env python3
-"""Holds docs/PROMISES.md against the tree: every file, name and edit in it is there, and every edit of the tree is in it; and the lines
-of definitions that docs/TRUSTED.md counts.
+"""Holds docs/PROMISES.md against the tree: every file, name and edit in it is there, every edit of the tree is in it, and every field of
+the three demands has an edit of its name; and the lines of definitions that docs/TRUSTED.md counts.
 
     python3 tests/promises.py [--documents DIR]    the last line is 'N passed, M failed'
     python3 tests/promises.py --lines              how many lines of definitions there are, file by file, in reading order
@@ -26,12 +26,13 @@ THEOREMS = "## The theorems"
 READING = (
     ("the agent and its transitions", ("paper/specs/Atoms.antt", "paper/specs/Language.antt", "paper/specs/Transitions.antt")),
     ("the transitions as a function", ("paper/specs/Next.antt",)),
-    ("the order, a run, the grade", ("runs/src/lib.rt", "runs/specs/Order.antt", "runs/specs/Step.antt", "runs/specs/Run.antt", "runs/specs/Weight.antt")),
+    ("the order, a run, the grade", ("runs/src/lib.rt", "runs/specs/Limits.antt", "runs/specs/Order.antt", "runs/specs/Step.antt", "runs/specs/Run.antt", "runs/specs/Weight.antt")),
     ("a card's bytes, a configuration, a place", ("meaning/src/lib.rt", "meaning/specs/Card.antt", "meaning/specs/Configurations.antt",
                                                   "meaning/specs/Place.antt")),
     ("the refusals and the eight answers", ("meaning/specs/Refusals.antt", "meaning/specs/Calls.antt", "meaning/specs/Numbers.antt")),
     ("what is proved of the definitions", ("paper/specs/Theorems.antt", "runs/specs/Theorems.antt", "meaning/specs/Theorems.antt")),
-    ("the letter's demands", ("demands/specs/Contracts.antt", "demands/specs/Demands.antt")),
+    ("the letter's demands", ("demands/specs/Contracts.antt", "demands/specs/Demands.antt", "demands/specs/TestOrder.antt",
+                              "demands/specs/Closed.antt")),
     ("the cases", ("paper/specs/Cases.antt", "meaning/specs/Stripe.antt", "meaning/specs/Cases.antt")),
 )
 READ_CRATES = ("paper", "runs", "meaning", "demands")
@@ -174,6 +175,13 @@ def edits():
     return found
 
 
+def field_edits():
+    """The edits that are named by the fields of the three demands: `Demand1.check-listed` has demands/must-fail/demand1_check_listed."""
+    names = antt_names(read(os.path.join(TOP, "crates", "demands", "specs", "Demands.antt")))
+    return {f"demands/must-fail/{demand.lower()}_{field.replace('-', '_')}"
+            for demand in ("Demand1", "Demand2", "Demand3") for field in names[demand]}
+
+
 # ---- the checks
 
 
@@ -208,7 +216,10 @@ def check_names(page, tally):
                 else:
                     tally.hold(piece.line, os.path.isfile(file) and declares(file, span),
                                f"{os.path.relpath(file, TOP)} declares no {span}")
-    for edit in sorted(known):
+    fields = field_edits()
+    for edit in sorted(fields):
+        tally.hold(1, edit in known, f"a field of a demand has no edit {edit}")
+    for edit in sorted(known - fields):
         tally.hold(1, edit in named, f"the edit {edit} is not named")
 
 

@@ -1,6 +1,6 @@
 #!/bin/sh
-# Measures the deepest stack of each call through include/rigtemple.h; fails over 8,192 bytes.
-# The last line is 'N passed, M failed'.
+# Measures the deepest stack of each call through include/rigtemple.h; fails over 8,192 bytes, and
+# where the header's head states another figure. The last line is 'N passed, M failed'.
 #
 #   tests/stack.sh [--engine]
 #
@@ -14,4 +14,22 @@ tests=$(cd "$(dirname "$0")" && pwd)
 work=$tests/../target/c
 archive=$("$tests/archive.sh" "$@")
 "$tests/build_c.sh" "$work/stack" "$tests/stack.c" "$tests/cards.c" "$archive"
-exec "$tests/run_c.sh" "$work/stack"
+"$tests/run_c.sh" "$work/stack" >"$work/stack.out"
+passed=0
+failed=0
+
+# The figure that the header states for a call, without its comma.
+stated() { # CALL
+    sed -n '/Bytes of stack/,/\./p' "$tests/../include/rigtemple.h" |
+        grep -o "$1 [0-9][0-9,]*[0-9]" | tr -cd 0-9
+}
+
+while read -r call bytes; do
+    fault=
+    [ "$bytes" -le 8192 ] || fault=', which is over 8192'
+    [ $# -gt 0 ] || [ "$bytes" = "$(stated "$call")" ] || fault="$fault, not as the header states"
+    if [ -z "$fault" ]; then passed=$((passed + 1)); else failed=$((failed + 1)); fi
+    printf '%-8s %6d bytes of stack%s\n' "$call" "$bytes" "$fault"
+done <"$work/stack.out"
+printf '%d passed, %d failed\n' "$passed" "$failed"
+[ "$passed" -eq 8 ]

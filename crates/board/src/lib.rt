@@ -1,9 +1,8 @@
 // The board: the guide's eight calls for C, as include/rigtemple.h declares them. A configuration is lent in its five parts;
 // the return value is the answer's number.
 ghost use mathlib.Core.Path.{_≡_};
-ghost use Rattle.meaning.specs.Calls.{checks, loads, grades, lists, listLeaves, takes, runs, saves, saveLeaves, restores};
-ghost use Rattle.meaning.specs.Numbers.{checkedNumber};
-ghost use Rattle.board.specs.Header.{whole, replied, gradedAs, wrote, ranTo};
+ghost use Rattle.board.specs.Header.{whole};
+ghost use Rattle.board.specs.Determined.{Checks, Loads, Grades, Lists, Takes, Runs, Saves, Restores};
 use answers::answer_number;
 use answers::ending_number;
 use answers::refusal_number;
@@ -41,7 +40,7 @@ fn put(m: Mind, beliefs: &mut [u8; 16], goals: &mut [u8; 16], length: &mut u16, 
 // Whether a card is good.
 #[no_mangle]
 pub extern "C" fn rigtemple_check_parts(card: &[u8]) -> u16
-    ensures { λ r. ⌜ r ≡ checkedNumber (checks (now (card .entry))) ⌝ }
+    ensures { λ r. ⌜ Checks (now (card .entry)) r ⌝ }
 {
     let v = guide::check(card);
     match v {
@@ -60,13 +59,13 @@ pub extern "C" fn rigtemple_load_parts(
     length: &mut u16,
     phase: &mut u8,
 ) -> u16
-    ensures { λ r. ⌜ replied (loads (now (card .entry))) r
+    ensures { λ r. ⌜ Loads (now (card .entry)) r
         (whole (now (beliefs .exit)) (now (goals .exit)) (now (plan .exit)) (now (length .exit)) (now (phase .exit))) ⌝ }
 {
-    let r = place::load::load(card, plan);
-    let m = r.mind;
+    let loaded = place::load::load(card, plan);
+    let m = loaded.mind;
     put(m, beliefs, goals, length, phase);
-    let a = r.answer;
+    let a = loaded.answer;
     answer_number(a)
 }
 
@@ -81,14 +80,14 @@ pub extern "C" fn rigtemple_take_parts(
     phase: &mut u8,
     choice: u16,
 ) -> u16
-    ensures { λ r. ⌜ replied
-        (takes (now (card .entry)) (whole (now (beliefs .entry)) (now (goals .entry)) (now (plan .entry)) (now (length .entry)) (now (phase .entry))) choice) r
+    ensures { λ r. ⌜ Takes (now (card .entry))
+        (whole (now (beliefs .entry)) (now (goals .entry)) (now (plan .entry)) (now (length .entry)) (now (phase .entry))) choice r
         (whole (now (beliefs .exit)) (now (goals .exit)) (now (plan .exit)) (now (length .exit)) (now (phase .exit))) ⌝ }
 {
-    let r = moves::take::take(card, mind(beliefs, goals, *length, *phase), plan, choice);
-    let m = r.mind;
+    let taken = moves::take::take(card, mind(beliefs, goals, *length, *phase), plan, choice);
+    let m = taken.mind;
     put(m, beliefs, goals, length, phase);
-    let a = r.answer;
+    let a = taken.answer;
     answer_number(a)
 }
 
@@ -105,18 +104,18 @@ pub extern "C" fn rigtemple_run_parts(
     count: &mut u16,
     ending: &mut u8,
 ) -> u16
-    ensures { λ r. ⌜ ranTo
-        (runs (now (card .entry)) (whole (now (beliefs .entry)) (now (goals .entry)) (now (plan .entry)) (now (length .entry)) (now (phase .entry))) budget) r
+    ensures { λ r. ⌜ Runs (now (card .entry))
+        (whole (now (beliefs .entry)) (now (goals .entry)) (now (plan .entry)) (now (length .entry)) (now (phase .entry))) budget r
         (whole (now (beliefs .exit)) (now (goals .exit)) (now (plan .exit)) (now (length .exit)) (now (phase .exit)))
         (now (count .exit)) (now (ending .exit)) ⌝ }
 {
-    let r = moves::run::run(card, mind(beliefs, goals, *length, *phase), plan, budget);
-    let m = r.mind;
+    let ran = moves::run::run(card, mind(beliefs, goals, *length, *phase), plan, budget);
+    let m = ran.mind;
     put(m, beliefs, goals, length, phase);
-    *count = r.count;
-    let e = r.ending;
+    *count = ran.count;
+    let e = ran.ending;
     *ending = ending_number(e);
-    let a = r.answer;
+    let a = ran.answer;
     answer_number(a)
 }
 
@@ -131,13 +130,13 @@ pub extern "C" fn rigtemple_restore_parts(
     length: &mut u16,
     phase: &mut u8,
 ) -> u16
-    ensures { λ r. ⌜ replied (restores (now (card .entry)) (now (place .entry))) r
+    ensures { λ r. ⌜ Restores (now (card .entry)) (now (place .entry)) r
         (whole (now (beliefs .exit)) (now (goals .exit)) (now (plan .exit)) (now (length .exit)) (now (phase .exit))) ⌝ }
 {
-    let r = place::restore::restore(card, place, plan);
-    let m = r.mind;
+    let restored = place::restore::restore(card, place, plan);
+    let m = restored.mind;
     put(m, beliefs, goals, length, phase);
-    let a = r.answer;
+    let a = restored.answer;
     answer_number(a)
 }
 
@@ -153,14 +152,13 @@ pub extern "C" fn rigtemple_list_parts(
     list: &mut [u16],
     count: &mut u16,
 ) -> u16
-    ensures { λ r. ⌜ wrote
-        (lists (now (card .entry)) (whole (now (beliefs .entry)) (now (goals .entry)) (now (plan .entry)) length phase) (now (list .entry)))
-        (listLeaves (now (card .entry)) (whole (now (beliefs .entry)) (now (goals .entry)) (now (plan .entry)) length phase) (now (list .entry)))
-        r (now (count .exit)) (now (list .exit)) ⌝ }
+    ensures { λ r. ⌜ Lists (now (card .entry))
+        (whole (now (beliefs .entry)) (now (goals .entry)) (now (plan .entry)) length phase) (now (list .entry)) r
+        (now (list .exit)) (now (count .exit)) ⌝ }
 {
-    let r = moves::list::list(card, mind(beliefs, goals, length, phase), plan, list);
-    *count = r.count;
-    let a = r.answer;
+    let listed = moves::list::list(card, mind(beliefs, goals, length, phase), plan, list);
+    *count = listed.count;
+    let a = listed.answer;
     answer_number(a)
 }
 
@@ -176,14 +174,13 @@ pub extern "C" fn rigtemple_save_parts(
     place: &mut [u8],
     count: &mut u16,
 ) -> u16
-    ensures { λ r. ⌜ wrote
-        (saves (now (card .entry)) (whole (now (beliefs .entry)) (now (goals .entry)) (now (plan .entry)) length phase) (now (place .entry)))
-        (saveLeaves (now (card .entry)) (whole (now (beliefs .entry)) (now (goals .entry)) (now (plan .entry)) length phase) (now (place .entry)))
-        r (now (count .exit)) (now (place .exit)) ⌝ }
+    ensures { λ r. ⌜ Saves (now (card .entry))
+        (whole (now (beliefs .entry)) (now (goals .entry)) (now (plan .entry)) length phase) (now (place .entry)) r
+        (now (place .exit)) (now (count .exit)) ⌝ }
 {
-    let r = place::save::save(card, mind(beliefs, goals, length, phase), plan, place);
-    *count = r.count;
-    let a = r.answer;
+    let saved = place::save::save(card, mind(beliefs, goals, length, phase), plan, place);
+    *count = saved.count;
+    let a = saved.answer;
     answer_number(a)
 }
 
@@ -195,13 +192,13 @@ pub extern "C" fn rigtemple_grade_parts(
     offender: &mut u8,
     number: &mut u16,
 ) -> u16
-    ensures { λ r. ⌜ gradedAs (grades (now (card .entry))) r (now (verdict .exit)) (now (offender .exit)) (now (number .exit)) ⌝ }
+    ensures { λ r. ⌜ Grades (now (card .entry)) r (now (verdict .exit)) (now (offender .exit)) (now (number .exit)) ⌝ }
 {
-    let r = guide::grade(card);
-    let v = r.verdict;
+    let graded = guide::grade(card);
+    let v = graded.verdict;
     *verdict = verdict_number(v);
     *offender = verdict_offender(v);
     *number = verdict_rule(v);
-    let a = r.answer;
+    let a = graded.answer;
     answer_number(a)
 }

@@ -1,6 +1,6 @@
 -- An accepted card keeps its laws.
 use mathlib.Core.Path.{_≡_, refl, sym, subst}
-use mathlib.Core.Bool.{Bool, true}
+use mathlib.Core.Bool.{true}
 use Prim.Native.Nat.{ℕ, _+_, _≤_, _<_}
 use native.Mathlib.Omega.{arith}
 use borrow.Author.Tests.{leb-true, ltb-true, not-true}
@@ -14,8 +14,9 @@ use Rattle.meaning.specs.declared.SpecificationEntry.{SpecificationEntry}
 use Rattle.meaning.specs.declared.SelectionEntry.{SelectionEntry}
 use Rattle.meaning.specs.declared.RevisionEntry.{RevisionEntry}
 use Rattle.meaning.specs.Card.{Bytes, byte, layout, weightAt, specificationAt, selectionAt, revisionAt}
-use Rattle.meaning.specs.Refusals.{every, within, weightsGood, containing, conditionGood, spanGood, specificationGood, selectionGood, revisionGood, rulesGood, actionsGood, pool, cardAnswer}
+use Rattle.meaning.specs.Refusals.{within, weightsGood, containing, conditionGood, spanGood, specificationGood, selectionGood, revisionGood, actionsGood, pool, cardAnswer}
 use Rattle.meaning.proofs.Accepted.{accepted, within-low, within-high}
+use Rattle.meaning.proofs.Entries.{good-entries}
 use Rattle.meaning.proofs.Every.{every-at, all-at}
 use Rattle.meaning.proofs.Parts.{length-part, part-at}
 use Rattle.layout.specs.GoodLayout.{GoodLayout}
@@ -72,25 +73,19 @@ module _ (l : Layout) (b : Bytes) where
       rw (part-at b (l .pool .offset) (l .pool .count) i h) at below
 
 good-check : (b : Bytes) → cardAnswer b ≡ Done → GoodCard (layout b) b
-unfolding rulesGood
 good-check b e =
     let a = accepted b e in
     let l = layout b in
     let d = good-layout l b refl (a .counts) (a .offsets) in
-    let specification : ℕ → Bool = λ i. specificationGood (containing 2 l b) l (specificationAt l b i) in
-    let selection : ℕ → Bool = λ i. selectionGood (containing 1 l b) (containing 2 l b) l (selectionAt l b i) in
-    let revision : ℕ → Bool = λ i. revisionGood (containing 2 l b) l (revisionAt l b i) in
-    let (h1, e1) = both (every (l .specifications .count) specification) _ (a .rules) in
-    let (h2, e2) = both (every (l .selections .count) selection) _ e1 in
-    let (h3, e3) = both (every (l .revisions .count) revision) _ e2 in
+    let g = good-entries l b (a .rules) in
     record {
       layout = d;
       weights = good-weight l b (a .weights);
       nodes = a .nodes;
-      specifications = λ i h. good-specification l b (specificationAt l b i) (every-at specification (l .specifications .count) i h1 h);
-      selections = λ i h. good-selection l b (selectionAt l b i) (every-at selection (l .selections .count) i h2 h);
-      revisions = λ i h. good-revision l b (revisionAt l b i) (every-at revision (l .revisions .count) i h3 h);
-      initial = good-span l b 0 (l .initial) e3;
+      specifications = λ i h. good-specification l b (specificationAt l b i) (g .specification i h);
+      selections = λ i h. good-selection l b (selectionAt l b i) (g .selection i h);
+      revisions = λ i h. good-revision l b (revisionAt l b i) (g .revision i h);
+      initial = good-span l b 0 (l .initial) (g .initial);
       pool = pool-action l b d (a .pool);
     }
 

@@ -43,15 +43,15 @@ of-none [] = refl
 of-none (a ∷ π) = rw (le-ltb a 0 (omega arith)) (ne-eqb (suc (length π)) 0 (λ e. absurd (omega arith)))
 
 -- containsOf, asked of all kinds at once
-pub contains-flat : (kind k a b : ℕ) (f : ℕ → Bool)
+pub contains-flat : (kind k : ℕ) → k ≤ 5 → (a b : ℕ) (f : ℕ → Bool)
     → (((eqb k 1 && eqb kind 1) || (eqb k 2 && eqb kind 2)) || ((leb 3 k && f a) || (leb 4 k && f b))) ≡ containsOf kind k a b f
-contains-flat kind zero a b f = refl
-contains-flat kind (suc zero) a b f = or-false (eqb kind 1 || false) ∙ or-false (eqb kind 1)
-contains-flat kind (suc (suc zero)) a b f = or-false (eqb kind 2)
-contains-flat kind (suc (suc (suc zero))) a b f = or-false (f a)
-contains-flat kind (suc (suc (suc (suc k)))) a b f =
-    let n = suc (suc (suc (suc k))) in
-    rw (ne-eqb n 1 (λ e. absurd (omega arith)), ne-eqb n 2 (λ e. absurd (omega arith)), le-leb 3 n (omega arith), le-leb 4 n (omega arith))
+contains-flat kind zero h a b f = refl
+contains-flat kind (suc zero) h a b f = or-false (eqb kind 1 || false) ∙ or-false (eqb kind 1)
+contains-flat kind (suc (suc zero)) h a b f = or-false (eqb kind 2)
+contains-flat kind (suc (suc (suc zero))) h a b f = or-false (f a)
+contains-flat kind (suc (suc (suc (suc zero)))) h a b f = refl
+contains-flat kind (suc (suc (suc (suc (suc zero))))) h a b f = refl
+contains-flat kind (suc (suc (suc (suc (suc (suc k)))))) h a b f = absurd (omega arith)
 
 -- the marks after i nodes: those of the nodes below i tell what their conditions contain, and all others are set
 abbrev pub MarkedTo : ℕ → Layout → Bytes → List Bool → ℕ → Type 0

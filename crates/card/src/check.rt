@@ -4,11 +4,14 @@ ghost use mathlib.Core.Path.{_≡_};
 ghost use mathlib.Core.Bool.{true};
 ghost use Prim.Native.Nat.{_≤_};
 ghost use lib.ListN.{length};
+ghost use Rattle.meaning.specs.declared.Refusal.{Refusal};
+ghost use Rattle.meaning.specs.declared.Layout.{Layout};
+ghost use Rattle.meaning.specs.declared.Checked.{Checked};
 ghost use Rattle.meaning.specs.Card.{layout};
-ghost use Rattle.meaning.specs.Refusals.{countsGood, nodesGood, cardTable, cardAnswer};
+ghost use Rattle.meaning.specs.Refusals.{cardLongEnough, countsGood, nodesGood, cardTable, cardAnswer};
 ghost use Rattle.meaning.specs.Calls.{checks};
 ghost use Rattle.layout.specs.GoodLayout.{TwoByteLayout, TwoByteSpan, GoodLayout};
-ghost use Rattle.card.specs.Rows.{rowAnswer, rowsFrom, answerOf};
+ghost use Rattle.card.specs.Rows.{rowAnswer, rowsFrom, checkedBy, answerOf};
 use crate::contents::pool_good;
 use crate::contents::sets_good;
 use crate::contents::weights_good;
@@ -114,38 +117,53 @@ fn from_counts(card: &[u8], l: Layout) -> Answer
     from_offsets(card, l)
 }
 
-// Row 2, then 3 to 9: "bytes 33 41 hex".
-fn from_mark(card: &[u8]) -> Answer
-    requires { ⌜ 64 ≤ length (now card) ⌝ }
-    ensures { λ r. ⌜ r ≡ rowsFrom 1 cardTable (now (card .entry)) ⌝ }
+// The number that a card with a header is answered with. Row 2, then 3 to 9: "bytes 33 41 hex".
+fn judge_card(card: &[u8], l: Layout) -> Answer
+    requires { ⌜ (64 ≤ length (now card)) × (l ≡ layout (now card)) × TwoByteLayout l ⌝ }
+    ensures { λ r. ⌜ r ≡ cardAnswer (now (card .entry)) ⌝ }
 {
     let a = row(mark_good(card, 0x41), Refusal::Mark);
     let Answer::Done = a else {
         return a;
     };
-    from_counts(card, read_layout(card))
+    from_counts(card, l)
 }
 
-// The number that a card is answered with.
-fn judge_card(card: &[u8]) -> Answer
-    ensures { λ r. ⌜ r ≡ cardAnswer (now (card .entry)) ⌝ }
+// Row 1: "card under 64 bytes". The layout that a header says, or the refusal.
+fn read_header(card: &[u8]) -> Checked
+    ensures { λ r. ⌜ r ≡ checkedBy (rowAnswer (cardLongEnough (now (card .entry))) Refusal.Short) (layout (now (card .entry))) ⌝ }
+    ensures { λ r. ⌜ ((l : Layout) → r ≡ Checked.Good l → TwoByteLayout l) ⌝ }
 {
-    let a = row(64 <= card.len(), Refusal::Short);
-    let Answer::Done = a else {
-        return a;
-    };
-    from_mark(card)
+    if 64 <= card.len() {
+        Checked::Good(read_layout(card))
+    } else {
+        Checked::Refused(Refusal::Short)
+    }
+}
+
+// What is checked of a card with a layout, by the answer of its rows.
+fn checked_by(a: Answer, l: Layout) -> Checked
+    ensures { λ r. ⌜ r ≡ checkedBy a l ⌝ }
+{
+    match a {
+        Answer::Done => Checked::Good(l),
+        Answer::Refused(refusal) => Checked::Refused(refusal),
+    }
 }
 
 // A card's layout, or the refusal.
 pub fn check(card: &[u8]) -> Checked
     ensures { λ r. ⌜ r ≡ checks (now (card .entry)) ⌝ }
 {
-    let a = judge_card(card);
-    let Answer::Refused(refusal) = a else {
-        return Checked::Good(read_layout(card));
+    let header = read_header(card);
+    let Checked::Good(l) = header else {
+        return header;
     };
-    Checked::Refused(refusal)
+    let rows = judge_card(card, l);
+    let Answer::Done = rows else {
+        return checked_by(rows, l);
+    };
+    Checked::Good(l)
 }
 
 // The answer of a checked card: done, or the refusal.

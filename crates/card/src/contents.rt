@@ -11,6 +11,7 @@ use layout::entries::initial_goals;
 use layout::entries::read_specification;
 use layout::entries::read_weight;
 use layout::header::in_range;
+use layout::limits::heaviest_action;
 use meaning::Layout;
 
 // Not row 5: every weight is from 1 to 1,024.
@@ -22,7 +23,7 @@ pub fn weights_good(card: &[u8], l: Layout) -> bool
     let mut good = true;
     let mut a: usize = 0;
     while a < n {
-        let kept = in_range(1, 1024, read_weight(card, l, a));
+        let kept = in_range(1, heaviest_action(), read_weight(card, l, a));
         good = good & kept;
         a += 1;
     }

@@ -1,6 +1,7 @@
 // The nodes: row 6 of the refusal table, and which nodes contain an atom of a kind, each in one pass.
 ghost use mathlib.Core.Path.{_≡_};
 ghost use mathlib.Core.Bool.{true, false};
+ghost use Prim.Native.Nat.{_≤_};
 ghost use lib.ListN.{getD, replicate};
 ghost use Rattle.meaning.specs.Refusals.{kindGood, nodesGood, containsOf};
 ghost use Rattle.layout.specs.GoodLayout.{GoodLayout};
@@ -45,6 +46,7 @@ pub fn nodes_good(card: &[u8], l: Layout) -> bool
 // Whether an atom of a kind stands in a node's condition, by the marks of the lower nodes. No jump on the node's kind: in a
 // card's check a wrong guess of it would cost more than the few bits that it saves.
 fn contains(kind: u8, x: Node, marks: &[bool; 256]) -> bool
+    requires { ⌜ x .kind ≤ 5 ⌝ }
     ensures { λ r. ⌜ r ≡ containsOf kind (x .kind) (x .a) (x .b) (λ j. getD (now (marks .entry)) j false) ⌝ }
 {
     let k = x.kind;

@@ -18,6 +18,7 @@ use layout::entries::read_revision;
 use layout::entries::read_selection;
 use layout::entries::read_specification;
 use layout::header::in_range;
+use layout::limits::longest_plan;
 use meaning::Layout;
 use meaning::RevisionEntry;
 use meaning::SelectionEntry;
@@ -37,7 +38,7 @@ fn span_good(l: Layout, least: usize, s: Span) -> bool
     ensures { λ r. ⌜ r ≡ spanGood l least s ⌝ }
 {
     let pool = l.pool;
-    in_range(least, 1024, s.length) & (s.start + s.length <= pool.count)
+    in_range(least, longest_plan(), s.length) & (s.start + s.length <= pool.count)
 }
 
 // "Specification, 36 bytes: action, node, 0, 0, Add, Del."

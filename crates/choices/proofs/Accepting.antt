@@ -1,6 +1,9 @@
--- What the answers of check and of row 13 tell of a card and a configuration.
+-- What the answers of check and of row 13 tell of a card and a configuration, and that of row 12 of the room.
 use mathlib.Core.Path.{_≡_, refl, sym, ap, _∙_}
 use mathlib.Core.Bool.{Bool, true, false}
+use Prim.Native.Nat.{ℕ, _≤_, _<_}
+use borrow.Author.Tests.{leb-true, leb-false}
+use lib.Dec.{leb}
 use lib.ListN.{length}
 use Rattle.meaning.specs.declared.Refusal.{Refusal}
 use Rattle.meaning.specs.declared.Answer.{Answer}
@@ -11,6 +14,7 @@ use Rattle.meaning.specs.declared.Configuration.{Configuration}
 use Rattle.meaning.specs.Card.{Bytes, layout}
 use Rattle.meaning.specs.Refusals.{firstGiven, andThen, configurationGood, configurationTable, configurationAnswer}
 use Rattle.meaning.specs.Calls.{checks}
+use Rattle.meaning.proofs.Tables.{done≢refused}
 use Rattle.meaning.proofs.Calls.{good-judged, refused-judged, configuration-refused, configuration-good}
 use Rattle.meaning.proofs.Configurations.{good, padded-take}
 use Rattle.card.specs.GoodCard.{GoodCard}
@@ -49,3 +53,15 @@ module _ (b : Bytes) (c : Configuration) where
           room = r;
           phase = g .phase;
         }
+
+-- there is room for n, or row 12 is the answer
+module _ (n room : ℕ) (a : Answer) (h : a ≡ rowAnswer (leb n room) Refusal.NoRoom) where
+  pub is-room : a ≡ Done → n ≤ room
+  is-room d = leb-true n room (row-done (leb n room) Refusal.NoRoom (sym h ∙ d))
+
+  pub no-room : (r : Refusal) → a ≡ Refused r → (room < n) × (a ≡ Refused Refusal.NoRoom)
+  no-room r e = go (leb n room) refl
+    where
+      go : (t : Bool) → leb n room ≡ t → (room < n) × (a ≡ Refused Refusal.NoRoom)
+      go true g = absurd (done≢refused (sym (h ∙ ap (λ t. rowAnswer t Refusal.NoRoom) g) ∙ e))
+      go false g = (leb-false n room g, h ∙ ap (λ t. rowAnswer t Refusal.NoRoom) g)

@@ -23,7 +23,8 @@ truth-children σ γ (suc zero) a b t t′ f s = refl
 truth-children σ γ (suc (suc zero)) a b t t′ f s = refl
 truth-children σ γ (suc (suc (suc zero))) a b t t′ f s = ap not (f (omega arith))
 truth-children σ γ (suc (suc (suc (suc zero)))) a b t t′ f s = ap₂ _&&_ (f (omega arith)) (s (omega arith))
-truth-children σ γ (suc (suc (suc (suc (suc k))))) a b t t′ f s = ap₂ _||_ (f (omega arith)) (s (omega arith))
+truth-children σ γ (suc (suc (suc (suc (suc zero))))) a b t t′ f s = ap₂ _||_ (f (omega arith)) (s (omega arith))
+truth-children σ γ (suc (suc (suc (suc (suc (suc k)))))) a b t t′ f s = refl
 
 module _ (l : Layout) (b : Bytes) (good : nodesGood l b ≡ true) (σ γ : Atoms) where
   truth-at : (i : ℕ) → i < l .nodes .count → getD (truths l b σ γ) i false ≡ truthOf (nodeAt l b i .kind) (nodeAt l b i .a) (nodeAt l b i .b) σ γ (λ j. getD (truths l b σ γ) j false)
@@ -51,7 +52,7 @@ or-false false b e = (refl, e)
 node-truth : (L : Letter) (c : Config) (k a b : ℕ) → k ≤ 5 → (t : ℕ → Bool) (q : ℕ → Query L) (contains : ℕ → Bool)
     → containsOf (other L) k a b contains ≡ false
     → (3 ≤ k → contains a ≡ false → t a ≡ (c ⊨ q a)) → (4 ≤ k → contains b ≡ false → t b ≡ (c ⊨ q b))
-    → truthOf k a b (c .σ) (c .γ) t ≡ (c ⊨ queryOf k a b q)
+    → truthOf k a b (c .σ) (c .γ) t ≡ (c ⊨ queryOf L k a b q)
 unfolding _⊨_
 node-truth L c zero a b h t q n e f s = refl
 node-truth 𝐁 c (suc zero) a b h t q n e f s = refl

@@ -17,7 +17,8 @@ truthOf (suc zero) a b σ γ truth = a ∈ σ
 truthOf (suc (suc zero)) a b σ γ truth = a ∈ γ
 truthOf (suc (suc (suc zero))) a b σ γ truth = not (truth a)
 truthOf (suc (suc (suc (suc zero)))) a b σ γ truth = truth a && truth b
-truthOf (suc (suc (suc (suc (suc k))))) a b σ γ truth = truth a || truth b
+truthOf (suc (suc (suc (suc (suc zero))))) a b σ γ truth = truth a || truth b
+truthOf (suc (suc (suc (suc (suc (suc k)))))) a b σ γ truth = true
 
 -- the truth of every node
 unfoldable pub truths : Layout → Bytes → Atoms → Atoms → List Bool

@@ -11,6 +11,7 @@ ghost use Rattle.card.specs.Rows.{rowAnswer};
 use card::check::row;
 use card::contents::actions_good;
 use layout::bytes::size;
+use layout::limits::longest_plan;
 use meaning::Answer;
 use meaning::Layout;
 use meaning::Mind;
@@ -48,7 +49,7 @@ fn configuration_good(l: Layout, m: Mind, plan: &[u8; 1024]) -> bool
 {
     let room = size(plan);
     let n = m.length as usize;
-    if 1024 < n {
+    if longest_plan() < n {
         return false;
     }
     let b = m.beliefs;

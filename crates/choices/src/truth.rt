@@ -1,6 +1,7 @@
 // Conditions, judged in one pass over the nodes from the lowest upward, with one mark a node.
 ghost use mathlib.Core.Path.{_≡_};
 ghost use mathlib.Core.Bool.{false};
+ghost use Prim.Native.Nat.{_≤_};
 ghost use lib.ListN.{length, getD, replicate};
 ghost use Rattle.card.specs.GoodCard.{GoodCard};
 ghost use Rattle.choices.specs.Truth.{truthOf, Marked};
@@ -11,6 +12,7 @@ use meaning::Node;
 
 // The truth of a node, by the marks of the lower nodes.
 fn truth(x: Node, m: Mind, marks: &[bool; 256]) -> bool
+    requires { ⌜ x .kind ≤ 5 ⌝ }
     ensures { λ r. ⌜ r ≡ truthOf (x .kind) (x .a) (x .b) (m .beliefs) (m .goals) (λ j. getD (now (marks .entry)) j false) ⌝ }
 {
     let kind = x.kind;

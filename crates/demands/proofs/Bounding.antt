@@ -1,13 +1,15 @@
 -- Demand 3: a card that is graded bounded is, and bounds its runs.
-use mathlib.Core.Path.{_≡_, refl, _∙_, sym}
+use mathlib.Core.Path.{_≡_, refl, _∙_, sym, subst}
 use mathlib.Core.Logic.{_↔_}
-use mathlib.Core.List.{[], _∷_, _++_}
+use mathlib.Core.List.{List, [], _∷_, _++_}
 use Prim.Native.Nat.{ℕ, _≤_}
 use native.Mathlib.Omega.{arith}
 use lib.ListN.{length}
 use Rattle.runs.specs.declared.Ending.{Ending}
 use Rattle.runs.specs.declared.Verdict.{Verdict}
-use Rattle.runs.specs.Run.{stay, _then_}
+use Rattle.paper.specs.Transitions.{Choice}
+use Rattle.runs.specs.Order.{State}
+use Rattle.runs.specs.Run.{Chain, stay, _then_}
 use Rattle.runs.specs.Weight.{weigh, Bounded, verdict}
 use Rattle.runs.specs.Theorems as Runs
 use Rattle.meaning.specs.declared.Refusal.{Refusal}
@@ -23,9 +25,10 @@ use Rattle.meaning.proofs.Tables.{done≢refused}
 use Rattle.runs.proofs.Weight.{open≢bounded}
 use Rattle.meaning.proofs.Accepted.{card-laws}
 use Rattle.demands.specs.Contracts.{Grades}
-use Rattle.demands.specs.Demands.{doneOrCard}
+use Rattle.demands.specs.Demands.{doneOrCard, BoundedCount}
 use Rattle.demands.proofs.Among.{outside, configuration-among}
 use Rattle.demands.proofs.Choosing.{full≢not-enabled}
+use Rattle.demands.proofs.Ordering.{own-order}
 use Rattle.demands.proofs.Ways.{Grading, Running, Taking, refused, not-enabled, plan-full, done, grading}
 
 spent≢full : Ending.Spent ≡ Ending.Full → ⊥
@@ -64,6 +67,23 @@ module _ (b : Bytes) (g : Graded) (e : Grades b g) (v : g .verdict ≡ Verdict.B
     pub never-full : (budget : ℕ) (r : Ran) → Running b c budget r → r .ending ≡ Ending.Full → ⊥
     never-full budget r (refused h) f = spent≢full f
     never-full budget r (done h) f = law .never-full bounded (stateOf c) budget w f
+
+    -- the count of a chain's choices
+    counted : (ks : List Choice) (r : Ran) → Chain (agent b) (stateOf c .mental) ks (stateOf (r .configuration) .mental) → r .count ≡ length ks
+        → BoundedCount b c (weigh (weight b) (stateOf c .mental .π)) r
+    counted ks r chain n = record {
+      choices = ks;
+      chain = chain;
+      counted = n;
+      at-most = rw n (law .with-selections bounded w chain);
+      without-selection = λ none. rw n (law .without-selection bounded w chain none);
+    }
+
+    pub run-count : (budget : ℕ) (r : Ran) → Running b c budget r → BoundedCount b c (weigh (weight b) (stateOf c .mental .π)) r
+    run-count budget r (refused h) = counted [] r stay refl
+    run-count budget r (done h) =
+        let (o, (t, tells)) = own-order b c h budget r (done h) in
+        counted (t .choices) r (subst (λ (s : State). Chain (agent b) (stateOf c .mental) (t .choices) (s .mental)) (sym (tells .reached .stands-for)) (t .chain)) (tells .count ∙ t .counted)
 
     pub never-plan-full : (n : ℕ) (r : Reply) → Taking b c n r → r .answer ≡ Refused Refusal.PlanFull → ⊥
     never-plan-full n r (refused h) f = never-by-configuration b c (h ∙ f)

@@ -69,6 +69,7 @@ demand-3 =
       with-selections = λ b g e v c c′ ks h r. Bounding.law b g e v .with-selections (Bounding.bounded b g e v) h r;
       never-too-long = λ b g e v c c′ ks h r. Bounding.law b g e v .never-too-long (Bounding.bounded b g e v) h r;
       never-full = λ b g e v c w budget r h. Bounding.never-full b g e v c w budget r (running b c budget r h);
+      run-count = λ b g e v c w budget r h. Bounding.run-count b g e v c w budget r (running b c budget r h);
       never-plan-full = λ b g e v c w n r h. Bounding.never-plan-full b g e v c w n r (taking b c n r h);
     }
 

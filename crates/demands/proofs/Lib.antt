@@ -7,6 +7,9 @@ pub mod Moving
 pub mod Offering
 pub mod Ordering
 pub mod Saving
+pub mod Known
 pub mod Restoring
 pub mod Bounding
+pub mod Testing
+pub mod Closing
 pub mod Demands

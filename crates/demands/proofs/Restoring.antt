@@ -1,12 +1,9 @@
 -- Demand 2: an accepted place, restored, is an accepted configuration, and saved again it is the same bytes.
 use mathlib.Core.Path.{_≡_, refl, ap, _∙_, sym, subst}
-use mathlib.Core.Bool.{true}
-use Prim.Native.Nat.{ℕ, zero, suc, _-_, _≤_}
+use Prim.Native.Nat.{_≤_}
 use native.Mathlib.Omega.{arith}
-use lib.Dec.{eqb}
-use lib.ListN.{length, take, drop, replicate, length-drop}
+use lib.ListN.{length, take, drop, length-drop}
 use lib.Seq.{take-append-seam, drop-append-seam}
-use borrow.Author.Tests.{le-leb}
 use Rattle.paper.specs.Theorems.{AreBytes}
 use Rattle.meaning.specs.declared.Answer.the-variants.{Done}
 use Rattle.meaning.specs.declared.Layout.{Layout}
@@ -14,16 +11,16 @@ use Rattle.meaning.specs.declared.Configuration.{Configuration}
 use Rattle.meaning.specs.declared.Reply.{Reply}
 use Rattle.meaning.specs.declared.Written.{Written}
 use Rattle.meaning.specs.Card.{Bytes, layout}
-use Rattle.meaning.specs.Configurations.{padded, stateOf, configurationOf}
+use Rattle.meaning.specs.Configurations.{stateOf, configurationOf}
 use Rattle.meaning.specs.Place.{place, placed}
-use Rattle.meaning.specs.Refusals.{firstGiven, all, cardAnswer, placeTable, placeAnswer, actionsGood, configurationGood}
-use Rattle.meaning.proofs.Every.{both-true}
+use Rattle.meaning.specs.Refusals.{firstGiven, cardAnswer, placeTable, placeAnswer}
 use Rattle.meaning.proofs.Tables.{done≢refused, and-then-done}
 use Rattle.meaning.proofs.Places.{GoodPlace, good-place, place-laws}
-use Rattle.meaning.proofs.Configurations.{take-padded, configuration-laws}
+use Rattle.meaning.proofs.Configurations.{configuration-laws}
 use Rattle.meaning.proofs.Calls.{configuration-good}
 use Rattle.demands.specs.Contracts.{Saves}
 use Rattle.demands.specs.Demands.{OnAccepted}
+use Rattle.demands.proofs.Known.{Known, known-good}
 use Rattle.demands.proofs.Ways.{Writing, Replying, refused, no-room, done, saving}
 
 -- ---- what is restored is accepted, and saved again
@@ -35,19 +32,15 @@ plan-fits l p g =
     let e = g .ends in
     rw (length-drop 44 p) (omega arith)
 
-all-zeros : (n : ℕ) → all (λ x. eqb x 0) (replicate n 0) ≡ true
-all-zeros zero = refl
-all-zeros (suc n) = all-zeros n
-
-configuration-read : (l : Layout) (p : Bytes) → GoodPlace l p → configurationGood l (configurationOf (placed p)) ≡ true
-unfolding configurationGood configurationOf padded placed
-configuration-read l p g =
-    let π = drop 44 p in
-    let d : drop (length π) (padded π) ≡ replicate (1024 - length π) 0 = drop-append-seam π (replicate (1024 - length π) 0) in
-    let a : actionsGood (l .actions) (take (length π) (padded π)) ≡ true = rw (take-padded π (length π) refl) (g .actions) in
-    let z : all (λ x. eqb x 0) (drop (length π) (padded π)) ≡ true = rw d (all-zeros (1024 - length π)) in
-    both-true _ _ (le-leb _ _ (plan-fits l p g))
-    (both-true _ _ a (both-true _ _ (both-true _ _ (g .beliefs) (g .goals)) (both-true _ _ (le-leb _ _ (g .phase)) z)))
+pub restored-known : (l : Layout) (p : Bytes) → GoodPlace l p → Known l (placed p)
+unfolding placed
+restored-known l p g = record {
+  beliefs = g .beliefs;
+  goals = g .goals;
+  actions = g .actions;
+  fits = plan-fits l p g;
+  phase = g .phase;
+}
 
 -- p is written where there is room
 resaved : (b : Bytes) (c : Configuration) (p out left : Bytes) (r : Written) → OnAccepted b c → length p ≤ length out → Writing b c p out r left
@@ -56,7 +49,7 @@ resaved b c p out left r on h (refused w) = absurd (done≢refused (sym on ∙ w
 resaved b c p out left r on h (no-room w l) = absurd (omega arith)
 resaved b c p out left r on h (done w l) = (refl, (refl, (take-append-seam p (drop (length p) out), drop-append-seam p (drop (length p) out))))
 
-restored-good : (b p : Bytes) → placeAnswer b p ≡ Done → (cardAnswer b ≡ Done) × (firstGiven (placeTable (layout b)) p ≡ Done)
+pub restored-good : (b p : Bytes) → placeAnswer b p ≡ Done → (cardAnswer b ≡ Done) × (firstGiven (placeTable (layout b)) p ≡ Done)
 unfolding placeAnswer
 restored-good b p e = and-then-done (cardAnswer b) (firstGiven (placeTable (layout b)) p) e
 
@@ -68,7 +61,7 @@ restored-saved b p bytes r (done h) e out left room r′ w =
     let (card, table) = restored-good b p h in
     let c = configurationOf (placed p) in
     let k = good-place (layout b) p table in
-    let on : OnAccepted b c = configuration-good b c card (configuration-read (layout b) p k) in
+    let on : OnAccepted b c = configuration-good b c card (known-good (layout b) (placed p) (restored-known (layout b) p k)) in
     let s : stateOf c ≡ placed p = configuration-laws .of-state (placed p) (plan-fits (layout b) p k) in
     let q : place (stateOf c) ≡ p = ap place s ∙ place-laws .restored-saved (layout b) p bytes table in
     resaved b c p out left r′ on room (subst (λ (x : Bytes). Writing b c x out r′ left) q (saving b c out left r′ w))

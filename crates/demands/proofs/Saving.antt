@@ -26,8 +26,9 @@ use Rattle.meaning.proofs.Configurations.{good, configuration-laws}
 use Rattle.demands.specs.Contracts.{Shaped, Restores}
 use Rattle.demands.specs.Demands.{OnAccepted}
 use Rattle.demands.proofs.Codes.{card-accepted}
-use Rattle.demands.proofs.Ordering.{passed-good, plan-fits}
+use Rattle.demands.proofs.Ordering.{passed-good}
 use Rattle.meaning.proofs.Calls.{restores-good}
+use Rattle.demands.proofs.Known.{Known, known-of}
 use Rattle.demands.proofs.Ways.{Writing, refused, no-room, done}
 
 -- ---- a table whose rows are passed
@@ -46,15 +47,11 @@ module _ {X : Type 0} where
 pub record Kept (l : Layout) (s : State) : Type 0 where
   pub beliefs : length (s .mental .σ) ≡ 16
   pub goals : length (s .mental .γ) ≡ 16
-  pub fits : length (s .mental .π) ≤ 1024
-  pub phase : s .phase ≤ 2
-  pub known-actions : actionsGood (l .actions) (s .mental .π) ≡ true
-  pub known-beliefs : setGood (l .atoms) (s .mental .σ) ≡ true
-  pub known-goals : setGood (l .atoms) (s .mental .γ) ≡ true
+  pub known : Known l s
 
 module _ (l : Layout) (s : State) (k : Kept l s) where
   same : placed (place s) ≡ s
-  same = place-laws .saved-restored s (k .beliefs) (k .goals) (k .phase)
+  same = place-laws .saved-restored s (k .beliefs) (k .goals) (k .known .phase)
 
   length-place : length (place s) ≡ 44 + length (s .mental .π)
   unfolding place placeHeader
@@ -71,7 +68,7 @@ module _ (l : Layout) (s : State) (k : Kept l s) where
   length-at : numberAt (place s) 4 ≡ length (s .mental .π)
   unfolding place placeHeader
   length-at =
-      let f = k .fits in
+      let f = k .known .fits in
       let n = length (s .mental .π) in
       let z : n % 256 + 256 * (n / 256 % 256) ≡ n = omega arith in
       z
@@ -106,8 +103,8 @@ module _ (l : Layout) (s : State) (k : Kept l s) where
 
   counted : (leb (numberAt (place s) 4) 1024 && (leb (numberAt (place s) 8) 2 && eqb (numberAt (place s) 10) 0)) ≡ true
   counted =
-      let a : leb (numberAt (place s) 4) 1024 ≡ true = rw length-at (le-leb _ _ (k .fits)) in
-      let b : leb (numberAt (place s) 8) 2 ≡ true = rw phase-at (le-leb _ _ (k .phase)) in
+      let a : leb (numberAt (place s) 4) 1024 ≡ true = rw length-at (le-leb _ _ (k .known .fits)) in
+      let b : leb (numberAt (place s) 8) 2 ≡ true = rw phase-at (le-leb _ _ (k .known .phase)) in
       both-true _ _ a (both-true _ _ b zeros)
 
   laid-out : (eqb (numberAt (place s) 6) 44 && eqb (length (place s)) (44 + numberAt (place s) 4)) ≡ true
@@ -117,13 +114,13 @@ module _ (l : Layout) (s : State) (k : Kept l s) where
   long-enough = let e = length-place in le-leb 44 (length (place s)) (omega arith)
 
   plan-good : actionsGood (l .actions) (drop 44 (place s)) ≡ true
-  plan-good = rw plan-at (k .known-actions)
+  plan-good = rw plan-at (k .known .actions)
 
   beliefs-good : setGood (l .atoms) (part (place s) 12 16) ≡ true
-  beliefs-good = rw beliefs-at (k .known-beliefs)
+  beliefs-good = rw beliefs-at (k .known .beliefs)
 
   goals-good : setGood (l .atoms) (part (place s) 28 16) ≡ true
-  goals-good = rw goals-at (k .known-goals)
+  goals-good = rw goals-at (k .known .goals)
 
   pub place-done : firstGiven (placeTable l) (place s) ≡ Done
   unfolding placeTable
@@ -142,17 +139,7 @@ place-accepted b s e k = ap (λ a. andThen a (firstGiven (placeTable (layout b))
 
 kept : (b : Bytes) (c : Configuration) → OnAccepted b c → Shaped c → Kept (layout b) (stateOf c)
 unfolding stateOf
-kept b c on h =
-    let g = good (layout b) c (passed-good b c on) in
-    record {
-      beliefs = h .beliefs .0;
-      goals = h .goals .0;
-      fits = plan-fits b c on;
-      phase = g .phase;
-      known-actions = g .actions;
-      known-beliefs = g .beliefs;
-      known-goals = g .goals;
-    }
+kept b c on h = record { beliefs = h .beliefs; goals = h .goals; known = known-of (layout b) c (passed-good b c on) }
 
 pub saved-restored : (b : Bytes) (c : Configuration) → Shaped c → (out left : Bytes) (r : Written) → Writing b c (place (stateOf c)) out r left
     → r .answer ≡ Done → (r′ : Reply) → Restores b (take (r .count) left) r′ → (r′ .answer ≡ Done) × (r′ .configuration ≡ c)
@@ -164,7 +151,7 @@ saved-restored b c h out left r (done on l) e r′ f =
     let t : take (length p) (over p out) ≡ p = take-append-seam p (drop (length p) out) in
     let a : placeAnswer b p ≡ Done = place-accepted b (stateOf c) (card-accepted b c on) k in
     let z : r′ ≡ reply Done (configurationOf (placed p)) = f ∙ ap (restores b) t ∙ restores-good b p a in
-    let y : configurationOf (placed p) ≡ c = ap configurationOf (same (layout b) (stateOf c) k) ∙ configuration-laws .of-configuration (layout b) c (h .plan .0) (passed-good b c on) in
+    let y : configurationOf (placed p) ≡ c = ap configurationOf (same (layout b) (stateOf c) k) ∙ configuration-laws .of-configuration (layout b) c (h .plan) (passed-good b c on) in
     (ap (λ (x : Reply). x .answer) z, ap (λ (x : Reply). x .configuration) z ∙ y)
 
 -- ---- 44 + L bytes, and no others
@@ -173,7 +160,7 @@ pub saved-length : (b : Bytes) (c : Configuration) → Shaped c → OnAccepted b
 unfolding stateOf
 saved-length b c h on =
     let f : c .mind .length ≤ 1024 = good (layout b) c (passed-good b c on) .fits in
-    let p : length (c .plan) ≡ 1024 = h .plan .0 in
+    let p : length (c .plan) ≡ 1024 = h .plan in
     let n : length (take (c .mind .length) (c .plan)) ≡ c .mind .length = length-take-le (c .mind .length) (c .plan) (omega arith) in
     length-place (layout b) (stateOf c) (kept b c on h) ∙ ap (λ k. 44 + k) n
 

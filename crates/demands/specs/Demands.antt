@@ -9,6 +9,7 @@ use lib.ListN.{length, take, drop}
 use Rattle.paper.specs.Language.{Config}
 use Rattle.paper.specs.Transitions.{Choice, Step}
 use Rattle.paper.specs.Theorems.{AreBytes}
+use Rattle.runs.specs.Limits.{longestPlan, heaviestPlan}
 use Rattle.runs.specs.declared.Ending.{Ending}
 use Rattle.runs.specs.declared.Verdict.{Verdict}
 use Rattle.runs.specs.Order.{State, code}
@@ -146,17 +147,17 @@ pub record Demand2 : Type 0 where
   pub moves-one : (b : Bytes) (c : Configuration) (ns ms : List ℕ) → AllMoves b c ns → AllMoves b c ms → ns ≡ ms
   -- 00, demand 2: "A chosen move is taken exactly if it is such a transition and its plan fits."
   pub taken-exactly : (b : Bytes) (c : Configuration) → OnAccepted b c → (n : ℕ) (r : Reply) → Takes b c n r
-      → (r .answer ≡ Done) ↔ ((k : Choice) × ((c′ : Config) × (ChosenMove b c n k c′ × (length (c′ .π) ≤ 1024))))
+      → (r .answer ≡ Done) ↔ ((k : Choice) × ((c′ : Config) × (ChosenMove b c n k c′ × (length (c′ .π) ≤ longestPlan))))
   -- The configuration it leads to: 01, "A configuration and its transitions", The guide's order: "After any transition, the
   -- guide's or a chosen one, the phase is the kind taken plus 1, modulo 3."
   pub taken-to : (b : Bytes) (c : Configuration) → OnAccepted b c → (n : ℕ) (r : Reply) → Takes b c n r
-      → (k : Choice) (c′ : Config) → ChosenMove b c n k c′ → length (c′ .π) ≤ 1024 → StandsFor (r .configuration) (after (stateOf c) k c′)
+      → (k : Choice) (c′ : Config) → ChosenMove b c n k c′ → length (c′ .π) ≤ longestPlan → StandsFor (r .configuration) (after (stateOf c) k c′)
   -- 01, "Numbers the guide may answer", row 10: "the code is no enabled choice"
   pub not-enabled-exactly : (b : Bytes) (c : Configuration) → OnAccepted b c → (n : ℕ) (r : Reply) → Takes b c n r
       → (r .answer ≡ Refused Refusal.NotEnabled) ↔ ((k : Choice) (c′ : Config) → ChosenMove b c n k c′ → ⊥)
   -- 01, "Numbers the guide may answer", row 11: "the choice is enabled, but leaves more than 1,024 actions"
   pub plan-full-exactly : (b : Bytes) (c : Configuration) → OnAccepted b c → (n : ℕ) (r : Reply) → Takes b c n r
-      → (r .answer ≡ Refused Refusal.PlanFull) ↔ ((k : Choice) × ((c′ : Config) × (ChosenMove b c n k c′ × (1024 < length (c′ .π)))))
+      → (r .answer ≡ Refused Refusal.PlanFull) ↔ ((k : Choice) × ((c′ : Config) × (ChosenMove b c n k c′ × (longestPlan < length (c′ .π)))))
   -- 01, "A configuration and its transitions": "A choice is coded as …": a code in the list is read as the choice it stands for.
   pub read-back : (b : Bytes) (c : Configuration) → OnAccepted b c → (k : Choice) (c′ : Config) → Transition b c k c′
       → choice (code k) ≡ some k
@@ -189,6 +190,19 @@ pub record Demand2 : Type 0 where
 
 -- ---- demand 3
 
+-- 01, "Expected forms by place": "count of transitions taken is in the answer and equals the steps of the definition's chain,
+-- bounded also by plan weight on bounded cards": of a run's answer on a bounded card, from a plan that weighs w.
+pub record BoundedCount (b : Bytes) (c : Configuration) (w : ℕ) (r : Ran) : Type 0 where
+  -- its choices
+  pub choices : List Choice
+  -- 01, "Expected forms by place": "equals the steps of the definition's chain"
+  pub chain : Chain (agent b) (stateOf c .mental) choices (stateOf (r .configuration) .mental)
+  pub counted : r .count ≡ length choices
+  -- 00, demand 3: "a run with S selections has at most W plus 1,025 times S transitions"
+  pub at-most : r .count ≤ w + 1025 * selections choices
+  -- 00, demand 3: "no run of more than W transitions without a plan selection exists"
+  pub without-selection : selections choices ≡ 0 → r .count ≤ w
+
 -- 00, demand 3, of every answer that meets a call's contract.
 pub record Demand3 : Type 0 where
   -- 00, demand 3: "A card is graded bounded exactly if its starting plans weigh at most 1,024 and each revision lowers the
@@ -201,23 +215,27 @@ pub record Demand3 : Type 0 where
   -- 00, demand 3: "Under such a card, from a configuration whose plan weighs W, at most 1,024, no run of more than W
   -- transitions without a plan selection exists, whoever chooses"
   pub without-selection : (b : Bytes) (g : Graded) → Grades b g → g .verdict ≡ Verdict.Bounded
-      → (c c′ : Config) (ks : List Choice) → weigh (weight b) (c .π) ≤ 1024 → Chain (agent b) c ks c′
+      → (c c′ : Config) (ks : List Choice) → weigh (weight b) (c .π) ≤ heaviestPlan → Chain (agent b) c ks c′
       → selections ks ≡ 0 → length ks ≤ weigh (weight b) (c .π)
   -- 00, demand 3: "a run with S selections has at most W plus 1,025 times S transitions"
   pub with-selections : (b : Bytes) (g : Graded) → Grades b g → g .verdict ≡ Verdict.Bounded
-      → (c c′ : Config) (ks : List Choice) → weigh (weight b) (c .π) ≤ 1024 → Chain (agent b) c ks c′
+      → (c c′ : Config) (ks : List Choice) → weigh (weight b) (c .π) ≤ heaviestPlan → Chain (agent b) c ks c′
       → length ks ≤ weigh (weight b) (c .π) + 1025 * selections ks
   -- 00, demand 3: "and no run, selections included, ever meets a plan too long"
   pub never-too-long : (b : Bytes) (g : Graded) → Grades b g → g .verdict ≡ Verdict.Bounded
-      → (c c′ : Config) (ks : List Choice) → weigh (weight b) (c .π) ≤ 1024 → Chain (agent b) c ks c′
-      → length (c′ .π) ≤ 1024
+      → (c c′ : Config) (ks : List Choice) → weigh (weight b) (c .π) ≤ heaviestPlan → Chain (agent b) c ks c′
+      → length (c′ .π) ≤ longestPlan
   -- the same sentence of run: 01, "A configuration and its transitions": "full" is never its ending.
   pub never-full : (b : Bytes) (g : Graded) → Grades b g → g .verdict ≡ Verdict.Bounded
-      → (c : Configuration) → weigh (weight b) (stateOf c .mental .π) ≤ 1024
+      → (c : Configuration) → weigh (weight b) (stateOf c .mental .π) ≤ heaviestPlan
       → (budget : ℕ) (r : Ran) → Runs b c budget r → r .ending ≡ Ending.Full → ⊥
+  -- the sentence before of run: its count.
+  pub run-count : (b : Bytes) (g : Graded) → Grades b g → g .verdict ≡ Verdict.Bounded
+      → (c : Configuration) → weigh (weight b) (stateOf c .mental .π) ≤ heaviestPlan
+      → (budget : ℕ) (r : Ran) → Runs b c budget r → BoundedCount b c (weigh (weight b) (stateOf c .mental .π)) r
   -- the same sentence of take: 01, "Numbers the guide may answer", row 11: "plan full" is never its answer.
   pub never-plan-full : (b : Bytes) (g : Graded) → Grades b g → g .verdict ≡ Verdict.Bounded
-      → (c : Configuration) → weigh (weight b) (stateOf c .mental .π) ≤ 1024
+      → (c : Configuration) → weigh (weight b) (stateOf c .mental .π) ≤ heaviestPlan
       → (n : ℕ) (r : Reply) → Takes b c n r → r .answer ≡ Refused Refusal.PlanFull → ⊥
 
 -- ---- one answer

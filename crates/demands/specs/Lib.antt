@@ -1,2 +1,4 @@
 pub mod Contracts
 pub mod Demands
+pub mod Closed
+pub mod TestOrder

@@ -1,8 +1,10 @@
 // The guide: the eight calls. Nothing is assumed of any byte or number; each contract cites one definition of the whole answer,
 // refusals too, and of what a lent buffer holds afterwards. A configuration goes in and comes back by value.
 ghost use mathlib.Core.Path.{_≡_};
-ghost use Rattle.demands.specs.Contracts.{Checks, Loads, Grades, Lists, Takes, Runs, Saves, Restores};
-ghost use Rattle.choices.specs.InPlace.{replyWith};
+ghost use Rattle.paper.specs.Theorems.{AreBytes};
+ghost use Rattle.demands.specs.Contracts.{Checks, Loads, Grades, Lists, Takes, Runs, Saves, Restores, Shaped};
+ghost use Rattle.choices.specs.InPlace.{replyWith, ranWith};
+use choices::in_place::RanInPlace;
 use choices::in_place::ReplyInPlace;
 use meaning::Checked;
 use meaning::Configuration;
@@ -36,6 +38,7 @@ fn reply_with(r: ReplyInPlace, plan: [u8; 1024]) -> Reply
 // The configuration that a card starts with.
 pub fn load(card: &[u8]) -> Reply
     ensures { λ r. ⌜ Loads (now (card .entry)) r ⌝ }
+    ensures { λ r. ⌜ Shaped (r .configuration) ⌝ }
 {
     let mut plan = [0u8; 1024];
     let r = place::load::load(card, &mut plan);
@@ -66,6 +69,7 @@ pub fn list(card: &[u8], c: Configuration, out: &mut [u16]) -> Written
 // The chosen move, if it is a transition and its plan fits.
 pub fn take(card: &[u8], c: Configuration, choice: u16) -> Reply
     ensures { λ r. ⌜ Takes (now (card .entry)) c choice r ⌝ }
+    ensures { λ r. ⌜ Shaped (r .configuration) ⌝ }
 {
     let m = c.mind;
     let mut plan = c.plan;
@@ -73,30 +77,39 @@ pub fn take(card: &[u8], c: Configuration, choice: u16) -> Reply
     reply_with(r, plan)
 }
 
-// At most budget moves of the guide's own.
-pub fn run(card: &[u8], c: Configuration, budget: u16) -> Ran
-    ensures { λ r. ⌜ Runs (now (card .entry)) c budget r ⌝ }
+// What a run answered in place, with the plan.
+fn ran_with(r: RanInPlace, plan: [u8; 1024]) -> Ran
+    ensures { λ x. ⌜ x ≡ ranWith r plan ⌝ }
 {
-    let m = c.mind;
-    let mut plan = c.plan;
-    let r = moves::run::run(card, m, &mut plan, budget);
     let a = r.answer;
     let e = r.ending;
-    let after = r.mind;
+    let m = r.mind;
     Ran {
         answer: a,
         count: r.count,
         ending: e,
         configuration: Configuration {
-            mind: after,
+            mind: m,
             plan: plan,
         },
     }
 }
 
+// At most budget moves of the guide's own.
+pub fn run(card: &[u8], c: Configuration, budget: u16) -> Ran
+    ensures { λ r. ⌜ Runs (now (card .entry)) c budget r ⌝ }
+    ensures { λ r. ⌜ Shaped (r .configuration) ⌝ }
+{
+    let m = c.mind;
+    let mut plan = c.plan;
+    let r = moves::run::run(card, m, &mut plan, budget);
+    ran_with(r, plan)
+}
+
 // The configuration into a lent buffer: 44 + L bytes and no others.
 pub fn save(card: &[u8], c: Configuration, out: &mut [u8]) -> Written
     ensures { λ r. ⌜ Saves (now (card .entry)) c (now (out .entry)) r (now (out .exit)) ⌝ }
+    ensures { λ r. ⌜ Shaped c ⌝ }
 {
     let m = c.mind;
     let r = place::save::save(card, m, &c.plan, out);
@@ -111,6 +124,8 @@ pub fn save(card: &[u8], c: Configuration, out: &mut [u8]) -> Written
 // The configuration that a place holds.
 pub fn restore(card: &[u8], p: &[u8]) -> Reply
     ensures { λ r. ⌜ Restores (now (card .entry)) (now (p .entry)) r ⌝ }
+    ensures { λ r. ⌜ Shaped (r .configuration) ⌝ }
+    ensures { λ r. ⌜ AreBytes (now (p .entry)) ⌝ }
 {
     let mut plan = [0u8; 1024];
     let r = place::restore::restore(card, p, &mut plan);

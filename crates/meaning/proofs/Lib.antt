@@ -9,3 +9,5 @@ pub mod Parts
 pub mod Pass
 pub mod Nodes
 pub mod Places
+pub mod Entries
+pub mod AtomKinds

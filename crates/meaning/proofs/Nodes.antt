@@ -8,7 +8,7 @@ use native.Mathlib.Omega.{arith}
 use lib.Dec.{ltb}
 use lib.ListN.{length, getD}
 use borrow.Author.Tests.{ltb-true}
-use Rattle.paper.specs.Language.{Letter, Query, ⊤, atom, ¬′, _∧′_, _∨′_}
+use Rattle.paper.specs.Language.{Letter, 𝐁, 𝐆, Query, ⊤, atom, ¬′, _∧′_, _∨′_}
 use Rattle.paper.proofs.Relation.{both, false≢true}
 use Rattle.runs.proofs.Numbers.{length-made, made-at}
 use Rattle.meaning.specs.declared.Layout.{Layout}
@@ -92,16 +92,20 @@ contains-children kind zero a b q q′ f s = refl
 contains-children kind (suc zero) a b q q′ f s = refl
 contains-children kind (suc (suc zero)) a b q q′ f s = refl
 contains-children kind (suc (suc (suc zero))) a b q q′ f s = f (omega arith)
-contains-children kind (suc (suc (suc (suc k)))) a b q q′ f s = ap₂ _||_ (f (omega arith)) (s (omega arith))
+contains-children kind (suc (suc (suc (suc zero)))) a b q q′ f s = ap₂ _||_ (f (omega arith)) (s (omega arith))
+contains-children kind (suc (suc (suc (suc (suc zero))))) a b q q′ f s = ap₂ _||_ (f (omega arith)) (s (omega arith))
+contains-children kind (suc (suc (suc (suc (suc (suc k)))))) a b q q′ f s = refl
 
-pub query-children : {L : Letter} (k a b : ℕ) (q q′ : ℕ → Query L) → (3 ≤ k → q a ≡ q′ a) → (4 ≤ k → q b ≡ q′ b) → queryOf k a b q ≡ queryOf k a b q′
-query-children zero a b q q′ f s = refl
-query-children (suc zero) a b q q′ f s = refl
-query-children (suc (suc zero)) a b q q′ f s = refl
-query-children (suc (suc (suc zero))) a b q q′ f s = ap ¬′ (f (omega arith))
-query-children (suc (suc (suc (suc zero)))) a b q q′ f s = ap₂ _∧′_ (f (omega arith)) (s (omega arith))
-query-children (suc (suc (suc (suc (suc zero))))) a b q q′ f s = ap₂ _∨′_ (f (omega arith)) (s (omega arith))
-query-children (suc (suc (suc (suc (suc (suc k)))))) a b q q′ f s = refl
+pub query-children : (L : Letter) (k a b : ℕ) (q q′ : ℕ → Query L) → (3 ≤ k → q a ≡ q′ a) → (4 ≤ k → q b ≡ q′ b) → queryOf L k a b q ≡ queryOf L k a b q′
+query-children L zero a b q q′ f s = refl
+query-children 𝐁 (suc zero) a b q q′ f s = refl
+query-children 𝐆 (suc zero) a b q q′ f s = refl
+query-children 𝐁 (suc (suc zero)) a b q q′ f s = refl
+query-children 𝐆 (suc (suc zero)) a b q q′ f s = refl
+query-children L (suc (suc (suc zero))) a b q q′ f s = ap ¬′ (f (omega arith))
+query-children L (suc (suc (suc (suc zero)))) a b q q′ f s = ap₂ _∧′_ (f (omega arith)) (s (omega arith))
+query-children L (suc (suc (suc (suc (suc zero))))) a b q q′ f s = ap₂ _∨′_ (f (omega arith)) (s (omega arith))
+query-children L (suc (suc (suc (suc (suc (suc k)))))) a b q q′ f s = refl
 
 module _ (l : Layout) (b : Bytes) (good : nodesGood l b ≡ true) (i : ℕ) (h : i < l .nodes .count) where
   pub contains-at : (kind : ℕ)
@@ -110,6 +114,6 @@ module _ (l : Layout) (b : Bytes) (good : nodesGood l b ≡ true) (i : ℕ) (h :
   contains-at kind = made-of l b good i h (containsOf kind) false (contains-children kind)
 
   pub condition-at : (L : Letter)
-      → getD (conditions L l b) i ⊤ ≡ queryOf (nodeAt l b i .kind) (nodeAt l b i .a) (nodeAt l b i .b) (λ j. getD (conditions L l b) j ⊤)
+      → getD (conditions L l b) i ⊤ ≡ queryOf L (nodeAt l b i .kind) (nodeAt l b i .a) (nodeAt l b i .b) (λ j. getD (conditions L l b) j ⊤)
   unfolding conditions
-  condition-at L = made-of l b good i h queryOf ⊤ query-children
+  condition-at L = made-of l b good i h (queryOf L) ⊤ (query-children L)

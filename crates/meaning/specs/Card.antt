@@ -117,22 +117,24 @@ module _ {X : Type 0} (make : ℕ → Node → (ℕ → X) → X) (other : X) wh
   abbrev pub pass : List Node → List X
   pass ns = passOn [] ns
 
--- 01, "The card, edition 1": "Kind 0 true …; 1 believes a; 2 has goal a …; 3 not a …; 4 a and b; 5 a or b." Of a belief
--- condition every atom is of kind 1, and of a goal condition of kind 2. There is no kind 6 (docs/DECISIONS.md, "An unknown node
--- or kind in the definitions").
-abbrev pub queryOf : {L : Letter} → ℕ → ℕ → ℕ → (ℕ → Query L) → Query L
-queryOf zero a b query = ⊤
-queryOf (suc zero) a b query = atom a
-queryOf (suc (suc zero)) a b query = atom a
-queryOf (suc (suc (suc zero))) a b query = ¬′ (query a)
-queryOf (suc (suc (suc (suc zero)))) a b query = query a ∧′ query b
-queryOf (suc (suc (suc (suc (suc zero))))) a b query = query a ∨′ query b
-queryOf (suc (suc (suc (suc (suc (suc k)))))) a b query = ⊤
+-- 01, "The card, edition 1": "Kind 0 true …; 1 believes a; 2 has goal a …; 3 not a …; 4 a and b; 5 a or b.", read by the letter
+-- of the condition: an atom of a belief condition is of kind 1, one of a goal condition of kind 2. What is no such node is
+-- "true" (docs/DECISIONS.md, "An unknown node or kind in the definitions").
+abbrev pub queryOf : (L : Letter) → ℕ → ℕ → ℕ → (ℕ → Query L) → Query L
+queryOf L zero a b query = ⊤
+queryOf 𝐁 (suc zero) a b query = atom a
+queryOf 𝐆 (suc zero) a b query = ⊤
+queryOf 𝐁 (suc (suc zero)) a b query = ⊤
+queryOf 𝐆 (suc (suc zero)) a b query = atom a
+queryOf L (suc (suc (suc zero))) a b query = ¬′ (query a)
+queryOf L (suc (suc (suc (suc zero)))) a b query = query a ∧′ query b
+queryOf L (suc (suc (suc (suc (suc zero))))) a b query = query a ∨′ query b
+queryOf L (suc (suc (suc (suc (suc (suc k)))))) a b query = ⊤
 
 -- 01, "A configuration and its transitions": "Conditions (004, Definitions 3 and 8)": what each node stands for, as a belief
 -- condition or as a goal condition.
 unfoldable pub conditions : (L : Letter) → Layout → Bytes → List (Query L)
-conditions L l b = pass (λ i n query. queryOf (n .kind) (n .a) (n .b) query) ⊤ (nodes l b)
+conditions L l b = pass (λ i n query. queryOf L (n .kind) (n .a) (n .b) query) ⊤ (nodes l b)
 
 -- A node's condition, by its number. Serves the entries: 01, "The card, edition 1": "action, node", "belief node, goal node". A
 -- node past the last one is "true" (docs/DECISIONS.md, "An unknown node or kind in the definitions").

@@ -3,6 +3,7 @@ use mathlib.Core.List.{[], _++_}
 use Prim.Native.Nat.{_-_}
 use lib.ListN.{length, take, replicate}
 use Rattle.paper.specs.Language.{Plan, ⟨_/_/_⟩}
+use Rattle.runs.specs.Limits.{longestPlan}
 use Rattle.runs.specs.Order.{State}
 use Rattle.meaning.specs.Card.{Bytes}
 use Rattle.meaning.specs.declared.Mind.{Mind}
@@ -11,7 +12,7 @@ use Rattle.meaning.specs.declared.Configuration.{Configuration}
 -- A plan in its 1,024 bytes, with zeros after its end. Serves configurationOf: 01, "Numbers the guide may answer", row 13:
 -- "anything but zero after the plan's end" is refused.
 unfoldable pub padded : Plan → Bytes
-padded π = π ++ replicate (1024 - length π) 0
+padded π = π ++ replicate (longestPlan - length π) 0
 
 -- 01, "A configuration and its transitions": "A configuration is a set of believed atoms, a set of goal atoms, a plan (0 to
 -- 1,024 action numbers) and a phase 0, 1 or 2.": the one that is handed in.

@@ -5,6 +5,7 @@ use Prim.Native.Nat.{ℕ, zero, suc, _+_, _*_, _-_}
 use lib.Dec.{leb, ltb, eqb}
 use lib.ListN.{length, getD, take, drop}
 use Rattle.paper.specs.Atoms.{Atoms, _∈_}
+use Rattle.runs.specs.Limits.{longestPlan, heaviestAction}
 use Rattle.runs.specs.Order.{numbers}
 use Rattle.meaning.specs.declared.Refusal.{Refusal}
 use Rattle.meaning.specs.declared.Answer.{Answer}
@@ -121,7 +122,7 @@ offsetsGood l n =
 
 -- Not 01, "Numbers the guide may answer", row 5: "a weight is 0 or over 1,024"
 unfoldable pub weightsGood : Layout → Bytes → Bool
-weightsGood l b = every (l .actions) (λ a. within 1 1024 (weightAt b a))
+weightsGood l b = every (l .actions) (λ a. within 1 heaviestAction (weightAt b a))
 
 -- Node i of a card with n atoms: 01, "The card, edition 1": "Kind 0 true (a = b = 0); 1 believes a; 2 has goal a (in both b = 0
 -- and a is below the number of atoms); 3 not a (b = 0); 4 a and b; 5 a or b. A child's number is lower than the node's own."
@@ -145,13 +146,15 @@ nodesGood l b = every (l .nodes .count) (λ i. nodeGood (l .atoms) i (nodeAt l b
 
 -- 01, "A configuration and its transitions": "A belief condition contains no goal atom, and a goal condition no belief atom.":
 -- whether an atom of a kind (1 believes, 2 has goal) stands in a node's condition, by form (docs/DECISIONS.md, "Condition of
--- the wrong kind"). A kind past 5 counts as "or"; no accepted card has one.
+-- the wrong kind"). What is no node of kinds 0 to 5 contains none.
 abbrev pub containsOf : ℕ → ℕ → ℕ → ℕ → (ℕ → Bool) → Bool
 containsOf kind zero a b contains = false
 containsOf kind (suc zero) a b contains = eqb kind 1
 containsOf kind (suc (suc zero)) a b contains = eqb kind 2
 containsOf kind (suc (suc (suc zero))) a b contains = contains a
-containsOf kind (suc (suc (suc (suc k)))) a b contains = contains a || contains b
+containsOf kind (suc (suc (suc (suc zero)))) a b contains = contains a || contains b
+containsOf kind (suc (suc (suc (suc (suc zero))))) a b contains = contains a || contains b
+containsOf kind (suc (suc (suc (suc (suc (suc k)))))) a b contains = false
 
 -- containsOf for each node, in one pass. Serves conditionGood: 01, "Numbers the guide may answer", row 7: "condition of the
 -- wrong kind".
@@ -166,7 +169,7 @@ conditionGood l others n = ltb n (l .nodes .count) && not (getD others n false)
 -- 01, "The card, edition 1": "start plus length at most the pool's bytes", and a length from least to 1,024: "length
 -- (1..1,024)", "body length (0..1,024)", "length 0..1,024".
 abbrev pub spanGood : Layout → ℕ → Span → Bool
-spanGood l least s = within least 1024 (s .length) && leb (s .start + s .length) (l .pool .count)
+spanGood l least s = within least longestPlan (s .length) && leb (s .start + s .length) (l .pool .count)
 
 -- Not 01, "Numbers the guide may answer", row 7: "an entry … breaks its rule", of a specification. 01, "A configuration and its
 -- transitions": "A specification's and a revision's condition are belief conditions." gs tells the nodes that contain a goal
@@ -259,7 +262,7 @@ placeMarkGood p = marked 0x50 p
 
 -- Not 01, "Numbers the guide may answer", row 3: "in a place L over 1,024, phase over 2, or bytes 10 and 11 not zero"
 abbrev pub placeCountsGood : Bytes → Bool
-placeCountsGood p = leb (numberAt p 4) 1024 && (leb (numberAt p 8) 2 && eqb (numberAt p 10) 0)
+placeCountsGood p = leb (numberAt p 4) longestPlan && (leb (numberAt p 8) 2 && eqb (numberAt p 10) 0)
 
 -- Not 01, "Numbers the guide may answer", row 4: "an offset or the total length is not the required one". 01, "The place": "plan
 -- offset 44 at 6", "Exactly 44 + L bytes."
@@ -294,7 +297,7 @@ placeAnswer b p = andThen (cardAnswer b) (firstGiven (placeTable (layout b)) p)
 -- to the card, a phase over 2, or anything but zero after the plan's end"
 unfoldable pub configurationGood : Layout → Configuration → Bool
 configurationGood l c =
-    leb (c .mind .length) 1024
+    leb (c .mind .length) longestPlan
     && (actionsGood (l .actions) (take (c .mind .length) (c .plan))
     && (bothGood (l .atoms) (c .mind .beliefs) (c .mind .goals)
     && (leb (c .mind .phase) 2

@@ -3,16 +3,17 @@ use mathlib.Core.Path.{_≡_}
 use mathlib.Core.Logic.{_↔_}
 use mathlib.Core.Bool.{true, false}
 use mathlib.Core.List.{List, [], _∷_, _++_, map, List·Memᴰ}
-use Prim.Native.Nat.{ℕ, _≤_}
+use Prim.Native.Nat.{ℕ, _≤_, _<_}
 use lib.ListN.{length}
 use Rattle.paper.specs.Theorems.{AreBytes}
+use Rattle.runs.specs.Limits.{longestPlan}
 use Rattle.runs.specs.Order.{State}
 use Rattle.runs.specs.Theorems.{Numbered, GradeLaws}
 use Rattle.meaning.specs.declared.Refusal.{Refusal}
 use Rattle.meaning.specs.declared.Answer.the-variants.{Done, Refused}
 use Rattle.meaning.specs.declared.Layout.{Layout}
 use Rattle.meaning.specs.declared.Configuration.{Configuration}
-use Rattle.meaning.specs.Card.{Bytes, weight, agent, initialPlan}
+use Rattle.meaning.specs.Card.{Bytes, layout, nodeAt, specificationAt, selectionAt, revisionAt, weight, agent, initialPlan}
 use Rattle.meaning.specs.Configurations.{stateOf, configurationOf}
 use Rattle.meaning.specs.Place.{place, placed}
 use Rattle.meaning.specs.Refusals.{numberOf, cardAnswer, Row, firstGiven, cardTable, configurationTable, placeTable, configurationGood}
@@ -71,14 +72,39 @@ pub record CardLaws (b : Bytes) : Type 0 where
 abbrev pub CardLaw : Type 0
 CardLaw = (b : Bytes) → cardAnswer b ≡ Done → CardLaws b
 
+-- Node j stands in the condition of node i: it is that node, or stands in one of its children. Serves KindLaws: 01, "The card,
+-- edition 1": "3 not a (b = 0); 4 a and b; 5 a or b."
+pub data StandsIn (l : Layout) (b : Bytes) (j : ℕ) : ℕ → Type 0 where
+  is-it : StandsIn l b j j
+  in-first : {i : ℕ} → 3 ≤ nodeAt l b i .kind → StandsIn l b j (nodeAt l b i .a) → StandsIn l b j i
+  in-second : {i : ℕ} → 4 ≤ nodeAt l b i .kind → StandsIn l b j (nodeAt l b i .b) → StandsIn l b j i
+
+-- No node of a kind stands in the condition of node i. Serves KindLaws.
+abbrev pub Without : Bytes → ℕ → ℕ → Type 0
+Without b kind i = (j : ℕ) → StandsIn (layout b) b j i → nodeAt (layout b) b j .kind ≡ kind → ⊥
+
+-- 01, "A configuration and its transitions": "A belief condition contains no goal atom, and a goal condition no belief atom.":
+-- of a card's entries, so that no atom is read by the other letter.
+pub record KindLaws (b : Bytes) : Type 0 where
+  -- 01, "A configuration and its transitions": "A specification's and a revision's condition are belief conditions."
+  pub specification : (i : ℕ) → i < layout b .specifications .count → Without b 2 (specificationAt (layout b) b i .node)
+  pub revision : (i : ℕ) → i < layout b .revisions .count → Without b 2 (revisionAt (layout b) b i .node)
+  -- 01, "The card, edition 1": "belief node, goal node"
+  pub selection-belief : (i : ℕ) → i < layout b .selections .count → Without b 2 (selectionAt (layout b) b i .belief)
+  pub selection-goal : (i : ℕ) → i < layout b .selections .count → Without b 1 (selectionAt (layout b) b i .goal)
+
+-- The same of every accepted card.
+abbrev pub KindLaw : Type 0
+KindLaw = (b : Bytes) → cardAnswer b ≡ Done → KindLaws b
+
 -- 00, demand 2: "On an accepted card and configuration": one that passes row 13 is known by its state, and a state that fits by
 -- its configuration.
 pub record ConfigurationLaws : Type 0 where
   -- 01, "A configuration and its transitions": "a plan (0 to 1,024 action numbers)": what is handed out stands for the state.
-  pub of-state : (s : State) → length (s .mental .π) ≤ 1024 → stateOf (configurationOf s) ≡ s
+  pub of-state : (s : State) → length (s .mental .π) ≤ longestPlan → stateOf (configurationOf s) ≡ s
   -- 01, "Numbers the guide may answer", row 13: "anything but zero after the plan's end": what is handed in is nothing beside
   -- its state.
-  pub of-configuration : (l : Layout) (c : Configuration) → length (c .plan) ≡ 1024 → configurationGood l c ≡ true
+  pub of-configuration : (l : Layout) (c : Configuration) → length (c .plan) ≡ longestPlan → configurationGood l c ≡ true
       → configurationOf (stateOf c) ≡ c
 
 -- 00, demand 2: "A place saved and restored is the same configuration; an accepted place, restored and saved, is the same

@@ -17,7 +17,8 @@ use Rattle.paper.proofs.Relation.{enabled-exactly}
 use Rattle.runs.specs.declared.Ending.{Ending}
 use Rattle.runs.specs.Order.{State, kind, number, guide}
 use Rattle.runs.specs.Step.{after, Reached, nothing, full, to, step, stepBy}
-use Rattle.runs.specs.Run.{Outcome, ended, oneMore, run}
+use Rattle.runs.specs.Run.{ended, oneMore, run}
+use Rattle.runs.specs.Theorems.{counted}
 use Rattle.runs.proofs.Order.{guide-takes}
 use Rattle.runs.proofs.Run.{run-rests, run-is-full, run-goes-on, OwnStep, own-rest, own-full, own-to, own-step}
 use Rattle.meaning.specs.declared.Answer.the-variants.{Done, Refused}
@@ -108,10 +109,6 @@ no-action-keeps (apply-PS e p q) h = (refl, refl)
 no-action-keeps (apply-PR π e p) h = (refl, refl)
 
 -- ---- the run so far
-
--- an outcome after n transitions more
-abbrev counted : ℕ → Outcome → Outcome
-counted n o = record { state = o .state; count = n + o .count; ending = o .ending }
 
 -- after `count` transitions the rest of the run goes on from a configuration
 pub record Running (l : Layout) (b : Bytes) (budget : ℕ) (start : State) (c : Configuration) (count : ℕ) : Type 0 where

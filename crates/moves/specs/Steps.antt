@@ -1,7 +1,9 @@
 -- What a transition comes to, as the code tells it and as it leaves the lent plan.
 use mathlib.Core.Path.{_≡_}
 use mathlib.Core.List.{List}
+use mathlib.Core.Option.{Option, none, some}
 use Prim.Native.Nat.{ℕ, _+_, _%_}
+use Rattle.paper.specs.Language.{Agent, Config}
 use Rattle.paper.specs.Transitions.{Choice}
 use Rattle.runs.specs.Order.{kind, number, guide}
 use Rattle.runs.specs.Step.{Reached, nothing, full, to, step, stepBy}
@@ -62,6 +64,11 @@ abbrev pub answerTo : Transition → Answer
 answerTo (Transition.Taken k i) = Done
 answerTo Transition.Nothing = Refused Refusal.NotEnabled
 answerTo Transition.Full = Refused Refusal.PlanFull
+
+-- why the choice of a code is closed, if it is: where there is none, 02, Wish 1: "no such rule or specification"
+abbrev pub askedFor : Agent → Config → Option Choice → Asked
+askedFor A c none = Asked.NoRule
+askedFor A c (some k) = asked A c k
 
 -- 01, "Numbers the guide may answer", row 10: "the code is no enabled choice", whatever the reason
 abbrev pub answerAsked : Asked → Answer

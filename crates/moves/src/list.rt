@@ -16,6 +16,7 @@ use card::check::check;
 use choices::ask::is_open;
 use choices::configuration::judge_configuration;
 use choices::in_place::WrittenInPlace;
+use choices::room::judge_room;
 use choices::truth::judge_nodes;
 use choices::truth::no_marks;
 use layout::entries::count_of;
@@ -23,7 +24,6 @@ use meaning::Answer;
 use meaning::Checked;
 use meaning::Layout;
 use meaning::Mind;
-use meaning::Refusal;
 
 // The codes of a kind's enabled choices, from an entry of the codes on; answers where the next may go.
 fn gather_kind(
@@ -106,12 +106,13 @@ pub fn list(card: &[u8], m: Mind, plan: &[u8; 1024], out: &mut [u16]) -> Written
     };
     let mut codes = no_codes();
     let n = gather(card, l, m, plan, &mut codes);
-    if out.len() < n {
+    let room = judge_room(n, out.len());
+    let Answer::Done = room else {
         return WrittenInPlace {
-            answer: Answer::Refused(Refusal::NoRoom),
+            answer: room,
             count: 0,
         };
-    }
+    };
     write(&codes, n, out);
     WrittenInPlace {
         answer: Answer::Done,

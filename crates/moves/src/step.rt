@@ -10,6 +10,7 @@ use layout::entries::pool_at;
 use layout::entries::read_revision;
 use layout::entries::read_selection;
 use layout::entries::read_specification;
+use layout::limits::longest_plan;
 use meaning::Layout;
 use meaning::Mind;
 
@@ -85,7 +86,7 @@ fn step_revision(card: &[u8], l: Layout, m: Mind, plan: &mut [u8; 1024], i: usiz
     let body = e.body;
     let n = m.length as usize;
     let after = body.length + (n - head.length);
-    if 1024 < after {
+    if longest_plan() < after {
         return Stepped {
             transition: Transition::Full,
             mind: m,

@@ -1,15 +1,13 @@
 // Taking a choice: "A chosen move is taken exactly if it is such a transition and its plan fits."
 ghost use mathlib.Core.Path.{_≡_};
-ghost use Prim.Native.Nat.{_<_};
-ghost use Rattle.runs.specs.Step.{step};
+ghost use Rattle.runs.specs.Step.{stepBy};
 ghost use Rattle.meaning.specs.Card.{agentFor};
 ghost use Rattle.meaning.specs.Configurations.{stateOf};
-ghost use Rattle.meaning.specs.Calls.{takes};
+ghost use Rattle.meaning.specs.Calls.{choice, takes};
 ghost use Rattle.layout.specs.PlaceParts.{lent};
-ghost use Rattle.choices.specs.Ready.{Ready};
-ghost use Rattle.choices.specs.Asking.{choiceAt};
+ghost use Rattle.choices.specs.Ready.{Ready, Judged};
 ghost use Rattle.choices.specs.InPlace.{replyWith};
-ghost use Rattle.moves.specs.Steps.{answerTo, answerAsked, takenBy};
+ghost use Rattle.moves.specs.Steps.{answerTo, askedFor, answerAsked, takenBy};
 use crate::step::Transition;
 use crate::step::step;
 use card::check::answer_of;
@@ -26,18 +24,26 @@ use meaning::Layout;
 use meaning::Mind;
 use meaning::Refusal;
 
-// What is answered of what a transition comes to: done, 10 or 11.
-fn answer_to(transition: Transition) -> Answer
-    ensures { λ r. ⌜ r ≡ answerTo transition ⌝ }
+// The choice of a code: "256 times the kind … plus the number". There is no kind past 2.
+fn ask_code(
+    card: &[u8],
+    l: Layout,
+    m: Mind,
+    plan: &[u8; 1024],
+    marks: &[bool; 256],
+    code: u16,
+) -> Asked
+    requires { ⌜ Judged l (now card) (lent m (now plan)) (now marks) ⌝ }
+    ensures { λ r. ⌜ r ≡ askedFor (agentFor l (now (card .entry))) (stateOf (lent m (now (plan .entry))) .mental) (choice code) ⌝ }
 {
-    match transition {
-        Transition::Taken(_, _) => Answer::Done,
-        Transition::Nothing => Answer::Refused(Refusal::NotEnabled),
-        Transition::Full => Answer::Refused(Refusal::PlanFull),
+    let kind = code / 256;
+    if 2 < kind {
+        return Asked::NoRule;
     }
+    ask(card, l, m, plan, marks, kind as u8, (code % 256) as usize)
 }
 
-// What is answered of a choice that was asked for: done where it is open, and 10 for each reason why it is closed.
+// Row 10: done where a choice that was asked for is open, and 10 for each reason why it is closed.
 fn answer_asked(asked: Asked) -> Answer
     ensures { λ r. ⌜ r ≡ answerAsked asked ⌝ }
 {
@@ -49,38 +55,49 @@ fn answer_asked(asked: Asked) -> Answer
     }
 }
 
-// The choice of a kind and a number is asked for and, if it is open, made.
-fn take_choice(
-    card: &[u8],
-    l: Layout,
-    m: Mind,
-    plan: &mut [u8; 1024],
-    kind: u8,
-    i: usize,
-) -> ReplyInPlace
-    requires { ⌜ Ready l (now card) (lent m (now plan)) × (kind < 3) ⌝ }
+// Row 11: what is answered of what a transition comes to. Of an open choice there is one, and done or 11 is answered.
+fn answer_to(transition: Transition) -> Answer
+    ensures { λ r. ⌜ r ≡ answerTo transition ⌝ }
+{
+    match transition {
+        Transition::Taken(_, _) => Answer::Done,
+        Transition::Nothing => Answer::Refused(Refusal::NotEnabled),
+        Transition::Full => Answer::Refused(Refusal::PlanFull),
+    }
+}
+
+// A choice is asked for by its code and, where it is open and its plan fits, made: rows 10 and 11.
+fn take_choice(card: &[u8], l: Layout, m: Mind, plan: &mut [u8; 1024], code: u16) -> ReplyInPlace
+    requires { ⌜ Ready l (now card) (lent m (now plan)) ⌝ }
     ensures { λ r. ⌜ replyWith r (now (plan .exit))
-        ≡ takenBy (step (agentFor l (now (card .entry))) (stateOf (lent m (now (plan .entry)))) (choiceAt kind i)) (lent m (now (plan .entry))) ⌝ }
+        ≡ takenBy (stepBy (agentFor l (now (card .entry))) (stateOf (lent m (now (plan .entry)))) (choice code)) (lent m (now (plan .entry))) ⌝ }
 {
     let mut marks = no_marks();
     judge_nodes(card, l, m, &mut marks);
-    let asked = answer_asked(ask(card, l, m, plan, &marks, kind, i));
+    let asked = answer_asked(ask_code(card, l, m, plan, &marks, code));
     let Answer::Done = asked else {
         return ReplyInPlace {
             answer: asked,
             mind: m,
         };
     };
-    let s = step(card, l, m, plan, kind, i);
+    let s = step(card, l, m, plan, (code / 256) as u8, (code % 256) as usize);
     let transition = s.transition;
     let after = s.mind;
+    let made = answer_to(transition);
+    let Answer::Done = made else {
+        return ReplyInPlace {
+            answer: made,
+            mind: m,
+        };
+    };
     ReplyInPlace {
-        answer: answer_to(transition),
+        answer: Answer::Done,
         mind: after,
     }
 }
 
-// "256 times the kind … plus the number": the chosen move, in place; what is not taken is as it came in.
+// The chosen move, in place; what is not taken is as it came in.
 pub fn take(card: &[u8], m: Mind, plan: &mut [u8; 1024], choice: u16) -> ReplyInPlace
     ensures { λ r. ⌜ replyWith r (now (plan .exit)) ≡ takes (now (card .entry)) (lent m (now (plan .entry))) choice ⌝ }
 {
@@ -98,12 +115,5 @@ pub fn take(card: &[u8], m: Mind, plan: &mut [u8; 1024], choice: u16) -> ReplyIn
             mind: m,
         };
     };
-    let kind = choice / 256;
-    if 2 < kind {
-        return ReplyInPlace {
-            answer: Answer::Refused(Refusal::NotEnabled),
-            mind: m,
-        };
-    }
-    take_choice(card, l, m, plan, kind as u8, (choice % 256) as usize)
+    take_choice(card, l, m, plan, choice)
 }

@@ -10,6 +10,7 @@ ghost use Rattle.card.specs.Rows.{rowsFrom};
 use card::check::row;
 use card::contents::actions_good;
 use layout::bytes::mark_good;
+use layout::limits::longest_plan;
 use layout::place::PlaceParts;
 use layout::place::place_size;
 use layout::place::plan_at;
@@ -74,7 +75,7 @@ fn counts_good(p: &[u8], h: PlaceParts) -> bool
     requires { ⌜ h ≡ placeParts (now p) ⌝ }
     ensures { λ r. ⌜ r ≡ placeCountsGood (now (p .entry)) ⌝ }
 {
-    (h.length <= 1024) & ((h.phase <= 2) & (h.zero == 0))
+    (h.length <= longest_plan()) & ((h.phase <= 2) & (h.zero == 0))
 }
 
 // Row 3, then 4, 8 and 9.

@@ -7,15 +7,14 @@ use card::check::answer_of;
 use card::check::check;
 use choices::configuration::judge_configuration;
 use choices::in_place::WrittenInPlace;
+use choices::room::judge_room;
 use layout::place::place_size;
 use layout::place::write_place;
 use meaning::Answer;
 use meaning::Checked;
 use meaning::Mind;
-use meaning::Refusal;
 
-// A configuration's place in a lent buffer; how many bytes it has. A refusal writes nothing. Row 12: "the lent list or place
-// buffer is too short".
+// A configuration's place in a lent buffer; how many bytes it has. A refusal writes nothing.
 pub fn save(card: &[u8], m: Mind, plan: &[u8; 1024], out: &mut [u8]) -> WrittenInPlace
     ensures { λ r. ⌜ writtenWith r (lent m (now (plan .entry))) ≡ saves (now (card .entry)) (lent m (now (plan .entry))) (now (out .entry)) ⌝ }
     ensures { λ r. ⌜ now (out .exit) ≡ saveLeaves (now (card .entry)) (lent m (now (plan .entry))) (now (out .entry)) ⌝ }
@@ -35,12 +34,13 @@ pub fn save(card: &[u8], m: Mind, plan: &[u8; 1024], out: &mut [u8]) -> WrittenI
         };
     };
     let n = place_size(m.length as usize);
-    if out.len() < n {
+    let room = judge_room(n, out.len());
+    let Answer::Done = room else {
         return WrittenInPlace {
-            answer: Answer::Refused(Refusal::NoRoom),
+            answer: room,
             count: 0,
         };
-    }
+    };
     let count = n as u16;
     write_place(m, plan, out);
     WrittenInPlace {

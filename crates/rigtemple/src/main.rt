@@ -1,14 +1,31 @@
 // Document 01's program: it reads a card on standard input (at most 24,129 bytes), loads it and runs it with budget 1,000, a line
-// a step.
-ghost use Prim.Native.Nat.{_≤_};
+// a step on standard output. Standard error says in words what is left.
+ghost use Prim.Native.Nat.{_≤_, _<_};
+ghost use Rattle.layout.specs.PlaceParts.{lent};
+ghost use Rattle.choices.specs.Ready.{Judged};
 use answers::refusal_number;
+use card::check::check;
+use choices::ask::Asked;
+use choices::ask::Chosen;
+use choices::ask::ask;
+use choices::ask::choose;
+use choices::configuration::judge_configuration;
+use choices::truth::judge_nodes;
+use choices::truth::no_marks;
 use layout::bytes::number_at;
+use layout::entries::count_of;
 use meaning::Answer;
+use meaning::Checked;
 use meaning::Configuration;
+use meaning::Layout;
+use meaning::Mind;
 use moves::advance::next_move;
 use moves::step::Transition;
 use runs::Ending;
+use runs::Offender;
 use runs::Verdict;
+
+// ---- the lines
 
 // A word, and the end of the line.
 fn end(word: &[u8]) {
@@ -84,6 +101,246 @@ fn step_line(count: u16, kind: u8, number: usize, length: u16, weight: u64) {
     end(b"");
 }
 
+// ---- what is left, in words
+
+// Words, by one write: `io::write_all` has 4,096 bytes on the stack for what one write leaves, in every function that says words.
+fn say(words: &[u8]) {
+    libc::write(2, words);
+}
+
+// A number after a space.
+fn say_number(n: u64) {
+    let mut text = [0u8; 20];
+    let k = io::decimal(n, &mut text);
+    say(b" ");
+    say(&text[..k]);
+}
+
+// A choice as the lines have it: the kind, and the number after it.
+fn say_choice(kind: u8, number: usize) {
+    match kind {
+        0 => say(b" select"),
+        1 => say(b" act"),
+        _ => say(b" revise"),
+    }
+    ;
+    say_number(number as u64);
+    say(b"\n");
+}
+
+// "the verdict carries the first offender: the initial plan, then selection rule n, then revision rule n"
+fn say_offender(offender: Offender) {
+    say(b"the card is open:");
+    match offender {
+        Offender::InitialPlan => say(b" the initial plan weighs over 1,024\n"),
+        Offender::Selection(n) => {
+            say(b" selection");
+            say_number(n as u64);
+            say(b" has a plan that weighs over 1,024\n");
+        }
+        Offender::Revision(n) => {
+            say(b" revision");
+            say_number(n as u64);
+            say(b" has a body that is not lighter than its head\n");
+        }
+    }
+}
+
+// What a designer may not have meant: that the card is open, or begins with no goal.
+fn say_doubts(verdict: Verdict, goals: [u8; 16]) {
+    if let Verdict::Open(offender) = verdict {
+        say_offender(offender);
+    }
+    if sets::known(goals, 0) {
+        say(b"the card begins with no goal\n");
+    }
+}
+
+// A thing and its number, in a row of such: after a comma, unless it is the first.
+fn say_in_row(first: bool, thing: &[u8], number: u64) {
+    if !first {
+        say(b",");
+    }
+    say(thing);
+    say_number(number);
+}
+
+// The goals that are open, by their atoms.
+fn say_goals(goals: [u8; 16]) {
+    say(b"goals open:");
+    let mut none = true;
+    let mut k: u8 = 0;
+    while k < 128 {
+        if sets::member(goals, k) {
+            say_in_row(none, b" atom", k as u64);
+            none = false;
+        }
+        k += 1;
+    }
+    if none {
+        say(b" none");
+    }
+    say(b"\n");
+}
+
+// How many actions are in the plan, and its first.
+fn say_plan(length: u16, first: u8) {
+    say(b"actions in the plan:");
+    if length == 0 {
+        say(b" none\n");
+        return;
+    }
+    say_number(length as u64);
+    say(b", the first is action");
+    say_number(first as u64);
+    say(b"\n");
+}
+
+// That no choice of a kind is open: for a specification, that the plan's first action has no move.
+fn say_kind(kind: u8, first: u8) {
+    match kind {
+        0 => say(b"no selection fits:"),
+        1 => {
+            say(b"action");
+            say_number(first as u64);
+            say(b" has no move:");
+        }
+        _ => say(b"no revision fits:"),
+    }
+}
+
+// That false conditions close the choices of a kind that follow.
+fn say_conditions(kind: u8) {
+    match kind {
+        0 => say(b" a condition is false in"),
+        1 => say(b" the condition is false in"),
+        _ => say(b" the plan begins with the head, but the condition is false in"),
+    }
+}
+
+// A choice of a kind, in a row of such.
+fn say_closed_choice(first: bool, kind: u8, number: u64) {
+    match kind {
+        0 => say_in_row(first, b" selection", number),
+        1 => say_in_row(first, b" specification", number),
+        _ => say_in_row(first, b" revision", number),
+    }
+}
+
+// That there is no choice of a kind for the front of the plan.
+fn say_front(kind: u8) {
+    match kind {
+        0 => say(b" the card has none"),
+        1 => say(b" it has no specification"),
+        _ => say(b" the plan begins with the head of none"),
+    }
+}
+
+// Whether only a false condition closes a choice.
+fn waits(asked: Asked) -> bool {
+    match asked {
+        Asked::Open => false,
+        Asked::NoRule => false,
+        Asked::Front => false,
+        Asked::Condition => true,
+    }
+}
+
+// Why no choice of a kind is open: the numbers of those that only a false condition closes, or that there are none.
+fn say_closed(card: &[u8], l: Layout, m: Mind, plan: &[u8; 1024], marks: &[bool; 256], kind: u8)
+    requires { ⌜ Judged l (now card) (lent m (now plan)) (now marks) × (kind < 3) ⌝ }
+{
+    say_kind(kind, plan[0]);
+    let n = count_of(l, kind);
+    let mut none = true;
+    let mut i: usize = 0;
+    while i < n {
+        if waits(ask(card, l, m, plan, marks, kind, i)) {
+            if none {
+                say_conditions(kind);
+            }
+            say_closed_choice(none, kind, i as u64);
+            none = false;
+        }
+        i += 1;
+    }
+    if none {
+        say_front(kind);
+    }
+    say(b"\n");
+}
+
+// Why there is no move: with an empty plan by the selections, where a goal is open; else by the specifications and the revisions.
+fn say_no_move(card: &[u8], l: Layout, m: Mind, plan: &[u8; 1024], marks: &[bool; 256])
+    requires { ⌜ Judged l (now card) (lent m (now plan)) (now marks) ⌝ }
+{
+    if m.length != 0 {
+        say_closed(card, l, m, plan, marks, 1);
+        say_closed(card, l, m, plan, marks, 2);
+        return;
+    }
+    let goals = m.goals;
+    if !sets::known(goals, 0) {
+        say_closed(card, l, m, plan, marks, 0);
+    }
+}
+
+// The move that the guide would make next, or why there is none.
+fn say_next(card: &[u8], l: Layout, m: Mind, plan: &[u8; 1024], marks: &[bool; 256], ending: Ending)
+    requires { ⌜ Judged l (now card) (lent m (now plan)) (now marks) ⌝ }
+{
+    let chosen = choose(card, l, m, plan, marks);
+    let Chosen::At(kind, i) = chosen else {
+        say_no_move(card, l, m, plan, marks);
+        return;
+    };
+    match ending {
+        Ending::Rest => say(b"the next move would be"),
+        Ending::Spent => say(b"1,000 moves are made, and the next would be"),
+        Ending::Full => say(
+            b"over 1,024 actions would be in the plan after the next move, which is",
+        ),
+    }
+    ;
+    say_choice(kind, i);
+}
+
+// The same, of a card and a configuration that are judged first.
+fn say_why(card: &[u8], m: Mind, plan: &[u8; 1024], ending: Ending) {
+    let checked = check(card);
+    let Checked::Good(l) = checked else {
+        return;
+    };
+    let judged = judge_configuration(l, m, plan);
+    let Answer::Done = judged else {
+        return;
+    };
+    let mut marks = no_marks();
+    judge_nodes(card, l, m, &mut marks);
+    say_next(card, l, m, plan, &marks, ending);
+}
+
+// What is left where a run ended: the goals, the plan, and the next move or why there is none.
+fn say_left(card: &[u8], m: Mind, plan: &[u8; 1024], ending: Ending) {
+    let goals = m.goals;
+    say_goals(goals);
+    say_plan(m.length, plan[0]);
+    say_why(card, m, plan, ending);
+}
+
+// The last line of a run, and what is left. Where there are step lines, what their numbers are.
+fn ended(card: &[u8], m: Mind, plan: &[u8; 1024], ending: Ending, count: u16) {
+    last_line(ending, count);
+    if 0 < count {
+        say(
+            b"select 0 is selection 0, act 0 is specification 0 (not action 0), revise 0 is revision 0\n",
+        );
+    }
+    say_left(card, m, plan, ending);
+}
+
+// ---- the run
+
 // The run with budget 1,000, a move of the guide's own at a time, and a line for each.
 fn steps(card: &[u8], start: Configuration) {
     let mut m = start.mind;
@@ -102,16 +359,16 @@ fn steps(card: &[u8], start: Configuration) {
                 step_line(count, kind, number, after.length, weight);
             }
             Transition::Nothing => {
-                last_line(Ending::Rest, count);
+                ended(card, m, &plan, Ending::Rest, count);
                 return;
             }
             Transition::Full => {
-                last_line(Ending::Full, count);
+                ended(card, m, &plan, Ending::Full, count);
                 return;
             }
         }
     }
-    last_line(Ending::Spent, count);
+    ended(card, m, &plan, Ending::Spent, count);
 }
 
 // A card's lines: "A refused card prints only "refused" and its number."
@@ -123,6 +380,9 @@ fn show(card: &[u8]) {
         let verdict = graded.verdict;
         first_line(card.len(), verdict);
         let start = loaded.configuration;
+        let mind = start.mind;
+        let goals = mind.goals;
+        say_doubts(verdict, goals);
         steps(card, start);
         return;
     };

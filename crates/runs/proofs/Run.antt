@@ -1,9 +1,10 @@
 -- A run is the definition's own chain, its count the chain's length, and it ends for the reason that it gives.
-use mathlib.Core.Path.{_≡_, refl, ap, sym, subst}
+use mathlib.Core.Path.{_≡_, refl, ap, _∙_, sym, subst}
 use mathlib.Core.Logic.{_↔_}
 use mathlib.Core.List.{List, [], _∷_}
 use mathlib.Core.Option.{Option, none, some}
-use Prim.Native.Nat.{ℕ, zero, suc, _≤_, _<_}
+use Prim.Native.Nat.{ℕ, zero, suc, _+_, _≤_, _<_}
+use native.Mathlib.Nat.{zero-add}
 use native.Mathlib.Omega.{arith}
 use lib.ListN.{length}
 use Rattle.paper.specs.Language.{Agent, Config}
@@ -12,7 +13,7 @@ use Rattle.runs.specs.declared.Ending.{Ending}
 use Rattle.runs.specs.Order.{State, guide}
 use Rattle.runs.specs.Step.{after, Reached, nothing, full, to, stepBy}
 use Rattle.runs.specs.Run.{Chain, stay, _then_, Outcome, ended, oneMore, run}
-use Rattle.runs.specs.Theorems.{AtRest, Guided, ends, goes, Because, is-spent, is-rest, is-full, RunLaw}
+use Rattle.runs.specs.Theorems.{AtRest, Guided, ends, goes, Because, is-spent, is-rest, is-full, RunLaw, counted, StopLaw}
 use Rattle.runs.proofs.Order.{guide-takes, rests}
 use Rattle.runs.proofs.Step.{StepsTo, none-there, too-long, taken, steps-to}
 
@@ -110,3 +111,35 @@ run-law A b s =
       because = t .because;
       rests-exactly = rest-exactly (t .because);
     }
+
+-- ---- a run that is stopped goes on
+
+from-zero : (o : Outcome) → o ≡ counted 0 o
+from-zero o = λ i. record { state = o .state; count = sym (zero-add (o .count)) i; ending = o .ending }
+
+one-more : (n : ℕ) (o : Outcome) → oneMore (counted n o) ≡ counted (suc n) o
+one-more n o = let e : suc (n + o .count) ≡ suc n + o .count = omega arith in λ i. record { state = o .state; count = e i; ending = o .ending }
+
+pub stop-law : StopLaw
+unfolding run
+stop-law A zero k s h = ap (λ n. run A n s) (zero-add k) ∙ from-zero (run A k s)
+stop-law A (suc j) zero s h = absurd (omega arith)
+stop-law A (suc j) (suc k) s h = go refl (own-step A s) (stop-law A j (suc k))
+  where
+    both-budgets : suc j + suc k ≡ suc (j + suc k)
+    both-budgets = omega arith
+
+    -- where the first run ends by itself, the second ends so too
+    stopped : (e : Ending) → ((b : ℕ) → run A (suc b) s ≡ ended e s) → run A (suc j + suc k) s ≡ counted (run A (suc j) s .count) (run A (suc k) (run A (suc j) s .state))
+    stopped e w =
+        ap (λ n. run A n s) both-budgets ∙ w (j + suc k) ∙ from-zero (ended e s)
+        ∙ sym (ap (λ o. counted (o .count) (run A (suc k) (o .state))) (w j) ∙ ap (counted 0) (w k))
+
+    go : {o : Reached} → stepBy A s (guide A s) ≡ o → OwnStep A s o → ((s′ : State) → 1 ≤ suc k → run A (j + suc k) s′ ≡ counted (run A j s′ .count) (run A (suc k) (run A j s′ .state)))
+        → run A (suc j + suc k) s ≡ counted (run A (suc j) s .count) (run A (suc k) (run A (suc j) s .state))
+    go e (own-rest r) ih = stopped Ending.Rest (λ b. run-rests A b s e)
+    go e (own-full c x g y l) ih = stopped Ending.Full (λ b. run-is-full A b s e)
+    go e (own-to c x g y l) ih =
+        let s′ = after s c x in
+        ap (λ n. run A n s) both-budgets ∙ run-goes-on A (j + suc k) s c s′ e ∙ ap oneMore (ih s′ (omega arith)) ∙ one-more (run A j s′ .count) (run A (suc k) (run A j s′ .state))
+        ∙ sym (ap (λ o. counted (o .count) (run A (suc k) (o .state))) (run-goes-on A j s c s′ e))

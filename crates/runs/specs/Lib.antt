@@ -1,3 +1,4 @@
+pub mod Limits
 pub mod Order
 pub mod Step
 pub mod Run

@@ -7,6 +7,7 @@ use lib.ListN.{length}
 use Rattle.paper.specs.Language.{Agent, Config}
 use Rattle.paper.specs.Transitions.{Choice}
 use Rattle.paper.specs.Next.{next}
+use Rattle.runs.specs.Limits.{longestPlan}
 use Rattle.runs.specs.Order.{State, kind}
 
 -- 01, "A configuration and its transitions", The guide's order: "After any transition, the guide's or a chosen one, the phase
@@ -16,7 +17,7 @@ after s k c = record { mental = c; phase = (kind k + 1) % 3 }
 
 -- 01, "A configuration and its transitions": "a plan (0 to 1,024 action numbers)"; 00, demand 2: "its plan fits".
 unfoldable pub fits : Config → Bool
-fits c = leb (length (c .π)) 1024
+fits c = leb (length (c .π)) longestPlan
 
 -- What a transition comes to: there is none; it "would leave more than 1,024 actions, which is then not taken" (01, "A
 -- configuration and its transitions"); or it leads to a state, by a choice.

@@ -7,6 +7,7 @@ use Prim.Native.Nat.{ℕ, _+_, _*_, _%_, _≤_, _<_}
 use lib.ListN.{length}
 use Rattle.paper.specs.Language.{Plan, Selection, Revision, Agent, Config}
 use Rattle.paper.specs.Transitions.{Choice, Entry, Step}
+use Rattle.runs.specs.Limits.{longestPlan, heaviestPlan}
 use Rattle.runs.specs.declared.Ending.{Ending}
 use Rattle.runs.specs.declared.Offender.{Offender}
 use Rattle.runs.specs.declared.Verdict.{Verdict}
@@ -84,7 +85,7 @@ pub data Guided (A : Agent) : State → List Choice → State → Type 0 where
   -- 01, "A configuration and its transitions": a transition that "would leave more than 1,024 actions" is "not taken"; the
   -- guide's own that fits is, and the phase goes on with it.
   goes : {s s″ : State} {k : Choice} {ks : List Choice} {c : Config} → guide A s ≡ some k → Step A (s .mental) k c
-      → length (c .π) ≤ 1024 → Guided A (after s k c) ks s″ → Guided A s (k ∷ ks) s″
+      → length (c .π) ≤ longestPlan → Guided A (after s k c) ks s″ → Guided A s (k ∷ ks) s″
 
 -- 01, "A configuration and its transitions": "one of three endings. The budget is looked at first": why a run with a budget
 -- ends after n transitions, at a state.
@@ -94,7 +95,7 @@ pub data Because (A : Agent) (budget n : ℕ) (s : State) : Ending → Type 0 wh
   -- 01, "A configuration and its transitions": "rest when no transition exists"
   is-rest : n < budget → AtRest A (s .mental) → Because A budget n s Ending.Rest
   -- 01, "A configuration and its transitions": "full when the transition to be taken would leave more than 1,024 actions"
-  is-full : n < budget → (k : Choice) (c : Config) → guide A s ≡ some k → Step A (s .mental) k c → 1024 < length (c .π)
+  is-full : n < budget → (k : Choice) (c : Config) → guide A s ≡ some k → Step A (s .mental) k c → longestPlan < length (c .π)
       → Because A budget n s Ending.Full
 
 -- 01, "A configuration and its transitions": "A run … answers the configuration reached, how many transitions were taken, and
@@ -117,18 +118,27 @@ pub record Traced (A : Agent) (budget : ℕ) (s : State) (o : Outcome) : Type 0 
 abbrev pub RunLaw : Type 0
 RunLaw = (A : Agent) (budget : ℕ) (s : State) → Traced A budget s (run A budget s)
 
+-- An outcome with n transitions before it. Serves StopLaw.
+abbrev pub counted : ℕ → Outcome → Outcome
+counted n o = record { state = o .state; count = n + o .count; ending = o .ending }
+
+-- 01, "A configuration and its transitions", The guide's order: "It can be stopped between moves.": a run of j and one of k from
+-- where it stopped are one run of both budgets. (A run of no budget says spent wherever it stands.)
+abbrev pub StopLaw : Type 0
+StopLaw = (A : Agent) (j k : ℕ) (s : State) → 1 ≤ k → run A (j + k) s ≡ counted (run A j s .count) (run A k (run A j s .state))
+
 -- 01, "Weight and grading": "the first offender: the initial plan, then selection rule n, then revision rule n, in that order":
 -- it offends, and nothing that is asked before it does.
 pub data Offends (w : ℕ → ℕ) (A : Agent) (initial : Plan) : Offender → Type 0 where
   -- 01, "Weight and grading": "the initial plan"
-  initial-plan : 1024 < weigh w initial → Offends w A initial Offender.InitialPlan
+  initial-plan : heaviestPlan < weigh w initial → Offends w A initial Offender.InitialPlan
   -- 01, "Weight and grading": "then selection rule n"
-  selection : {n : ℕ} (r : Selection) → weigh w initial ≤ 1024
-      → ((i : ℕ) (x : Selection) → i < n → Entry (A .PS) i x → weigh w (x .π) ≤ 1024)
-      → Entry (A .PS) n r → 1024 < weigh w (r .π) → Offends w A initial (Offender.Selection n)
+  selection : {n : ℕ} (r : Selection) → weigh w initial ≤ heaviestPlan
+      → ((i : ℕ) (x : Selection) → i < n → Entry (A .PS) i x → weigh w (x .π) ≤ heaviestPlan)
+      → Entry (A .PS) n r → heaviestPlan < weigh w (r .π) → Offends w A initial (Offender.Selection n)
   -- 01, "Weight and grading": "then revision rule n"
-  revision : {n : ℕ} (r : Revision) → weigh w initial ≤ 1024
-      → ((i : ℕ) (x : Selection) → Entry (A .PS) i x → weigh w (x .π) ≤ 1024)
+  revision : {n : ℕ} (r : Revision) → weigh w initial ≤ heaviestPlan
+      → ((i : ℕ) (x : Selection) → Entry (A .PS) i x → weigh w (x .π) ≤ heaviestPlan)
       → ((i : ℕ) (x : Revision) → i < n → Entry (A .PR) i x → weigh w (x .πb) < weigh w (x .πₕ))
       → Entry (A .PR) n r → weigh w (r .πₕ) ≤ weigh w (r .πb) → Offends w A initial (Offender.Revision n)
 
@@ -141,17 +151,17 @@ pub record GradeLaws (w : ℕ → ℕ) (A : Agent) (initial : Plan) : Type 0 whe
   pub offender : (o : Offender) → verdict w A initial ≡ Verdict.Open o → Offends w A initial o
   -- 00, demand 3: "Under such a card, from a configuration whose plan weighs W, at most 1,024, no run of more than W
   -- transitions without a plan selection exists, whoever chooses"
-  pub without-selection : verdict w A initial ≡ Verdict.Bounded → {c c′ : Config} {ks : List Choice} → weigh w (c .π) ≤ 1024
+  pub without-selection : verdict w A initial ≡ Verdict.Bounded → {c c′ : Config} {ks : List Choice} → weigh w (c .π) ≤ heaviestPlan
       → Chain A c ks c′ → selections ks ≡ 0 → length ks ≤ weigh w (c .π)
   -- 00, demand 3: "a run with S selections has at most W plus 1,025 times S transitions"
-  pub with-selections : verdict w A initial ≡ Verdict.Bounded → {c c′ : Config} {ks : List Choice} → weigh w (c .π) ≤ 1024
+  pub with-selections : verdict w A initial ≡ Verdict.Bounded → {c c′ : Config} {ks : List Choice} → weigh w (c .π) ≤ heaviestPlan
       → Chain A c ks c′ → length ks ≤ weigh w (c .π) + 1025 * selections ks
   -- 00, demand 3: "no run, selections included, ever meets a plan too long"
-  pub never-too-long : verdict w A initial ≡ Verdict.Bounded → {c c′ : Config} {ks : List Choice} → weigh w (c .π) ≤ 1024
-      → Chain A c ks c′ → length (c′ .π) ≤ 1024
+  pub never-too-long : verdict w A initial ≡ Verdict.Bounded → {c c′ : Config} {ks : List Choice} → weigh w (c .π) ≤ heaviestPlan
+      → Chain A c ks c′ → length (c′ .π) ≤ longestPlan
   -- 00, demand 3, the same sentence, of the guide's own run: its ending is never what 01, "A configuration and its transitions"
   -- has as "full".
-  pub never-full : verdict w A initial ≡ Verdict.Bounded → (s : State) (budget : ℕ) → weigh w (s .mental .π) ≤ 1024
+  pub never-full : verdict w A initial ≡ Verdict.Bounded → (s : State) (budget : ℕ) → weigh w (s .mental .π) ≤ heaviestPlan
       → (run A budget s) .ending ≡ Ending.Full → ⊥
 
 -- 00, demand 3, for weights of which 01, "Weight and grading" has: "Each action weighs 1 to 1,024." At least 1 is enough.

@@ -5,6 +5,7 @@ use Prim.Native.Nat.{ℕ, suc, _+_, _≤_, _<_}
 use lib.Dec.{leb, ltb}
 use Rattle.paper.specs.Language.{Plan, Selection, Revision, Agent}
 use Rattle.paper.specs.Transitions.{Choice, select, act, revise, Entry}
+use Rattle.runs.specs.Limits.{heaviestPlan}
 use Rattle.runs.specs.declared.Offender.{Offender}
 use Rattle.runs.specs.declared.Verdict.{Verdict}
 
@@ -17,9 +18,9 @@ weigh w (a ∷ π) = w a + weigh w π
 -- every revision body weighs less than its head."
 pub record Bounded (w : ℕ → ℕ) (A : Agent) (initial : Plan) : Type 0 where
   -- 01, "Weight and grading": "the initial plan … weigh at most 1,024"
-  pub start : weigh w initial ≤ 1024
+  pub start : weigh w initial ≤ heaviestPlan
   -- 01, "Weight and grading": "every selection plan weigh at most 1,024"
-  pub selections : (n : ℕ) (r : Selection) → Entry (A .PS) n r → weigh w (r .π) ≤ 1024
+  pub selections : (n : ℕ) (r : Selection) → Entry (A .PS) n r → weigh w (r .π) ≤ heaviestPlan
   -- 01, "Weight and grading": "every revision body weighs less than its head"
   pub revisions : (n : ℕ) (r : Revision) → Entry (A .PR) n r → weigh w (r .πb) < weigh w (r .πₕ)
 
@@ -34,7 +35,7 @@ firstOffender good name n (r ∷ rs) otherwise = elim (good r) [
 
 -- 01, "Weight and grading": "weigh at most 1,024", as a test. Serves verdict.
 abbrev pub light : (ℕ → ℕ) → Plan → Bool
-light w π = leb (weigh w π) 1024
+light w π = leb (weigh w π) heaviestPlan
 
 -- 01, "Weight and grading": "every revision body weighs less than its head", as a test of one revision. Serves verdict.
 abbrev pub lowers : (ℕ → ℕ) → Revision → Bool

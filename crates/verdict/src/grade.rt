@@ -2,6 +2,7 @@
 ghost use mathlib.Core.Path.{_≡_};
 ghost use Prim.Native.Nat.{_<_};
 ghost use lib.Dec.{leb, ltb};
+ghost use Rattle.runs.specs.Limits.{heaviestPlan};
 ghost use Rattle.runs.specs.Weight.{verdict};
 ghost use Rattle.meaning.specs.Card.{selectionAt, revisionAt, weight, agent, initialPlan};
 ghost use Rattle.meaning.specs.Calls.{grades};
@@ -15,6 +16,7 @@ use card::check::check;
 use card::configuration::empty_configuration;
 use layout::entries::read_revision;
 use layout::entries::read_selection;
+use layout::limits::heaviest_plan;
 use meaning::Answer;
 use meaning::Checked;
 use meaning::Graded;
@@ -25,10 +27,10 @@ use runs::Verdict;
 // Whether selection rule i's plan weighs at most 1,024.
 fn selection_light(card: &[u8], l: Layout, sums: &[u32; 513], i: usize) -> bool
     requires { ⌜ GoodCard l (now card) × Summed l (now card) (now sums) × (i < l .selections .count) ⌝ }
-    ensures { λ r. ⌜ r ≡ leb (planWeight l (now (card .entry)) (selectionAt l (now (card .entry)) i .plan)) 1024 ⌝ }
+    ensures { λ r. ⌜ r ≡ leb (planWeight l (now (card .entry)) (selectionAt l (now (card .entry)) i .plan)) heaviestPlan ⌝ }
 {
     let e = read_selection(card, l, i);
-    plan_weight(card, l, sums, e.plan) <= 1024
+    plan_weight(card, l, sums, e.plan) <= heaviest_plan()
 }
 
 // Whether revision rule i's body weighs less than its head.
@@ -83,7 +85,7 @@ fn from_initial(card: &[u8], l: Layout, sums: &[u32; 513]) -> Verdict
     ensures { λ r. ⌜ r ≡ verdict (weight (now (card .entry))) (agent (now (card .entry))) (initialPlan (now (card .entry))) ⌝ }
 {
     let initial = l.initial;
-    if plan_weight(card, l, sums, initial) <= 1024 {
+    if plan_weight(card, l, sums, initial) <= heaviest_plan() {
         from_selections(card, l, sums)
     } else {
         Verdict::Open(Offender::InitialPlan)

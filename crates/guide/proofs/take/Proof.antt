@@ -11,7 +11,7 @@ reply-with-requires : tie.Need-reply-with-requires
 reply-with-requires c κs = search needs
 
 returns : tie.Need-returns
-returns c = c .reply-with .ensures ∙ c .before .take .ensures
+returns c = (c .reply-with .ensures ∙ c .before .take .ensures, search needs)
 
 pub take-spec : {M : Type 1} → statement M
 take-spec = tie.close (tie.spec take-requires reply-with-requires returns)

@@ -39,8 +39,8 @@ loop-again c = search needs
 enum-told : tie.Need-enum-told Inv-loop μ-loop
 enum-told c = search needs
 
-last-line-requires : tie.Need-last-line-requires Inv-loop μ-loop
-last-line-requires c κs = search needs
+ended-requires : tie.Need-ended-requires Inv-loop μ-loop
+ended-requires c κs = search needs
 
 returns : tie.Need-returns Inv-loop μ-loop
 returns c = search needs
@@ -48,14 +48,14 @@ returns c = search needs
 enum-told-2 : tie.Need-enum-told-2 Inv-loop μ-loop
 enum-told-2 c = search needs
 
-last-line-requires-2 : tie.Need-last-line-requires-2 Inv-loop μ-loop
-last-line-requires-2 c κs = search needs
+ended-requires-2 : tie.Need-ended-requires-2 Inv-loop μ-loop
+ended-requires-2 c κs = search needs
 
 returns-2 : tie.Need-returns-2 Inv-loop μ-loop
 returns-2 c = search needs
 
-last-line-requires-3 : tie.Need-last-line-requires-3 Inv-loop μ-loop
-last-line-requires-3 c κs = search needs
+ended-requires-3 : tie.Need-ended-requires-3 Inv-loop μ-loop
+ended-requires-3 c κs = search needs
 
 returns-3 : tie.Need-returns-3 Inv-loop μ-loop
 returns-3 c = search needs
@@ -76,10 +76,10 @@ steps-spec =
     loop-less
     loop-again
     enum-told
-    last-line-requires
+    ended-requires
     returns
     enum-told-2
-    last-line-requires-2
+    ended-requires-2
     returns-2
-    last-line-requires-3
+    ended-requires-3
     returns-3)

@@ -1,44 +1,63 @@
-use Rattle.meaning.specs.declared.Answer.the-variants.{Done}
-use Rattle.meaning.proofs.Calls.{checks-good, checks-refused}
-use Rattle.meaning.proofs.Accepted.{accepted}
-use Rattle.meaning.specs.declared.Checked.{Checked}
-use Rattle.meaning.specs.Refusals.{cardAnswer, cardLongEnough}
-use borrow.Author.Tests.{leb-true}
-use mathlib.Core.Path.{_≡_, sym, ap, _∙_}
+use Rattle.card.proofs.Checked.{checks-by, header-read, header-refused}
+use Rattle.card.specs.Rows.{checkedBy}
+use mathlib.Core.Path.{sym, ap₂, _∙_}
 use borrow.Author.Needs.{needs}
 use denote.Ref.{now}
 use Rattle.card.proofs.check.check.Statement.{statement}
 use Rattle.card.proofs.check.check.Tie as tie
 
-judge-card-requires : tie.Need-judge-card-requires
-judge-card-requires c κs = search needs
+read-header-requires : tie.Need-read-header-requires
+read-header-requires c κs = search needs
 
-enum-known-a : tie.Need-enum-known-a
-enum-known-a c = search needs
+enum-known-header : tie.Need-enum-known-header
+enum-known-header c = search needs
 
 enum-told : tie.Need-enum-told
 enum-told c = search needs
 
-read-layout-requires : tie.Need-read-layout-requires
-unfolding cardLongEnough
-read-layout-requires c κs =
-    let b = now (c .before .before .before .before .args .card) in
-    let e : cardAnswer b ≡ Done = sym (c .before .before .judge-card .ensures) ∙ c .enum-told .given .1 in
-    leb-true 64 _ (accepted b e .long-enough)
-
 returns : tie.Need-returns
-returns c =
-    let b = now (c .before .before .before .before .before .args .card) in
-    let e : cardAnswer b ≡ Done = sym (c .before .before .before .judge-card .ensures) ∙ c .before .enum-told .given .1 in
-    ap Checked.Good (c .read-layout .ensures .0) ∙ sym (checks-good b e)
+returns c = header-refused (now (c .before .before .before .before .args .card)) (c .before .before .read-header .result) (c .before .before .read-header .ensures .0) _ (c .enum-told .given .1)
+
+judge-card-requires : tie.Need-judge-card-requires
+judge-card-requires c κs =
+    let v = c .before .before .before .read-header in
+    let (n, s) = header-read (now (c .before .before .before .before .before .args .card)) (v .result) (v .ensures .0) _ (c .before .header .given .1) in
+    (n, s, v .ensures .1 _ (c .before .header .given .1))
+
+enum-told-2 : tie.Need-enum-told-2
+enum-told-2 c = search needs
+
+enum-told-3 : tie.Need-enum-told-3
+enum-told-3 c = search needs
+
+checked-by-requires : tie.Need-checked-by-requires
+checked-by-requires c κs = search needs
 
 returns-2 : tie.Need-returns-2
 returns-2 c =
-    let b = now (c .before .before .before .before .before .args .card) in
-    let g = c .before .a .given in
-    sym (checks-refused b _ (sym (c .before .before .before .judge-card .ensures) ∙ g .1))
+    let b = now (c .before .before .before .before .before .before .before .before .before .args .card) in
+    let v = c .before .before .before .before .before .before .before .read-header in
+    let (n, s) = header-read b (v .result) (v .ensures .0) _ (c .before .before .before .before .before .header .given .1) in
+    c .checked-by .ensures ∙ ap₂ checkedBy (c .before .before .before .judge-card .ensures) s ∙ sym (checks-by b)
+
+returns-3 : tie.Need-returns-3
+returns-3 c =
+    let b = now (c .before .before .before .before .before .before .before .before .args .card) in
+    let v = c .before .before .before .before .before .before .read-header in
+    let (n, s) = header-read b (v .result) (v .ensures .0) _ (c .before .before .before .before .header .given .1) in
+    ap₂ checkedBy (sym (c .enum-told2 .given .1) ∙ c .before .before .judge-card .ensures) s ∙ sym (checks-by b)
 
 pub check-spec : {M : Type 1} → statement M
 check-spec =
     tie.close
-    (tie.spec judge-card-requires enum-known-a enum-told read-layout-requires returns returns-2)
+    (tie.spec
+    read-header-requires
+    enum-known-header
+    enum-told
+    returns
+    judge-card-requires
+    enum-told-2
+    enum-told-3
+    checked-by-requires
+    returns-2
+    returns-3)

@@ -2,7 +2,7 @@ use Rattle.sets.proofs.Loops.{Kept, kept-start, kept-turn, kept-all}
 use Rattle.meaning.specs.Refusals.{within, weightsGood}
 use Rattle.meaning.specs.Card.{weightAt}
 use mathlib.Core.Bool.{Bool}
-use mathlib.Core.Path.{_≡_, ap, _∙_}
+use mathlib.Core.Path.{_≡_, _∙_}
 use Prim.Native.Nat.{ℕ, _-_, _≤_}
 use native.Mathlib.Omega.{arith}
 use borrow.Author.Needs.{needs}
@@ -19,6 +19,9 @@ abbrev μ-loop : tie.MeasureT-loop
 loop-holds : tie.Need-loop-holds Inv-loop μ-loop
 loop-holds c = (omega arith, kept-start _ _)
 
+heaviest-action-requires : tie.Need-heaviest-action-requires Inv-loop μ-loop
+heaviest-action-requires c κs = search needs
+
 read-weight-requires : tie.Need-read-weight-requires Inv-loop μ-loop
 read-weight-requires c κs = search needs
 
@@ -33,10 +36,10 @@ loop-less c = search needs
 
 loop-again : tie.Need-loop-again Inv-loop μ-loop
 loop-again c =
-    let a = c .before .before .before .before .before .args in
-    let l = c .before .before .before .loop in
+    let a = c .before .before .before .before .before .before .args in
+    let l = c .before .before .before .before .loop in
     let t : ℕ → Bool = λ i. within 1 1024 (weightAt (now (a .card)) i) in
-    let e : c .in-range .result ≡ t (l .a) = c .in-range .ensures ∙ ap (within 1 1024) (c .before .read-weight .ensures .0) in
+    let e : c .in-range .result ≡ t (l .a) = c .in-range .ensures ∙ (λ i. within 1 (c .before .before .heaviest-action .ensures i) (c .before .read-weight .ensures .0 i)) in
     (omega arith, rw e (kept-turn t (a .l .actions) (l .good) (l .a) (omega arith) (l .inv .1)))
 
 returns : tie.Need-returns Inv-loop μ-loop
@@ -54,6 +57,7 @@ weights-good-spec =
     Inv-loop
     μ-loop
     loop-holds
+    heaviest-action-requires
     read-weight-requires
     in-range-requires
     add-a

@@ -21,7 +21,7 @@ element-copy-out-second c = search needs
 returns : tie.Need-returns
 returns c =
     let a = c .before .before .before .before .args in
-    contains-flat (a .kind) (a .x .kind) (a .x .a) (a .x .b) (λ j. getD (now (a .marks)) j false)
+    contains-flat (a .kind) (a .x .kind) (c .before .before .before .before .pre) (a .x .a) (a .x .b) (λ j. getD (now (a .marks)) j false)
 
 pub contains-spec : {M : Type 1} → statement M
 contains-spec =

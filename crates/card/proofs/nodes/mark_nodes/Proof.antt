@@ -1,3 +1,4 @@
+use Rattle.meaning.proofs.Nodes.{node-rule}
 use Rattle.card.proofs.Laws.{MarkedTo, marked-start, marked-turn, marked-all}
 use Rattle.meaning.specs.declared.Node.{Node}
 use Rattle.meaning.specs.Refusals.{containsOf}
@@ -28,10 +29,16 @@ read-node-requires : tie.Need-read-node-requires Inv-loop μ-loop
 read-node-requires c κs = search needs
 
 contains-requires : tie.Need-contains-requires Inv-loop μ-loop
-contains-requires c κs = search needs
+contains-requires c κs =
+    let a = c .before .before .before .before .before .before .args in
+    let r = node-rule (a .l) (now (a .card)) (c .before .before .before .before .before .before .pre .0 .1) (c .before .before .before .loop .i) (omega arith) in
+    rw (c .before .read-node .ensures) (r .kinds)
 
 contains-requires-2 : tie.Need-contains-requires-2 Inv-loop μ-loop
-contains-requires-2 c κs = search needs
+contains-requires-2 c κs =
+    let a = c .before .before .before .before .before .before .before .before .args in
+    let r = node-rule (a .l) (now (a .card)) (c .before .before .before .before .before .before .before .before .pre .0 .1) (c .before .before .before .before .before .loop .i) (omega arith) in
+    rw (c .before .before .before .read-node .ensures) (r .kinds)
 
 element-write-with-belief : tie.Need-element-write-with-belief Inv-loop μ-loop
 element-write-with-belief c = search needs

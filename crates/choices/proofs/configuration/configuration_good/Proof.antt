@@ -22,10 +22,13 @@ size-requires c κs = search needs
 cast-n : tie.Need-cast-n
 cast-n c = search needs
 
+longest-plan-requires : tie.Need-longest-plan-requires
+longest-plan-requires c κs = search needs
+
 returns : tie.Need-returns
 unfolding configurationGood
 returns c =
-    let a = c .before .before .before .before .args in
+    let a = c .before .before .before .before .before .args in
     let d = now (a .plan) in
     let r : length d ≡ 1024 = search needs in
     let e : leb (a .m .length) 1024 ≡ false = lt-leb (a .m .length) 1024 (omega arith) in
@@ -40,7 +43,7 @@ both-known-requires c κs = search needs
 returns-2 : tie.Need-returns-2
 unfolding configurationGood
 returns-2 c =
-    let a = c .before .before .before .before .before .before .before .before .before .args in
+    let a = c .before .before .before .before .before .before .before .before .before .before .args in
     let d = now (a .plan) in
     let r : length d ≡ 1024 = search needs in
     let e : leb (a .m .length) 1024 ≡ true = le-leb (a .m .length) 1024 (omega arith) in
@@ -49,4 +52,4 @@ returns-2 c =
 pub configuration-good-spec : {M : Type 1} → statement M
 configuration-good-spec =
     tie.close
-    (tie.spec size-requires cast-n returns plan-good-requires both-known-requires returns-2)
+    (tie.spec size-requires cast-n longest-plan-requires returns plan-good-requires both-known-requires returns-2)

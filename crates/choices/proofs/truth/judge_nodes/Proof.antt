@@ -1,3 +1,4 @@
+use Rattle.meaning.proofs.Nodes.{node-rule}
 use Rattle.meaning.specs.declared.Node.{Node}
 use mathlib.Core.Bool.{false}
 use lib.ListN.{length-set, length, getD}
@@ -25,7 +26,10 @@ read-node-requires : tie.Need-read-node-requires Inv-loop μ-loop
 read-node-requires c κs = search needs
 
 truth-requires : tie.Need-truth-requires Inv-loop μ-loop
-truth-requires c κs = search needs
+truth-requires c κs =
+    let a = c .before .before .before .before .before .before .args in
+    let r = node-rule (a .l) (now (a .card)) (c .before .before .before .before .before .before .pre .0 .nodes) (c .before .before .before .loop .i) (omega arith) in
+    rw (c .before .read-node .ensures) (r .kinds)
 
 element-write-marks : tie.Need-element-write-marks Inv-loop μ-loop
 element-write-marks c = search needs

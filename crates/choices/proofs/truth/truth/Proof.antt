@@ -1,5 +1,4 @@
 use mathlib.Core.Path.{_≡_}
-use Prim.Native.Nat.{suc, _-_}
 use native.Mathlib.Omega.{arith}
 use borrow.Author.Needs.{needs}
 use Rattle.choices.proofs.truth.truth.Statement.{statement}
@@ -59,7 +58,7 @@ returns-5 c = rw (c .before .before .match .keys5)
 returns-6 : tie.Need-returns-6
 returns-6 c =
     let k = c .before .before .before .before .before .args .x .kind in
-    let e : k ≡ suc (suc (suc (suc (suc (k - 5))))) = omega arith in
+    let e : k ≡ 5 = omega arith in
     rw e
 
 pub truth-spec : {M : Type 1} → statement M

@@ -2,12 +2,12 @@ use Rattle.meaning.specs.Calls.{written}
 use Rattle.meaning.proofs.Calls.{lists-refused, good-judged}
 use Rattle.moves.proofs.Gathering.{listed-by, list-yes, list-not}
 use Rattle.card.specs.Rows.{answerOf}
-use Rattle.choices.proofs.Accepting.{accepted-card, card-refused, judged-so, is-ready}
+use Rattle.choices.proofs.Accepting.{accepted-card, card-refused, judged-so, is-ready, is-room, no-room}
 use mathlib.Core.Path.{sym, ap, _∙_}
 use Rattle.layout.specs.PlaceParts.{lent}
-use native.Mathlib.Omega.{arith}
 use borrow.Author.Needs.{needs}
 use denote.Ref.{now}
+use lib.ListN.{length}
 use Rattle.moves.proofs.list.list.Statement.{statement}
 use Rattle.moves.proofs.list.list.Tie as tie
 
@@ -66,40 +66,55 @@ gather-requires c κs =
     let g = sym (c .before .before .before .before .before .before .before .before .check .ensures) ∙ c .before .before .before .before .before .before .checked .given .1 in
     (is-ready b d _ g (j .result) (j .ensures .0) (c .before .before .enum-told2 .given .1) (j .ensures .1), c .before .no-codes .ensures)
 
+judge-room-requires : tie.Need-judge-room-requires
+judge-room-requires c κs = search needs
+
+enum-told-4 : tie.Need-enum-told-4
+enum-told-4 c = search needs
+
+enum-told-5 : tie.Need-enum-told-5
+enum-told-5 c = search needs
+
 returns-3 : tie.Need-returns-3
 returns-3 c =
-    let a = c .before .before .before .before .before .before .before .before .before .before .before .before .before .args in
+    let a = c .before .before .before .before .before .before .before .before .before .before .before .before .before .before .before .args in
     let b = now (a .card) in
     let d = lent (a .m) (now (a .plan)) in
-    let j = c .before .before .before .before .before .before .judge-configuration in
-    let g = sym (c .before .before .before .before .before .before .before .before .before .before .check .ensures) ∙ c .before .before .before .before .before .before .before .before .checked .given .1 in
-    let e = judged-so b d _ g (j .result) (j .ensures .0) ∙ c .before .before .before .before .enum-told2 .given .1 in
+    let j = c .before .before .before .before .before .before .before .before .judge-configuration in
+    let g = sym (c .before .before .before .before .before .before .before .before .before .before .before .before .check .ensures) ∙ c .before .before .before .before .before .before .before .before .before .before .checked .given .1 in
+    let e = judged-so b d _ g (j .result) (j .ensures .0) ∙ c .before .before .before .before .before .before .enum-told2 .given .1 in
     let s = good-judged b _ g .1 in
-    let f = c .before .gather in
+    let f = c .before .before .before .gather in
     let codes = f .last .1 .1 .1 .1 .0 in
-    list-not b d e codes (f .result) (f .ensures .1 .1) (f .ensures .1 .0) (f .ensures .0 ∙ listed-by b d _ s) (now (a .out)) (omega arith)
+    let (h, t) = no-room (f .result) (length (now (a .out))) (c .before .before .judge-room .result) (c .before .before .judge-room .ensures) _ (c .enum-told5 .given .1) in
+    let w = list-not b d e codes (f .result) (f .ensures .1 .1) (f .ensures .1 .0) (f .ensures .0 ∙ listed-by b d _ s) (now (a .out)) h in
+    (ap (λ x. written x 0 d) t ∙ w .0, w .1)
 
 write-requires : tie.Need-write-requires
-write-requires c κs = search needs
+write-requires c κs =
+    let f = c .before .before .before .before .before .gather in
+    let h = is-room (f .result) (length (now (c .before .before .before .before .before .before .before .before .before .before .before .before .before .before .before .before .before .args .out))) (c .before .before .before .before .judge-room .result) (c .before .before .before .before .judge-room .ensures) (c .before .before .enum-told4 .given .1) in
+    search (needs, h)
 
-cast-t22 : tie.Need-cast-t22
-cast-t22 c = search needs
+cast-t20 : tie.Need-cast-t20
+cast-t20 c = search needs
 
 same-length : tie.Need-same-length
 same-length c = search needs
 
 returns-4 : tie.Need-returns-4
 returns-4 c =
-    let a = c .before .before .before .before .before .before .before .before .before .before .before .before .before .before .before .before .before .before .args in
+    let a = c .before .before .before .before .before .before .before .before .before .before .before .before .before .before .before .before .before .before .before .before .args in
     let b = now (a .card) in
     let d = lent (a .m) (now (a .plan)) in
-    let j = c .before .before .before .before .before .before .before .before .before .before .before .judge-configuration in
-    let g = sym (c .before .before .before .before .before .before .before .before .before .before .before .before .before .before .before .check .ensures) ∙ c .before .before .before .before .before .before .before .before .before .before .before .before .before .checked .given .1 in
-    let e = judged-so b d _ g (j .result) (j .ensures .0) ∙ c .before .before .before .before .before .before .before .before .before .enum-told2 .given .1 in
+    let j = c .before .before .before .before .before .before .before .before .before .before .before .before .before .judge-configuration in
+    let g = sym (c .before .before .before .before .before .before .before .before .before .before .before .before .before .before .before .before .before .check .ensures) ∙ c .before .before .before .before .before .before .before .before .before .before .before .before .before .before .before .checked .given .1 in
+    let e = judged-so b d _ g (j .result) (j .ensures .0) ∙ c .before .before .before .before .before .before .before .before .before .before .before .enum-told2 .given .1 in
     let s = good-judged b _ g .1 in
-    let f = c .before .before .before .before .before .before .gather in
+    let f = c .before .before .before .before .before .before .before .before .gather in
     let codes = f .last .1 .1 .1 .1 .0 in
-    list-yes b d e codes (f .result) (f .ensures .1 .1) (f .ensures .1 .0) (f .ensures .0 ∙ listed-by b d _ s) (now (a .out)) (omega arith) (c .before .before .write .last .1 .1 .0) (c .before .before .write .ensures)
+    let h = is-room (f .result) (length (now (a .out))) (c .before .before .before .before .before .before .before .judge-room .result) (c .before .before .before .before .before .before .before .judge-room .ensures) (c .before .before .before .before .before .enum-told4 .given .1) in
+    list-yes b d e codes (f .result) (f .ensures .1 .1) (f .ensures .1 .0) (f .ensures .0 ∙ listed-by b d _ s) (now (a .out)) h (c .before .before .write .last .1 .1 .0) (c .before .before .write .ensures)
 
 pub list-spec : {M : Type 1} → statement M
 list-spec =
@@ -116,8 +131,11 @@ list-spec =
     returns-2
     no-codes-requires
     gather-requires
+    judge-room-requires
+    enum-told-4
+    enum-told-5
     returns-3
     write-requires
-    cast-t22
+    cast-t20
     same-length
     returns-4)

@@ -1,18 +1,15 @@
-use Prim.Native.Nat.{_/_, _%_}
-use Rattle.runs.specs.Step.{step}
-use Rattle.choices.specs.Asking.{choiceAt}
+use Rattle.runs.specs.Step.{stepBy}
 use Rattle.meaning.specs.declared.Layout.{Layout}
 use Rattle.meaning.specs.Configurations.{stateOf}
 use Rattle.meaning.specs.Card.{agentFor, agent}
-use Rattle.meaning.specs.Calls.{reply}
+use Rattle.meaning.specs.Calls.{choice, reply}
 use Rattle.meaning.proofs.Calls.{takes-refused, good-judged}
-use Rattle.moves.proofs.Taking.{takes-unknown, takes-known}
+use Rattle.moves.proofs.Taking.{takes-by}
 use Rattle.moves.specs.Steps.{takenBy}
 use Rattle.card.specs.Rows.{answerOf}
 use Rattle.choices.proofs.Accepting.{accepted-card, card-refused, judged-so, is-ready}
 use mathlib.Core.Path.{sym, ap, _∙_}
 use Rattle.layout.specs.PlaceParts.{lent}
-use native.Mathlib.Omega.{arith}
 use borrow.Author.Needs.{needs}
 use denote.Ref.{now}
 use Rattle.moves.proofs.take.take.Statement.{statement}
@@ -59,44 +56,26 @@ returns-2 c =
     let e = judged-so b d _ g (j .result) (j .ensures .0) ∙ c .enum-told3 .given .1 in
     ap (λ x. reply x d) (c .enum-told3 .given .1) ∙ sym (takes-refused b d (a .choice) _ e)
 
-returns-3 : tie.Need-returns-3
-returns-3 c =
+take-choice-requires : tie.Need-take-choice-requires
+take-choice-requires c κs =
     let a = c .before .before .before .before .before .before .before .before .before .before .args in
     let b = now (a .card) in
     let d = lent (a .m) (now (a .plan)) in
     let j = c .before .before .before .judge-configuration in
     let g = sym (c .before .before .before .before .before .before .before .before .check .ensures) ∙ c .before .before .before .before .before .before .checked .given .1 in
-    let e = judged-so b d _ g (j .result) (j .ensures .0) ∙ c .before .enum-told2 .given .1 in
-    takes-unknown b d e (a .choice) (omega arith)
+    is-ready b d _ g (j .result) (j .ensures .0) (c .before .enum-told2 .given .1) (j .ensures .1)
 
-cast-take-choice : tie.Need-cast-take-choice
-cast-take-choice c = search needs
-
-cast-take-choice-2 : tie.Need-cast-take-choice-2
-cast-take-choice-2 c = search needs
-
-take-choice-requires : tie.Need-take-choice-requires
-take-choice-requires c κs =
+returns-3 : tie.Need-returns-3
+unfolding agent
+returns-3 c =
     let a = c .before .before .before .before .before .before .before .before .before .before .before .args in
     let b = now (a .card) in
     let d = lent (a .m) (now (a .plan)) in
     let j = c .before .before .before .before .judge-configuration in
     let g = sym (c .before .before .before .before .before .before .before .before .before .check .ensures) ∙ c .before .before .before .before .before .before .before .checked .given .1 in
-    (is-ready b d _ g (j .result) (j .ensures .0) (c .before .before .enum-told2 .given .1) (j .ensures .1), omega arith)
-
-returns-4 : tie.Need-returns-4
-unfolding agent
-returns-4 c =
-    let a = c .before .before .before .before .before .before .before .before .before .before .before .before .args in
-    let b = now (a .card) in
-    let d = lent (a .m) (now (a .plan)) in
-    let j = c .before .before .before .before .before .judge-configuration in
-    let g = sym (c .before .before .before .before .before .before .before .before .before .before .check .ensures) ∙ c .before .before .before .before .before .before .before .before .checked .given .1 in
-    let e = judged-so b d _ g (j .result) (j .ensures .0) ∙ c .before .before .before .enum-told2 .given .1 in
+    let e = judged-so b d _ g (j .result) (j .ensures .0) ∙ c .before .before .enum-told2 .given .1 in
     let s = good-judged b _ g .1 in
-    c .take-choice .ensures
-    ∙ ap (λ (x : Layout). takenBy (step (agentFor x b) (stateOf d) (choiceAt (a .choice / 256) (a .choice % 256))) d) s
-    ∙ takes-known b d e (a .choice) (omega arith)
+    c .take-choice .ensures ∙ ap (λ (x : Layout). takenBy (stepBy (agentFor x b) (stateOf d) (choice (a .choice))) d) s ∙ takes-by b d e (a .choice)
 
 pub take-spec : {M : Type 1} → statement M
 take-spec =
@@ -111,8 +90,5 @@ take-spec =
     enum-told-2
     enum-told-3
     returns-2
-    returns-3
-    cast-take-choice
-    cast-take-choice-2
     take-choice-requires
-    returns-4)
+    returns-3)

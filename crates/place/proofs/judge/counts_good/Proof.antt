@@ -1,12 +1,14 @@
-use Rattle.layout.specs.declared.place.PlaceParts.{PlaceParts}
+use borrow.Author.Needs.{needs}
 use lib.Dec.{leb, eqb}
 use mathlib.Core.Bool.{_&&_}
-use mathlib.Core.Path.{ap}
 use Rattle.place.proofs.judge.counts_good.Statement.{statement}
 use Rattle.place.proofs.judge.counts_good.Tie as tie
 
+longest-plan-requires : tie.Need-longest-plan-requires
+longest-plan-requires c κs = search needs
+
 returns : tie.Need-returns
-returns c = ap (λ (h : PlaceParts). leb (h .length) 1024 && (leb (h .phase) 2 && eqb (h .zero) 0)) (c .before .before .before .pre)
+returns c = λ i. leb (c .before .before .before .before .before .pre i .length) (c .before .before .before .longest-plan .ensures i) && (leb (c .before .before .before .before .before .pre i .phase) 2 && eqb (c .before .before .before .before .before .pre i .zero) 0)
 
 pub counts-good-spec : {M : Type 1} → statement M
-counts-good-spec = tie.close (tie.spec returns)
+counts-good-spec = tie.close (tie.spec longest-plan-requires returns)

@@ -1,9 +1,8 @@
-use Rattle.meaning.specs.declared.Answer.the-variants.{Done, Refused}
-use Rattle.meaning.specs.declared.Refusal.the-variants.{NoRoom}
+use Rattle.meaning.specs.declared.Answer.the-variants.{Done}
 use Rattle.meaning.specs.Calls.{written, saves, saveLeaves}
 use Rattle.place.proofs.Laws.{save-refused, save-no-room, save-done}
 use Rattle.card.specs.Rows.{answerOf}
-use Rattle.choices.proofs.Accepting.{accepted-card, card-refused, judged-so, is-ready}
+use Rattle.choices.proofs.Accepting.{accepted-card, card-refused, judged-so, is-ready, is-room, no-room}
 use Rattle.layout.specs.PlaceParts.{lent}
 use mathlib.Core.Path.{_≡_, sym, ap, _∙_}
 use borrow.Author.Needs.{needs}
@@ -72,60 +71,71 @@ place-size-requires c κs =
     let h = r .fits in
     search (needs, h)
 
+judge-room-requires : tie.Need-judge-room-requires
+judge-room-requires c κs = search needs
+
+enum-told-4 : tie.Need-enum-told-4
+enum-told-4 c = search needs
+
+enum-told-5 : tie.Need-enum-told-5
+enum-told-5 c = search needs
+
 -- "the lent list or place buffer is too short"
-no-room : (c : tie.Then1) →
-    let a = c .before .before .before .before .before .before .before .before .before .before .before .before .args in
+too-short : (c : tie.After-enum-told5) →
+    let a = c .before .before .before .before .before .before .before .before .before .before .before .before .before .before .args in
     let d = lent (a .m) (now (a .plan)) in
-    (written (Refused NoRoom) 0 d ≡ saves (now (a .card)) d (now (a .out))) × (now (a .out) ≡ saveLeaves (now (a .card)) d (now (a .out)))
-no-room c =
-    let a = c .before .before .before .before .before .before .before .before .before .before .before .before .args in
+    (written (c .before .before .judge-room .result) 0 d ≡ saves (now (a .card)) d (now (a .out))) × (now (a .out) ≡ saveLeaves (now (a .card)) d (now (a .out)))
+too-short c =
+    let a = c .before .before .before .before .before .before .before .before .before .before .before .before .before .before .args in
     let b = now (a .card) in
     let d = lent (a .m) (now (a .plan)) in
-    let j = c .before .before .before .before .before .judge-configuration in
-    let g = sym (c .before .before .before .before .before .before .before .before .before .check .ensures) ∙ c .before .before .before .before .before .before .before .checked .given .1 in
-    let e = judged-so b d _ g (j .result) (j .ensures .0) ∙ c .before .before .before .enum-told2 .given .1 in
-    let r = is-ready b d _ g (j .result) (j .ensures .0) (c .before .before .before .enum-told2 .given .1) (j .ensures .1) in
-    save-no-room b d (now (a .out)) _ e r (lb (c .before .before .before .before .before .before .before .before .before .before .before .before)) (lg (c .before .before .before .before .before .before .before .before .before .before .before .before)) (rw (c .before .place-size .ensures) at (c .if1 .taken))
+    let j = c .before .before .before .before .before .before .before .judge-configuration in
+    let g = sym (c .before .before .before .before .before .before .before .before .before .before .before .check .ensures) ∙ c .before .before .before .before .before .before .before .before .before .checked .given .1 in
+    let e = judged-so b d _ g (j .result) (j .ensures .0) ∙ c .before .before .before .before .before .enum-told2 .given .1 in
+    let r = is-ready b d _ g (j .result) (j .ensures .0) (c .before .before .before .before .before .enum-told2 .given .1) (j .ensures .1) in
+    let (h, t) = no-room (c .before .before .before .place-size .result) (length (now (a .out))) (c .before .before .judge-room .result) (c .before .before .judge-room .ensures) _ (c .enum-told5 .given .1) in
+    let s = save-no-room b d (now (a .out)) _ e r (lb (c .before .before .before .before .before .before .before .before .before .before .before .before .before .before)) (lg (c .before .before .before .before .before .before .before .before .before .before .before .before .before .before)) (rw (c .before .before .before .place-size .ensures) at h) in
+    (ap (λ x. written x 0 d) t ∙ s .0, s .1)
 
 returns-3 : tie.Need-returns-3
-returns-3 c = no-room c
+returns-3 c = too-short c
 
 cast-count : tie.Need-cast-count
 cast-count c =
-    let a = c .before .before .before .before .before .before .before .before .before .before .before .before .args in
+    let a = c .before .before .before .before .before .before .before .before .before .before .before .before .before .before .args in
     let b = now (a .card) in
     let d = lent (a .m) (now (a .plan)) in
-    let j = c .before .before .before .before .before .judge-configuration in
-    let g = sym (c .before .before .before .before .before .before .before .before .before .check .ensures) ∙ c .before .before .before .before .before .before .before .checked .given .1 in
-    let r = is-ready b d _ g (j .result) (j .ensures .0) (c .before .before .before .enum-told2 .given .1) (j .ensures .1) in
+    let j = c .before .before .before .before .before .before .before .judge-configuration in
+    let g = sym (c .before .before .before .before .before .before .before .before .before .before .before .check .ensures) ∙ c .before .before .before .before .before .before .before .before .before .checked .given .1 in
+    let r = is-ready b d _ g (j .result) (j .ensures .0) (c .before .before .before .before .before .enum-told2 .given .1) (j .ensures .1) in
     let h = r .fits in
-    let n = c .before .place-size .ensures in
+    let n = c .before .before .before .place-size .ensures in
     search (needs, h, n)
 
 write-place-requires : tie.Need-write-place-requires
 write-place-requires c κs =
-    let a = c .before .before .before .before .before .before .before .before .before .before .before .before .before .args in
+    let a = c .before .before .before .before .before .before .before .before .before .before .before .before .before .before .before .args in
     let b = now (a .card) in
     let d = lent (a .m) (now (a .plan)) in
-    let j = c .before .before .before .before .before .before .judge-configuration in
-    let g = sym (c .before .before .before .before .before .before .before .before .before .before .check .ensures) ∙ c .before .before .before .before .before .before .before .before .checked .given .1 in
-    let r = is-ready b d _ g (j .result) (j .ensures .0) (c .before .before .before .before .enum-told2 .given .1) (j .ensures .1) in
-    (r .fits, r .phase, rw (c .before .before .place-size .ensures) at (c .before .if1 .left), r .room)
+    let j = c .before .before .before .before .before .before .before .before .judge-configuration in
+    let g = sym (c .before .before .before .before .before .before .before .before .before .before .before .before .check .ensures) ∙ c .before .before .before .before .before .before .before .before .before .before .checked .given .1 in
+    let r = is-ready b d _ g (j .result) (j .ensures .0) (c .before .before .before .before .before .before .enum-told2 .given .1) (j .ensures .1) in
+    (r .fits, r .phase, rw (c .before .before .before .before .place-size .ensures) at (is-room (c .before .before .before .before .place-size .result) (length (now (a .out))) (c .before .before .before .judge-room .result) (c .before .before .before .judge-room .ensures) (c .before .enum-told4 .given .1)), r .room)
 
 same-length : tie.Need-same-length
 same-length c = search needs
 
 returns-4 : tie.Need-returns-4
 returns-4 c =
-    let a = c .before .before .before .before .before .before .before .before .before .before .before .before .before .before .before .before .args in
+    let a = c .before .before .before .before .before .before .before .before .before .before .before .before .before .before .before .before .before .before .args in
     let b = now (a .card) in
     let d = lent (a .m) (now (a .plan)) in
-    let j = c .before .before .before .before .before .before .before .before .before .judge-configuration in
-    let g = sym (c .before .before .before .before .before .before .before .before .before .before .before .before .before .check .ensures) ∙ c .before .before .before .before .before .before .before .before .before .before .before .checked .given .1 in
-    let e = judged-so b d _ g (j .result) (j .ensures .0) ∙ c .before .before .before .before .before .before .before .enum-told2 .given .1 in
-    let r = is-ready b d _ g (j .result) (j .ensures .0) (c .before .before .before .before .before .before .before .enum-told2 .given .1) (j .ensures .1) in
-    let s = save-done b d (now (a .out)) _ e r (lb (c .before .before .before .before .before .before .before .before .before .before .before .before .before .before .before .before)) (lg (c .before .before .before .before .before .before .before .before .before .before .before .before .before .before .before .before)) _ (rw (c .before .before .before .before .before .place-size .ensures) at (c .before .before .before .before .if1 .left)) (c .before .before .write-place .ensures) in
-    (ap (λ k. written Done k d) (c .before .before .before .before .before .place-size .ensures) ∙ s .0, s .1)
+    let j = c .before .before .before .before .before .before .before .before .before .before .before .judge-configuration in
+    let g = sym (c .before .before .before .before .before .before .before .before .before .before .before .before .before .before .before .check .ensures) ∙ c .before .before .before .before .before .before .before .before .before .before .before .before .before .checked .given .1 in
+    let e = judged-so b d _ g (j .result) (j .ensures .0) ∙ c .before .before .before .before .before .before .before .before .before .enum-told2 .given .1 in
+    let r = is-ready b d _ g (j .result) (j .ensures .0) (c .before .before .before .before .before .before .before .before .before .enum-told2 .given .1) (j .ensures .1) in
+    let s = save-done b d (now (a .out)) _ e r (lb (c .before .before .before .before .before .before .before .before .before .before .before .before .before .before .before .before .before .before)) (lg (c .before .before .before .before .before .before .before .before .before .before .before .before .before .before .before .before .before .before)) _ (rw (c .before .before .before .before .before .before .before .place-size .ensures) at (is-room (c .before .before .before .before .before .before .before .place-size .result) (length (now (a .out))) (c .before .before .before .before .before .before .judge-room .result) (c .before .before .before .before .before .before .judge-room .ensures) (c .before .before .before .before .enum-told4 .given .1))) (c .before .before .write-place .ensures) in
+    (ap (λ k. written Done k d) (c .before .before .before .before .before .before .before .place-size .ensures) ∙ s .0, s .1)
 
 pub save-spec : {M : Type 1} → statement M
 save-spec =
@@ -142,6 +152,9 @@ save-spec =
     returns-2
     cast-place-size
     place-size-requires
+    judge-room-requires
+    enum-told-4
+    enum-told-5
     returns-3
     cast-count
     write-place-requires

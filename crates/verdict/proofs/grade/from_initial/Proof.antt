@@ -14,18 +14,21 @@ use Rattle.verdict.proofs.grade.from_initial.Tie as tie
 plan-weight-requires : tie.Need-plan-weight-requires
 plan-weight-requires c κs = search needs
 
+heaviest-plan-requires : tie.Need-heaviest-plan-requires
+heaviest-plan-requires c κs = search needs
+
 from-selections-requires : tie.Need-from-selections-requires
 from-selections-requires c κs = search needs
 
 returns : tie.Need-returns
 unfolding agent initialPlan
 returns c =
-    let a = c .before .before .before .before .before .args in
+    let a = c .before .before .before .before .before .before .args in
     let b = now (a .card) in
     let w = weight b in
-    let says : a .l ≡ layout b = c .before .before .before .before .before .pre .0 .layout .says in
+    let says : a .l ≡ layout b = c .before .before .before .before .before .before .pre .0 .layout .says in
     let π : plan (a .l) b (a .l .initial) ≡ initialPlan b = ap (λ (x : Layout). plan x b (x .initial)) says in
-    let e : weigh w (initialPlan b) ≤ 1024 = rw (← π, ← c .before .before .plan-weight .ensures) (omega arith) in
+    let e : weigh w (initialPlan b) ≤ 1024 = rw (← π, ← c .before .before .before .plan-weight .ensures) (omega arith) in
     c .from-selections .ensures
     ∙ ap (λ (x : Layout). selectionsVerdict x b) says
     ∙ sym (verdict-light w (agent b) (initialPlan b) e)
@@ -33,14 +36,14 @@ returns c =
 returns-2 : tie.Need-returns-2
 unfolding agent initialPlan
 returns-2 c =
-    let a = c .before .before .before .before .args in
+    let a = c .before .before .before .before .before .args in
     let b = now (a .card) in
     let w = weight b in
-    let says : a .l ≡ layout b = c .before .before .before .before .pre .0 .layout .says in
+    let says : a .l ≡ layout b = c .before .before .before .before .before .pre .0 .layout .says in
     let π : plan (a .l) b (a .l .initial) ≡ initialPlan b = ap (λ (x : Layout). plan x b (x .initial)) says in
-    let e : 1024 < weigh w (initialPlan b) = rw (← π, ← c .before .plan-weight .ensures) (omega arith) in
+    let e : 1024 < weigh w (initialPlan b) = rw (← π, ← c .before .before .plan-weight .ensures) (omega arith) in
     sym (verdict-heavy w (agent b) (initialPlan b) e)
 
 pub from-initial-spec : {M : Type 1} → statement M
 from-initial-spec =
-    tie.close (tie.spec plan-weight-requires from-selections-requires returns returns-2)
+    tie.close (tie.spec plan-weight-requires heaviest-plan-requires from-selections-requires returns returns-2)

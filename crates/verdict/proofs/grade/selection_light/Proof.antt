@@ -15,8 +15,11 @@ plan-weight-requires c κs =
     let e = ap (λ (x : SelectionEntry). x .plan) (c .read-selection .ensures .0) in
     (p .0, p .1, good-as (a .l) 1 _ _ e (p .0 .selections (a .i) (p .2) .plan))
 
+heaviest-plan-requires : tie.Need-heaviest-plan-requires
+heaviest-plan-requires c κs = search needs
+
 returns : tie.Need-returns
-returns c = rw (c .plan-weight .ensures, c .before .read-selection .ensures .0)
+returns c = rw (c .before .plan-weight .ensures, c .heaviest-plan .ensures, c .before .before .read-selection .ensures .0)
 
 pub selection-light-spec : {M : Type 1} → statement M
-selection-light-spec = tie.close (tie.spec read-selection-requires plan-weight-requires returns)
+selection-light-spec = tie.close (tie.spec read-selection-requires plan-weight-requires heaviest-plan-requires returns)

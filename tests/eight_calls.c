@@ -3,6 +3,9 @@
  * turn of the screen: in the middle of a run the place is saved, everything else is forgotten,
  * and the run goes on from the place as if nothing had been.
  */
+#include <stdio.h>
+#include <string.h>
+
 #include "cards.h"
 
 #include "../include/rigtemple.h"
@@ -28,8 +31,8 @@ static int same(const struct rigtemple_configuration *one,
 {
     return memcmp(one->beliefs, other->beliefs, sizeof one->beliefs) == 0 &&
            memcmp(one->goals, other->goals, sizeof one->goals) == 0 &&
-           memcmp(one->plan, other->plan, sizeof one->plan) == 0 &&
-           one->length == other->length && one->phase == other->phase;
+           memcmp(one->plan, other->plan, sizeof one->plan) == 0 && one->length == other->length &&
+           one->phase == other->phase;
 }
 
 /* Whether a set is the atoms of `bits`, atom k for bit k. */
@@ -49,18 +52,26 @@ static int is_empty(const struct rigtemple_configuration *c)
 static struct rigtemple_configuration begin(void)
 {
     struct rigtemple_configuration c;
-    expect(rigtemple_load(card.bytes, card.len, &c) == RIGTEMPLE_DONE, "the card loads");
+    expect(rigtemple_load(card.bytes, card.len, &c) == RIGTEMPLE_ANSWER_DONE, "the card loads");
     return c;
+}
+
+/* Runs the card, which is never refused. */
+static void run(struct rigtemple_configuration *c, uint16_t budget, uint16_t *moves,
+                uint8_t *ending)
+{
+    expect(rigtemple_run(card.bytes, card.len, c, budget, moves, ending) == RIGTEMPLE_ANSWER_DONE,
+           "the card runs");
 }
 
 /* The configuration after some moves of the guide's own. */
 static struct rigtemple_configuration after(uint16_t moves)
 {
     struct rigtemple_configuration c = begin();
-    uint16_t count;
+    uint16_t taken;
     uint8_t ending;
-    rigtemple_run(card.bytes, card.len, &c, moves, &count, &ending);
-    expect(count == moves, "the moves are taken");
+    run(&c, moves, &taken, &ending);
+    expect(taken == moves, "the moves are taken");
     return c;
 }
 
@@ -71,10 +82,12 @@ static void test_card(void)
     uint8_t verdict = 9, offender = 9;
     uint16_t number = 9;
     expect(card.len == 255, "the card is 255 bytes");
-    expect(rigtemple_check(card.bytes, card.len) == RIGTEMPLE_DONE, "the card is good");
-    expect(rigtemple_grade(card.bytes, card.len, &verdict, &offender, &number) == RIGTEMPLE_DONE,
+    expect(rigtemple_check(card.bytes, card.len) == RIGTEMPLE_ANSWER_DONE, "the card is good");
+    expect(rigtemple_grade(card.bytes, card.len, &verdict, &offender, &number) ==
+               RIGTEMPLE_ANSWER_DONE,
            "the card is graded");
-    expect(verdict == RIGTEMPLE_BOUNDED && offender == RIGTEMPLE_OFFENDER_NONE && number == 0,
+    expect(verdict == RIGTEMPLE_VERDICT_BOUNDED && offender == RIGTEMPLE_OFFENDER_NONE &&
+               number == 0,
            "the card is bounded");
     struct rigtemple_configuration c = begin();
     expect(set_is(c.beliefs, 1 << 0 | 1 << 3) && set_is(c.goals, 1 << 2), "the initial sets");
@@ -88,8 +101,10 @@ static void test_open_card(void)
     uint8_t verdict, offender;
     uint16_t number;
     put_weight(&open, 2, 2);
-    rigtemple_grade(open.bytes, open.len, &verdict, &offender, &number);
-    expect(verdict == RIGTEMPLE_OPEN && offender == RIGTEMPLE_OFFENDER_REVISION && number == 1,
+    expect(rigtemple_grade(open.bytes, open.len, &verdict, &offender, &number) ==
+                   RIGTEMPLE_ANSWER_DONE &&
+               verdict == RIGTEMPLE_VERDICT_OPEN && offender == RIGTEMPLE_OFFENDER_REVISION &&
+               number == 1,
            "a body that weighs as much as its head makes the card open");
 }
 
@@ -98,28 +113,30 @@ static void test_refused_card(void)
 {
     struct card_bytes bad = card;
     struct rigtemple_configuration c = begin(), before = c;
-    uint8_t verdict = 0, offender = 0, ending = 9, place[RIGTEMPLE_LARGEST_PLACE] = {0xEE};
+    uint8_t verdict = 0, offender = 0, ending = 9, place[RIGTEMPLE_MOST_PLACE_BYTES] = {0xEE};
     uint16_t number = 9, count = 9, list[2] = {0xEEEE};
     put_node(&bad, 0, NODE_NOT, 0, 0);
-    expect(rigtemple_check(bad.bytes, bad.len) == RIGTEMPLE_NODE, "check refuses");
-    expect(rigtemple_grade(bad.bytes, bad.len, &verdict, &offender, &number) == RIGTEMPLE_NODE &&
-               verdict == RIGTEMPLE_OPEN && offender == RIGTEMPLE_OFFENDER_INITIAL_PLAN &&
+    expect(rigtemple_check(bad.bytes, bad.len) == RIGTEMPLE_ANSWER_NODE, "check refuses");
+    expect(rigtemple_grade(bad.bytes, bad.len, &verdict, &offender, &number) ==
+                   RIGTEMPLE_ANSWER_NODE &&
+               verdict == RIGTEMPLE_VERDICT_OPEN && offender == RIGTEMPLE_OFFENDER_INITIAL_PLAN &&
                number == 0,
            "grade refuses, and does not say bounded");
-    expect(rigtemple_list(bad.bytes, bad.len, &c, list, 2, &count) == RIGTEMPLE_NODE &&
+    expect(rigtemple_list(bad.bytes, bad.len, &c, list, 2, &count) == RIGTEMPLE_ANSWER_NODE &&
                count == 0 && list[0] == 0xEEEE,
            "list refuses");
-    expect(rigtemple_take(bad.bytes, bad.len, &c, 0) == RIGTEMPLE_NODE && same(&c, &before),
+    expect(rigtemple_take(bad.bytes, bad.len, &c, 0) == RIGTEMPLE_ANSWER_NODE && same(&c, &before),
            "take refuses");
     count = 9;
-    expect(rigtemple_run(bad.bytes, bad.len, &c, 5, &count, &ending) == RIGTEMPLE_NODE &&
-               count == 0 && ending == RIGTEMPLE_SPENT && same(&c, &before),
+    expect(rigtemple_run(bad.bytes, bad.len, &c, 5, &count, &ending) == RIGTEMPLE_ANSWER_NODE &&
+               count == 0 && ending == RIGTEMPLE_ENDING_SPENT && same(&c, &before),
            "run refuses");
     count = 9;
-    expect(rigtemple_save(bad.bytes, bad.len, &c, place, sizeof place, &count) == RIGTEMPLE_NODE &&
+    expect(rigtemple_save(bad.bytes, bad.len, &c, place, sizeof place, &count) ==
+                   RIGTEMPLE_ANSWER_NODE &&
                count == 0 && place[0] == 0xEE,
            "save refuses");
-    expect(rigtemple_load(bad.bytes, bad.len, &c) == RIGTEMPLE_NODE && is_empty(&c),
+    expect(rigtemple_load(bad.bytes, bad.len, &c) == RIGTEMPLE_ANSWER_NODE && is_empty(&c),
            "load refuses, and leaves the empty configuration");
 }
 
@@ -129,8 +146,9 @@ static void test_refused_card(void)
 static const struct step {
     uint8_t kind, number, length;
 } steps[6] = {
-    {RIGTEMPLE_SELECT, 0, 1}, {RIGTEMPLE_REVISE, 0, 2}, {RIGTEMPLE_ACT, 1, 1},
-    {RIGTEMPLE_REVISE, 1, 2}, {RIGTEMPLE_ACT, 2, 1},    {RIGTEMPLE_ACT, 0, 0},
+    {RIGTEMPLE_KIND_SELECTION, 0, 1}, {RIGTEMPLE_KIND_REVISION, 0, 2},
+    {RIGTEMPLE_KIND_ACTION, 1, 1},    {RIGTEMPLE_KIND_REVISION, 1, 2},
+    {RIGTEMPLE_KIND_ACTION, 2, 1},    {RIGTEMPLE_KIND_ACTION, 0, 0},
 };
 
 /* Each step is in the list, is taken, and is what the guide takes by itself. */
@@ -138,20 +156,21 @@ static void test_steps(void)
 {
     struct rigtemple_configuration c = begin();
     for (unsigned i = 0; i < 6; i++) {
-        struct rigtemple_configuration run = c;
+        struct rigtemple_configuration own = c;
         uint16_t choice = RIGTEMPLE_CHOICE(steps[i].kind, steps[i].number), count = 9, taken = 9;
-        uint16_t list[RIGTEMPLE_MOST_CHOICES];
+        uint16_t list[RIGTEMPLE_MOST_LIST_ENTRIES];
         uint8_t ending = 9;
-        expect(rigtemple_list(card.bytes, card.len, &c, list, RIGTEMPLE_MOST_CHOICES, &count) ==
-                   RIGTEMPLE_DONE,
+        expect(rigtemple_list(card.bytes, card.len, &c, list, RIGTEMPLE_MOST_LIST_ENTRIES,
+                              &count) == RIGTEMPLE_ANSWER_DONE,
                "the moves are listed");
         expect(count == 1 && list[0] == choice, "the step is the one that is listed");
-        expect(rigtemple_take(card.bytes, card.len, &c, choice) == RIGTEMPLE_DONE,
+        expect(rigtemple_take(card.bytes, card.len, &c, choice) == RIGTEMPLE_ANSWER_DONE,
                "the step is taken");
         expect(c.length == steps[i].length && c.phase == (steps[i].kind + 1) % 3,
                "the plan's length and the phase after it");
-        expect(rigtemple_run(card.bytes, card.len, &run, 1, &taken, &ending) == RIGTEMPLE_DONE &&
-                   taken == 1 && ending == RIGTEMPLE_SPENT && same(&run, &c),
+        expect(rigtemple_run(card.bytes, card.len, &own, 1, &taken, &ending) ==
+                       RIGTEMPLE_ANSWER_DONE &&
+                   taken == 1 && ending == RIGTEMPLE_ENDING_SPENT && same(&own, &c),
                "the guide takes the same step");
     }
     expect(set_is(c.beliefs, 1 << 0 | 1 << 2) && set_is(c.goals, 0) && c.phase == 2,
@@ -164,13 +183,13 @@ static void test_budgets(void)
     struct rigtemple_configuration c = begin();
     uint16_t count = 9;
     uint8_t ending = 9;
-    rigtemple_run(card.bytes, card.len, &c, 6, &count, &ending);
-    expect(count == 6 && ending == RIGTEMPLE_SPENT, "budget 6: spent, 6");
-    rigtemple_run(card.bytes, card.len, &c, 0, &count, &ending);
-    expect(count == 0 && ending == RIGTEMPLE_SPENT, "budget 0 at rest: spent, 0");
+    run(&c, 6, &count, &ending);
+    expect(count == 6 && ending == RIGTEMPLE_ENDING_SPENT, "budget 6: spent, 6");
+    run(&c, 0, &count, &ending);
+    expect(count == 0 && ending == RIGTEMPLE_ENDING_SPENT, "budget 0 at rest: spent, 0");
     c = begin();
-    rigtemple_run(card.bytes, card.len, &c, 7, &count, &ending);
-    expect(count == 6 && ending == RIGTEMPLE_REST, "budget 7: rest, 6");
+    run(&c, 7, &count, &ending);
+    expect(count == 6 && ending == RIGTEMPLE_ENDING_REST, "budget 7: rest, 6");
 }
 
 /* P6 and others: choices that are refused leave the configuration as it came in. */
@@ -183,14 +202,51 @@ static void test_refused_choices(void)
     c.length = 1;
     struct rigtemple_configuration before = c;
     for (unsigned i = 0; i < sizeof codes / sizeof codes[0]; i++)
-        expect(rigtemple_take(card.bytes, card.len, &c, codes[i]) == RIGTEMPLE_NOT_ENABLED &&
+        expect(rigtemple_take(card.bytes, card.len, &c, codes[i]) == RIGTEMPLE_ANSWER_NOT_ENABLED &&
                    same(&c, &before),
                "a code that is no enabled choice");
     c.plan[1] = 1;
     before = c;
-    expect(rigtemple_take(card.bytes, card.len, &c, 514) == RIGTEMPLE_CONFIGURATION &&
+    expect(rigtemple_take(card.bytes, card.len, &c, 514) == RIGTEMPLE_ANSWER_CONFIGURATION &&
                same(&c, &before),
            "a byte after the plan's end");
+}
+
+/* The code of a choice is never that of another kind, whatever number is asked for. */
+static void test_codes(void)
+{
+    static const long long numbers[] = {256, 257, 511, 512, 65536, 1LL << 32, -1};
+    struct rigtemple_configuration c = begin(), before = c;
+    for (unsigned kind = 0; kind < 3; kind++) {
+        uint16_t last = RIGTEMPLE_CHOICE(kind, 255);
+        expect(RIGTEMPLE_KIND_OF(last) == kind && RIGTEMPLE_NUMBER_OF(last) == 255,
+               "the last number of a kind");
+        for (unsigned i = 0; i < sizeof numbers / sizeof numbers[0]; i++)
+            expect(RIGTEMPLE_CHOICE(kind, numbers[i]) == RIGTEMPLE_NO_CHOICE,
+                   "a number that no rule has");
+    }
+    expect(RIGTEMPLE_CHOICE(3, 0) == RIGTEMPLE_NO_CHOICE, "a kind that there is not");
+    expect(rigtemple_take(card.bytes, card.len, &c, RIGTEMPLE_NO_CHOICE) ==
+                   RIGTEMPLE_ANSWER_NOT_ENABLED &&
+               same(&c, &before),
+           "no choice is not enabled");
+}
+
+/* The empty configuration is accepted, and a run from it tells nothing of why it is empty. */
+static void test_empty_configuration(void)
+{
+    static const struct rigtemple_configuration empty;
+    struct rigtemple_configuration c = empty;
+    struct card_bytes endless;
+    uint16_t count = 9;
+    uint8_t ending = 9;
+    run(&c, 1000, &count, &ending);
+    expect(count == 0 && ending == RIGTEMPLE_ENDING_REST, "without goals the card rests at once");
+    endless_stripe_card(&endless);
+    expect(rigtemple_run(endless.bytes, endless.len, &c, 1000, &count, &ending) ==
+                   RIGTEMPLE_ANSWER_DONE &&
+               count == 1000 && ending == RIGTEMPLE_ENDING_SPENT,
+           "a rule that asks for no goal goes on");
 }
 
 /* P11: plan of 1,024 picks; revision 1 makes it longer, revision 2 does not. */
@@ -198,20 +254,20 @@ static void test_full_plan(void)
 {
     struct rigtemple_configuration c = begin();
     memset(c.plan, 3, sizeof c.plan);
-    c.length = RIGTEMPLE_LONGEST_PLAN;
+    c.length = RIGTEMPLE_MOST_PLAN_ACTIONS;
     c.phase = 2;
     struct rigtemple_configuration before = c;
     uint16_t count = 9;
     uint8_t ending = 9;
-    expect(rigtemple_take(card.bytes, card.len, &c, 513) == RIGTEMPLE_PLAN_FULL &&
+    expect(rigtemple_take(card.bytes, card.len, &c, 513) == RIGTEMPLE_ANSWER_PLAN_FULL &&
                same(&c, &before),
            "a plan too long is refused");
-    expect(rigtemple_run(card.bytes, card.len, &c, 1, &count, &ending) == RIGTEMPLE_DONE &&
-               count == 0 && ending == RIGTEMPLE_FULL && same(&c, &before),
+    expect(rigtemple_run(card.bytes, card.len, &c, 1, &count, &ending) == RIGTEMPLE_ANSWER_DONE &&
+               count == 0 && ending == RIGTEMPLE_ENDING_FULL && same(&c, &before),
            "a run stops before it");
     c.beliefs[0] = 1 << 0;
-    expect(rigtemple_take(card.bytes, card.len, &c, 514) == RIGTEMPLE_DONE && c.length == 1024 &&
-               c.plan[0] == 0 && c.plan[1] == 3 && c.plan[1023] == 3,
+    expect(rigtemple_take(card.bytes, card.len, &c, 514) == RIGTEMPLE_ANSWER_DONE &&
+               c.length == 1024 && c.plan[0] == 0 && c.plan[1] == 3 && c.plan[1023] == 3,
            "a body as long as its head is taken");
 }
 
@@ -220,15 +276,15 @@ static void test_list_room(void)
 {
     struct rigtemple_configuration c = begin();
     uint16_t list[2] = {0xEEEE, 0xEEEE}, count = 9;
-    expect(rigtemple_list(card.bytes, card.len, &c, list, 0, &count) == RIGTEMPLE_NO_ROOM &&
+    expect(rigtemple_list(card.bytes, card.len, &c, list, 0, &count) == RIGTEMPLE_ANSWER_NO_ROOM &&
                count == 0 && list[0] == 0xEEEE,
            "no room for the list");
-    expect(rigtemple_list(card.bytes, card.len, &c, list, 1, &count) == RIGTEMPLE_DONE &&
+    expect(rigtemple_list(card.bytes, card.len, &c, list, 1, &count) == RIGTEMPLE_ANSWER_DONE &&
                count == 1 && list[0] == 0 && list[1] == 0xEEEE,
            "room for just the list");
     c = after(6);
     list[0] = 0xEEEE;
-    expect(rigtemple_list(card.bytes, card.len, &c, list, 0, &count) == RIGTEMPLE_DONE &&
+    expect(rigtemple_list(card.bytes, card.len, &c, list, 0, &count) == RIGTEMPLE_ANSWER_DONE &&
                count == 0 && list[0] == 0xEEEE,
            "nothing to list at rest");
 }
@@ -240,18 +296,19 @@ static void test_place(void)
 {
     static const uint8_t wanted[46] = {0x33, 0x50, 1, 0, 2, 0, 0x2C, 0, 0, 0, 0, 0, 0x0B,
                                        [28] = 0x04, [44] = 2, 0};
-    uint8_t place[RIGTEMPLE_LARGEST_PLACE];
+    uint8_t place[RIGTEMPLE_MOST_PLACE_BYTES];
     struct rigtemple_configuration c = after(4);
     uint16_t count = 9;
     memset(place, 0xEE, sizeof place);
-    expect(rigtemple_save(card.bytes, card.len, &c, place, 45, &count) == RIGTEMPLE_NO_ROOM &&
+    expect(rigtemple_save(card.bytes, card.len, &c, place, 45, &count) ==
+                   RIGTEMPLE_ANSWER_NO_ROOM &&
                count == 0 && place[0] == 0xEE,
            "no room for the place");
-    expect(rigtemple_save(card.bytes, card.len, &c, place, 46, &count) == RIGTEMPLE_DONE &&
+    expect(rigtemple_save(card.bytes, card.len, &c, place, 46, &count) == RIGTEMPLE_ANSWER_DONE &&
                count == 46 && memcmp(place, wanted, 46) == 0 && place[46] == 0xEE,
            "the place after step 4");
     place[8] = 3;
-    expect(rigtemple_restore(card.bytes, card.len, place, 46, &c) == RIGTEMPLE_COUNT &&
+    expect(rigtemple_restore(card.bytes, card.len, place, 46, &c) == RIGTEMPLE_ANSWER_COUNT &&
                is_empty(&c),
            "a place with phase 3 is refused");
 }
@@ -260,24 +317,25 @@ static void test_place(void)
 static void test_turn(uint16_t before)
 {
     struct rigtemple_configuration straight = begin(), c = begin(), held;
-    uint8_t place[RIGTEMPLE_LARGEST_PLACE], again[RIGTEMPLE_LARGEST_PLACE], ending;
+    uint8_t place[RIGTEMPLE_MOST_PLACE_BYTES], again[RIGTEMPLE_MOST_PLACE_BYTES], ending;
     uint16_t all, first, rest, size, size_again;
     uint8_t straight_ending;
-    rigtemple_run(card.bytes, card.len, &straight, 7, &all, &straight_ending);
-    rigtemple_run(card.bytes, card.len, &c, before, &first, &ending);
-    expect(rigtemple_save(card.bytes, card.len, &c, place, sizeof place, &size) == RIGTEMPLE_DONE,
+    run(&straight, 7, &all, &straight_ending);
+    run(&c, before, &first, &ending);
+    expect(rigtemple_save(card.bytes, card.len, &c, place, sizeof place, &size) ==
+               RIGTEMPLE_ANSWER_DONE,
            "the place is saved");
     held = c;
     memset(&c, 0xEE, sizeof c);
     ending = 0xEE;
-    expect(rigtemple_restore(card.bytes, card.len, place, size, &c) == RIGTEMPLE_DONE &&
+    expect(rigtemple_restore(card.bytes, card.len, place, size, &c) == RIGTEMPLE_ANSWER_DONE &&
                same(&c, &held),
            "the restored configuration is the one that was saved");
     expect(rigtemple_save(card.bytes, card.len, &c, again, sizeof again, &size_again) ==
-                   RIGTEMPLE_DONE &&
+                   RIGTEMPLE_ANSWER_DONE &&
                size_again == size && memcmp(again, place, size) == 0,
            "the restored place, saved, is the same bytes");
-    rigtemple_run(card.bytes, card.len, &c, (uint16_t)(7 - before), &rest, &ending);
+    run(&c, (uint16_t)(7 - before), &rest, &ending);
     expect(first + rest == all && ending == straight_ending && same(&c, &straight),
            "the run goes on as if the screen had not been turned");
 }
@@ -291,6 +349,8 @@ int main(void)
     test_steps();
     test_budgets();
     test_refused_choices();
+    test_codes();
+    test_empty_configuration();
     test_full_plan();
     test_list_room();
     test_place();

@@ -1,0 +1,28 @@
+-- A contract for C leaves one answer: two that meet it are both what its definition says.
+use mathlib.Core.Path.{_≡_, _∙_, sym, ap}
+use Rattle.meaning.specs.declared.Configuration.{Configuration}
+use Rattle.board.specs.Determined.{DeterminedParts}
+
+-- both are what the contract names
+same : {X : Type 0} {r r′ x : X} → r ≡ x → r′ ≡ x → r ≡ r′
+same e f = e ∙ sym f
+
+pub determined : DeterminedParts
+determined =
+    record {
+      check = λ card n n′ e f. same e f;
+      load = λ card n n′ c c′ e f. (same (e .0) (f .0), same (e .1) (f .1));
+      grade = λ card n n′ v v′ o o′ k k′ e f. (same (e .0) (f .0), same (e .1) (f .1), same (e .2) (f .2), same (e .3) (f .3));
+      list = λ card d list left left′ n n′ k k′ e f. (same (e .0) (f .0), same (e .2) (f .2), same (e .1) (f .1));
+      take = λ card d choice n n′ c c′ e f. (same (e .0) (f .0), same (e .1) (f .1));
+      run = λ card d budget n n′ c c′ k k′ a a′ e f. (same (e .0) (f .0), same (e .1) (f .1), same (e .2) (f .2), same (e .3) (f .3));
+      save = λ card d place left left′ n n′ k k′ e f. (same (e .0) (f .0), same (e .2) (f .2), same (e .1) (f .1));
+      restore = λ card place n n′ c c′ e f. (same (e .0) (f .0), same (e .1) (f .1));
+      parts = λ b b′ g g′ p p′ n n′ f f′ e. (
+        ap (λ (c : Configuration). c .mind .beliefs) e,
+        ap (λ (c : Configuration). c .mind .goals) e,
+        ap (λ (c : Configuration). c .plan) e,
+        ap (λ (c : Configuration). c .mind .length) e,
+        ap (λ (c : Configuration). c .mind .phase) e,
+      );
+    }

@@ -1,0 +1,74 @@
+-- The contract of each of the eight functions for C, by the one name that its `ensures` cites, and that it leaves one answer
+-- (proved in proofs/). n is the return value. What is lent to be written is named as it is left: c for a configuration's five
+-- parts, left for a list or a place, the others as in include/rigtemple.h. What is lent to be read stays as it is.
+use mathlib.Core.Path.{_≡_}
+use mathlib.Core.List.{List}
+use Prim.Native.Nat.{ℕ}
+use Rattle.meaning.specs.declared.Configuration.{Configuration}
+use Rattle.meaning.specs.Card.{Bytes}
+use Rattle.meaning.specs.Calls.{checks, loads, grades, lists, listLeaves, takes, runs, saves, saveLeaves, restores}
+use Rattle.meaning.specs.Numbers.{checkedNumber}
+use Rattle.board.specs.Header.{whole, replied, gradedAs, wrote, ranTo}
+
+-- ---- the contracts
+
+-- 01, "What the guide does": "check a card": the answer's number.
+abbrev pub Checks : Bytes → ℕ → Type 0
+Checks card n = n ≡ checkedNumber (checks card)
+
+-- 01, "What the guide does": "load it": the answer's number, and "the card's initial beliefs, goals and plan with phase 0".
+abbrev pub Loads : Bytes → ℕ → Configuration → Type 0
+Loads card n c = replied (loads card) n c
+
+-- 01, "What the guide does": "grade the card": the answer's number, and "the verdict carries the first offender".
+abbrev pub Grades : Bytes → ℕ → ℕ → ℕ → ℕ → Type 0
+Grades card n verdict offender number = gradedAs (grades card) n verdict offender number
+
+-- 01, "What the guide does": "list the enabled moves": of a configuration d, into a list. "the answer tells how many, and what
+-- lies after them stays"
+abbrev pub Lists : Bytes → Configuration → List ℕ → ℕ → List ℕ → ℕ → Type 0
+Lists card d list n left count = wrote (lists card d list) (listLeaves card d list) n count left
+
+-- 01, "What the guide does": "take a chosen move": from a configuration d. "A refusal answers the number and the configuration
+-- as it came in"
+abbrev pub Takes : Bytes → Configuration → ℕ → ℕ → Configuration → Type 0
+Takes card d choice n c = replied (takes card d choice) n c
+
+-- 01, "What the guide does": "run by itself": from a configuration d. "the configuration reached, how many transitions were
+-- taken, and one of three endings"
+abbrev pub Runs : Bytes → Configuration → ℕ → ℕ → Configuration → ℕ → ℕ → Type 0
+Runs card d budget n c count ending = ranTo (runs card d budget) n c count ending
+
+-- 01, "What the guide does": "save a place": of a configuration d, into a place. "Saving writes 44 + L bytes and no others."
+abbrev pub Saves : Bytes → Configuration → Bytes → ℕ → Bytes → ℕ → Type 0
+Saves card d place n left count = wrote (saves card d place) (saveLeaves card d place) n count left
+
+-- 01, "What the guide does": "and restore it": the configuration, or in a refusal "the empty one (no atoms, empty plan, phase 0)".
+abbrev pub Restores : Bytes → Bytes → ℕ → Configuration → Type 0
+Restores card place n c = replied (restores card place) n c
+
+-- ---- one answer
+
+-- 01, "What the contracts settle": "For each public function and each input, refusals too, the contract determines the answer
+-- and every byte and number in lent buffers afterwards; equality of any two conforming answers is proved".
+pub record DeterminedParts : Type 0 where
+  pub check : (card : Bytes) (n n′ : ℕ) → Checks card n → Checks card n′ → n ≡ n′
+  pub load : (card : Bytes) (n n′ : ℕ) (c c′ : Configuration) → Loads card n c → Loads card n′ c′ → (n ≡ n′) × (c ≡ c′)
+  pub grade : (card : Bytes) (n n′ verdict verdict′ offender offender′ number number′ : ℕ)
+      → Grades card n verdict offender number → Grades card n′ verdict′ offender′ number′
+      → (n ≡ n′) × (verdict ≡ verdict′) × (offender ≡ offender′) × (number ≡ number′)
+  pub list : (card : Bytes) (d : Configuration) (list left left′ : List ℕ) (n n′ count count′ : ℕ)
+      → Lists card d list n left count → Lists card d list n′ left′ count′ → (n ≡ n′) × (left ≡ left′) × (count ≡ count′)
+  pub take : (card : Bytes) (d : Configuration) (choice n n′ : ℕ) (c c′ : Configuration)
+      → Takes card d choice n c → Takes card d choice n′ c′ → (n ≡ n′) × (c ≡ c′)
+  pub run : (card : Bytes) (d : Configuration) (budget n n′ : ℕ) (c c′ : Configuration) (count count′ ending ending′ : ℕ)
+      → Runs card d budget n c count ending → Runs card d budget n′ c′ count′ ending′
+      → (n ≡ n′) × (c ≡ c′) × (count ≡ count′) × (ending ≡ ending′)
+  pub save : (card : Bytes) (d : Configuration) (place left left′ : Bytes) (n n′ count count′ : ℕ)
+      → Saves card d place n left count → Saves card d place n′ left′ count′ → (n ≡ n′) × (left ≡ left′) × (count ≡ count′)
+  pub restore : (card place : Bytes) (n n′ : ℕ) (c c′ : Configuration)
+      → Restores card place n c → Restores card place n′ c′ → (n ≡ n′) × (c ≡ c′)
+  -- the same sentence, "every byte and number in lent buffers": equal configurations are equal in each of the five lent parts.
+  pub parts : (beliefs beliefs′ goals goals′ plan plan′ : Bytes) (length length′ phase phase′ : ℕ)
+      → whole beliefs goals plan length phase ≡ whole beliefs′ goals′ plan′ length′ phase′
+      → (beliefs ≡ beliefs′) × (goals ≡ goals′) × (plan ≡ plan′) × (length ≡ length′) × (phase ≡ phase′)

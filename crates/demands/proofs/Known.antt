@@ -1,0 +1,254 @@
+-- The states that a card knows: its atoms, its actions, a plan that fits and a phase. A card that is accepted starts in one, and
+-- every transition of its agent leads from one to another.
+use mathlib.Core.Path.{_≡_, refl, ap, _∙_, sym, subst}
+use mathlib.Core.Bool.{Bool, true, false, not, _&&_, _||_}
+use mathlib.Core.List.{List, [], _∷_, _++_}
+use mathlib.Core.Option.{some}
+use Prim.Native.Nat.{ℕ, zero, suc, _+_, _-_, _*_, _/_, _%_, _≤_, _<_}
+use native.Mathlib.Nat.{zero-add, zero-div, mod-lt}
+use native.Mathlib.Decide.{decLt}
+use native.Mathlib.Omega.{arith}
+use borrow.Author.Tests.{not-true, eqb-true, leb-true, le-leb}
+use lib.Dec.{eqb, ltb}
+use lib.ListN.{length, length-take, take, drop, replicate, getD, List·getD-eq-default}
+use lib.Seq.{drop-append-seam}
+use Rattle.paper.specs.Atoms.{Atoms, bit, _∈_, _∪_, _∖_}
+use Rattle.paper.specs.Language.{𝐁, 𝐆, Agent, Config, Selection, Revision, Specification}
+use Rattle.paper.specs.Transitions.{Choice, Entry, Step, execute, apply-PS, apply-PR, σ′, γ′}
+use Rattle.paper.proofs.Sets.{∈-∪, ∈-∖}
+use Rattle.paper.proofs.Relation.{both, none≢some, some-inj}
+use Rattle.runs.specs.Order.{State, kind}
+use Rattle.runs.specs.Step.{after}
+use Rattle.runs.specs.Theorems.{Guided, ends, goes}
+use Rattle.runs.proofs.Numbers.{made-entry, made-none}
+use Rattle.meaning.specs.declared.Layout.{Layout}
+use Rattle.meaning.specs.declared.Section.{Section}
+use Rattle.meaning.specs.declared.Span.{Span}
+use Rattle.meaning.specs.declared.Answer.the-variants.{Done}
+use Rattle.meaning.specs.declared.Configuration.{Configuration}
+use Rattle.meaning.specs.Card.{Bytes, layout, part, byte, plan, entries, conditions, specificationAt, selectionAt, revisionAt, specificationOf, selectionOf, revisionOf, agentOf, agentFor, agent, initialPlan, initialBeliefs, initialGoals, start}
+use Rattle.meaning.specs.Configurations.{padded, stateOf, configurationOf}
+use Rattle.meaning.specs.Refusals.{all, every, within, cardAnswer, endOf, offsetsGood, containing, conditionGood, spanGood, selectionGood, revisionGood, actionsGood, setGood, bothGood, setsGood, pool, configurationGood}
+use Rattle.meaning.proofs.Entries.{GoodEntries, good-entries}
+use Rattle.meaning.proofs.Every.{both-true, all-at, all-of, numbers-at, numbers-of, every-at}
+use Rattle.meaning.proofs.Parts.{length-part, part-at}
+use Rattle.meaning.proofs.Accepted.{Accepted, accepted, within-high}
+use Rattle.meaning.proofs.Configurations.{take-padded, good}
+
+pub record Known (l : Layout) (s : State) : Type 0 where
+  pub beliefs : setGood (l .atoms) (s .mental .σ) ≡ true
+  pub goals : setGood (l .atoms) (s .mental .γ) ≡ true
+  pub actions : actionsGood (l .actions) (s .mental .π) ≡ true
+  pub fits : length (s .mental .π) ≤ 1024
+  pub phase : s .phase ≤ 2
+
+-- ---- its configuration is accepted
+
+all-zeros : (n : ℕ) → all (λ x. eqb x 0) (replicate n 0) ≡ true
+all-zeros zero = refl
+all-zeros (suc n) = all-zeros n
+
+pub known-good : (l : Layout) (s : State) → Known l s → configurationGood l (configurationOf s) ≡ true
+unfolding configurationGood configurationOf padded
+known-good l s k =
+    let π = s .mental .π in
+    let d : drop (length π) (padded π) ≡ replicate (1024 - length π) 0 = drop-append-seam π (replicate (1024 - length π) 0) in
+    let a : actionsGood (l .actions) (take (length π) (padded π)) ≡ true = rw (take-padded π (length π) refl) (k .actions) in
+    let z : all (λ x. eqb x 0) (drop (length π) (padded π)) ≡ true = rw d (all-zeros (1024 - length π)) in
+    both-true _ _ (le-leb _ _ (k .fits))
+    (both-true _ _ a (both-true _ _ (both-true _ _ (k .beliefs) (k .goals)) (both-true _ _ (le-leb _ _ (k .phase)) z)))
+
+pub known-of : (l : Layout) (c : Configuration) → configurationGood l c ≡ true → Known l (stateOf c)
+unfolding stateOf
+known-of l c e =
+    let g = good l c e in
+    let h = g .fits in
+    record {
+      beliefs = g .beliefs;
+      goals = g .goals;
+      actions = g .actions;
+      fits = rw (length-take (c .mind .length) (c .plan)) (omega arith);
+      phase = g .phase;
+    }
+
+-- ---- sets
+
+-- no atom past the last byte of a set is in it
+past : (s : Atoms) (k : ℕ) → 8 * length s ≤ k → k ∈ s ≡ false
+unfolding _∈_ bit
+past s k h = let e : getD s (k / 8) 0 ≡ 0 = List·getD-eq-default s 0 (omega arith) in rw (e, zero-div)
+
+unknown : (n : ℕ) (s : Atoms) → setGood n s ≡ true → (k : ℕ) → n ≤ k → k ∈ s ≡ false
+unfolding setGood
+unknown n s e k h = elim (decLt k (8 * length s)) [
+  | yes l ↦ (let z : n + (k - n) ≡ k = omega arith in not-true (k ∈ s) (rw z at (numbers-at (λ k. not (k ∈ s)) n (8 * length s - n) (k - n) e (omega arith))))
+  | no l ↦ past s k (omega arith)
+]
+
+all-unknown : (n : ℕ) (s : Atoms) → ((k : ℕ) → n ≤ k → k ∈ s ≡ false) → setGood n s ≡ true
+unfolding setGood
+all-unknown n s h = numbers-of (λ k. not (k ∈ s)) n (8 * length s - n) (λ i l. ap not (h (n + i) (omega arith)))
+
+known-∪ : (n : ℕ) (s t : Atoms) → setGood n s ≡ true → setGood n t ≡ true → setGood n (s ∪ t) ≡ true
+known-∪ n s t e f = all-unknown n (s ∪ t) (λ k h. ∈-∪ k s t ∙ (λ i. unknown n s e k h i || unknown n t f k h i))
+
+known-∖ : (n : ℕ) (s t : Atoms) → setGood n s ≡ true → setGood n (s ∖ t) ≡ true
+known-∖ n s t e = all-unknown n (s ∖ t) (λ k h. ∈-∖ k s t ∙ ap (λ x. x && not (k ∈ t)) (unknown n s e k h))
+
+-- ---- plans
+
+module _ (n : ℕ) where
+  known-++ : (π π′ : List ℕ) → actionsGood n π ≡ true → actionsGood n π′ ≡ true → actionsGood n (π ++ π′) ≡ true
+  unfolding actionsGood
+  known-++ [] π′ e f = f
+  known-++ (a ∷ π) π′ e f = both-true _ _ (both (ltb a n) _ e .0) (known-++ π π′ (both (ltb a n) _ e .1) f)
+
+  known-behind : (π π′ : List ℕ) → actionsGood n (π ++ π′) ≡ true → actionsGood n π′ ≡ true
+  unfolding actionsGood
+  known-behind [] π′ e = e
+  known-behind (a ∷ π) π′ e = known-behind π π′ (both (ltb a n) _ e .1)
+
+-- ---- the entries of an agent
+
+entry-of : {R : Type 0} (read : ℕ → R) (s : Section) (n : ℕ) (r : R) → Entry (entries read s) n r → (n < s .count) × (read n ≡ r)
+entry-of read s n r e = elim (decLt n (s .count)) [
+  | yes l ↦ (l, rw (zero-add n) at (some-inj (sym (made-entry read 0 (s .count) n l) ∙ e)))
+  | no l ↦ absurd (none≢some (sym (made-none read 0 (s .count) n (omega arith)) ∙ e))
+]
+
+-- ---- an accepted card
+
+module _ (l : Layout) (b : Bytes) (ends-there : l .pool .offset + l .pool .count ≤ length b) (acts : actionsGood (l .actions) (pool l b) ≡ true) where
+  -- a plan in the pool has actions of the card
+  plan-known : (s : Span) → s .start + s .length ≤ l .pool .count → actionsGood (l .actions) (plan l b s) ≡ true
+  unfolding actionsGood plan
+  plan-known s h = all-of (λ a. ltb a (l .actions)) (part b at (s .length)) 0 each
+    where
+      at : ℕ
+      at = l .pool .offset + s .start
+
+      each : (i : ℕ) → i < length (part b at (s .length)) → ltb (getD (part b at (s .length)) i 0) (l .actions) ≡ true
+      each i below =
+          let n : length (part b at (s .length)) ≡ s .length = length-part b at (s .length) (omega arith) in
+          let m : length (pool l b) ≡ l .pool .count = length-part b (l .pool .offset) (l .pool .count) ends-there in
+          let p : getD (part b at (s .length)) i 0 ≡ byte b (at + i) = part-at b at (s .length) i (omega arith) in
+          let q : getD (pool l b) (s .start + i) 0 ≡ byte b (l .pool .offset + (s .start + i)) = part-at b (l .pool .offset) (l .pool .count) (s .start + i) (omega arith) in
+          let e : at + i ≡ l .pool .offset + (s .start + i) = omega arith in
+          let g : ltb (getD (pool l b) (s .start + i) 0) (l .actions) ≡ true = all-at (λ a. ltb a (l .actions)) (pool l b) (s .start + i) 0 acts (omega arith) in
+          rw (p, e, sym q) g
+
+-- what is asked of an agent's plans and sets, with the numbers of its card
+pub record KnownAgent (l : Layout) (A : Agent) : Type 0 where
+  pub selected : (n : ℕ) (r : Selection) → Entry (A .PS) n r → actionsGood (l .actions) (r .π) ≡ true
+  pub revised : (n : ℕ) (r : Revision) → Entry (A .PR) n r → actionsGood (l .actions) (r .πb) ≡ true
+  pub added : (n : ℕ) (s : Specification) → Entry (A .AS) n s → setGood (l .atoms) (s .Add) ≡ true
+
+span-inside : (l : Layout) (least : ℕ) (s : Span) → spanGood l least s ≡ true → s .start + s .length ≤ l .pool .count
+span-inside l least s e = leb-true (s .start + s .length) (l .pool .count) (both (within least 1024 (s .length)) _ e .1)
+
+span-fits : (l : Layout) (least : ℕ) (s : Span) → spanGood l least s ≡ true → s .length ≤ 1024
+span-fits l least s e = within-high least 1024 (s .length) (both (within least 1024 (s .length)) _ e .0)
+
+module _ (b : Bytes) (card : cardAnswer b ≡ Done) where
+  abbrev l : Layout
+  l = layout b
+
+  a : Accepted b
+  a = accepted b card
+
+  pool-inside : l .pool .offset + l .pool .count ≤ length b
+  unfolding offsetsGood
+  pool-inside =
+      let n = l .nodes in
+      let e1 = both (eqb (n .offset) (64 + 2 * l .actions)) _ (a .offsets) .1 in
+      let e2 = both (eqb (l .specifications .offset) (endOf 4 n)) _ e1 .1 in
+      let e3 = both (eqb (l .selections .offset) (endOf 36 (l .specifications))) _ e2 .1 in
+      let e4 = both (eqb (l .revisions .offset) (endOf 8 (l .selections))) _ e3 .1 in
+      let e5 = both (eqb (l .pool .offset) (endOf 12 (l .revisions))) _ e4 .1 in
+      let q : length b ≡ l .pool .offset + 1 * l .pool .count = eqb-true _ _ e5 in
+      omega arith
+
+  known-plan : (s : Span) → s .start + s .length ≤ l .pool .count → actionsGood (l .actions) (plan l b s) ≡ true
+  known-plan = plan-known l b pool-inside (a .pool)
+
+  g : GoodEntries l b
+  g = good-entries l b (a .rules)
+
+  selection-known : (n : ℕ) → n < l .selections .count → actionsGood (l .actions) (plan l b (selectionAt l b n .plan)) ≡ true
+  unfolding selectionGood
+  selection-known n h =
+      let x = selectionAt l b n in
+      let e = both (conditionGood l (containing 2 l b) (x .belief)) _ (g .selection n h) .1 in
+      let f = both (conditionGood l (containing 1 l b) (x .goal)) _ e .1 in
+      known-plan (x .plan) (span-inside l 1 (x .plan) (both (spanGood l 1 (x .plan)) _ f .0))
+
+  revision-known : (n : ℕ) → n < l .revisions .count → actionsGood (l .actions) (plan l b (revisionAt l b n .body)) ≡ true
+  unfolding revisionGood
+  revision-known n h =
+      let x = revisionAt l b n in
+      let e = both (conditionGood l (containing 2 l b) (x .node)) _ (g .revision n h) .1 in
+      let f = both (eqb (x .plain) 0) _ e .1 in
+      let d = both (spanGood l 1 (x .head)) _ f .1 in
+      known-plan (x .body) (span-inside l 0 (x .body) (both (spanGood l 0 (x .body)) _ d .0))
+
+  abbrev sets : ℕ → Bool
+  sets i = bothGood (l .atoms) (specificationAt l b i .add) (specificationAt l b i .del)
+
+  initial-sets : (bothGood (l .atoms) (initialBeliefs b) (initialGoals b) ≡ true) × (every (l .specifications .count) sets ≡ true)
+  unfolding setsGood
+  initial-sets = both (bothGood (l .atoms) (initialBeliefs b) (initialGoals b)) _ (a .sets)
+
+  pub known-agent : KnownAgent l (agent b)
+  unfolding agent agentFor agentOf selectionOf revisionOf specificationOf
+  known-agent = record {
+    selected = λ n r e.
+        let (h, q) = entry-of (λ i. selectionOf (conditions 𝐁 l b) (conditions 𝐆 l b) l b (selectionAt l b i)) (l .selections) n r e in
+        subst (λ (x : Selection). actionsGood (l .actions) (x .π) ≡ true) q (selection-known n h);
+    revised = λ n r e.
+        let (h, q) = entry-of (λ i. revisionOf (conditions 𝐁 l b) l b (revisionAt l b i)) (l .revisions) n r e in
+        subst (λ (x : Revision). actionsGood (l .actions) (x .πb) ≡ true) q (revision-known n h);
+    added = λ n s e.
+        let (h, q) = entry-of (λ i. specificationOf (conditions 𝐁 l b) (specificationAt l b i)) (l .specifications) n s e in
+        subst (λ (x : Specification). setGood (l .atoms) (x .Add) ≡ true) q
+        (both (setGood (l .atoms) (specificationAt l b n .add)) _ (every-at sets (l .specifications .count) n (initial-sets .1) h) .0);
+  }
+
+  pub known-start : Known l (start b)
+  unfolding start initialPlan plan
+  known-start =
+      let s = both (setGood (l .atoms) (initialBeliefs b)) _ (initial-sets .0) in
+      let inside = span-inside l 0 (l .initial) (g .initial) in
+      let most = span-fits l 0 (l .initial) (g .initial) in
+      let ends = pool-inside in
+      record {
+        beliefs = s .0;
+        goals = s .1;
+        actions = known-plan (l .initial) inside;
+        fits = rw (length-part b (l .pool .offset + l .initial .start) (l .initial .length) (omega arith)) most;
+        phase = omega arith;
+      }
+
+-- ---- a transition keeps it
+
+module _ {l : Layout} {A : Agent} (known : KnownAgent l A) where
+  stepped : {c c′ : Config} {k : Choice} → Step A c k c′ → setGood (l .atoms) (c .σ) ≡ true → setGood (l .atoms) (c .γ) ≡ true → actionsGood (l .actions) (c .π) ≡ true
+      → (setGood (l .atoms) (c′ .σ) ≡ true) × ((setGood (l .atoms) (c′ .γ) ≡ true) × (actionsGood (l .actions) (c′ .π) ≡ true))
+  unfolding σ′ γ′ actionsGood
+  stepped (execute {σ = σ} {γ = γ} {n = n} {s = t} e p) b g acts = (
+    known-∖ (l .atoms) (σ ∪ t .Add) (t .Del) (known-∪ (l .atoms) σ (t .Add) b (known .added n t e)),
+    (known-∖ (l .atoms) γ (t .Add) g, both (ltb (t .a) (l .actions)) _ acts .1),
+  )
+  stepped (apply-PS {n = n} {r = r} e p q) b g acts = (b, (g, known .selected n r e))
+  stepped (apply-PR π {n = n} {r = r} e p) b g acts = (b, (g, known-++ (l .actions) (r .πb) π (known .revised n r e) (known-behind (l .actions) (r .πₕ) π acts)))
+
+  pub known-after : (s : State) {k : Choice} {c : Config} → Known l s → Step A (s .mental) k c → length (c .π) ≤ 1024 → Known l (after s k c)
+  unfolding after
+  known-after s {k} {c} h x fits =
+      let m : (kind k + 1) % 3 < 3 = mod-lt (kind k + 1) (omega arith) in
+      let (b, (g, acts)) = stepped x (h .beliefs) (h .goals) (h .actions) in
+      record { beliefs = b; goals = g; actions = acts; fits = fits; phase = omega arith }
+
+  -- and so does every run of the guide's own
+  pub known-guided : {s s′ : State} {ks : List Choice} → Guided A s ks s′ → Known l s → Known l s′
+  known-guided ends h = h
+  known-guided (goes {s} e x f r) h = known-guided r (known-after s h x f)

@@ -1,0 +1,81 @@
+#!/usr/bin/env python3
+"""The library from Python, by ctypes: python3 by_ctypes.py LIBRIGTEMPLE.SO CARD
+
+Loads a card and runs it for 1,000 moves at most; saves the place, restores it and says whether it is the same configuration. A refusal
+ends the program with status 1. HOW-TO-LINK.txt of the library's folder makes the shared object from the archive.
+
+The symbols of the library are the eight functions `rigtemple_..._parts`, over the parts of a configuration: what rigtemple.h calls
+`rigtemple_load` and so on is made of them in the header. Declare all their types: an undeclared length would be passed as 32 bits.
+"""
+
+import ctypes
+import sys
+from ctypes import POINTER, byref, c_char_p, c_size_t, c_uint8, c_uint16
+
+ENDINGS = ("spent", "rest", "full")
+CARD = (c_char_p, c_size_t)
+SETS_AND_PLAN = (POINTER(c_uint8), POINTER(c_uint8), POINTER(c_uint8))
+READ = (*SETS_AND_PLAN, c_uint16, c_uint8)
+LENT = (*SETS_AND_PLAN, POINTER(c_uint16), POINTER(c_uint8))
+CALLS = {
+    "check": CARD,
+    "load": (*CARD, *LENT),
+    "grade": (*CARD, POINTER(c_uint8), POINTER(c_uint8), POINTER(c_uint16)),
+    "list": (*CARD, *READ, POINTER(c_uint16), c_size_t, POINTER(c_uint16)),
+    "take": (*CARD, *LENT, c_uint16),
+    "run": (*CARD, *LENT, c_uint16, POINTER(c_uint16), POINTER(c_uint8)),
+    "save": (*CARD, *READ, POINTER(c_uint8), c_size_t, POINTER(c_uint16)),
+    "restore": (*CARD, POINTER(c_uint8), c_size_t, *LENT),
+}
+
+
+class Configuration:
+    """The parts of a configuration."""
+
+    def __init__(self):
+        self.beliefs, self.goals, self.plan = (c_uint8 * 16)(), (c_uint8 * 16)(), (c_uint8 * 1024)()
+        self.length, self.phase = c_uint16(), c_uint8()
+
+    def read(self):
+        return self.beliefs, self.goals, self.plan, self.length, self.phase
+
+    def lent(self):
+        return self.beliefs, self.goals, self.plan, byref(self.length), byref(self.phase)
+
+    def whole(self):
+        return bytes(self.beliefs), bytes(self.goals), bytes(self.plan), self.length.value, self.phase.value
+
+
+class Guide:
+    """The eight calls on one card; a refusal is an exception."""
+
+    def __init__(self, library, card):
+        self.library, self.card = ctypes.CDLL(library), card
+        for call, types in CALLS.items():
+            function = getattr(self.library, "rigtemple_%s_parts" % call)
+            function.argtypes, function.restype = types, c_uint16
+
+    def __call__(self, call, *words):
+        answer = getattr(self.library, "rigtemple_%s_parts" % call)(self.card, len(self.card), *words)
+        if answer != 0:
+            raise SystemExit("%s is refused with %d" % (call, answer))
+
+
+def main(library, name):
+    with open(name, "rb") as file:
+        guide = Guide(library, file.read())
+    c, restored = Configuration(), Configuration()
+    moves, ending, size = c_uint16(), c_uint8(), c_uint16()
+    place = (c_uint8 * 1068)()
+    guide("load", *c.lent())
+    guide("run", *c.lent(), 1000, byref(moves), byref(ending))
+    print("%s after %d moves" % (ENDINGS[ending.value], moves.value))
+    guide("save", *c.read(), place, len(place), byref(size))
+    guide("restore", place, size.value, *restored.lent())
+    print("a place of %d bytes, restored %s" % (size.value, "the same" if restored.whole() == c.whole() else "as another"))
+
+
+if __name__ == "__main__":
+    if len(sys.argv) != 3:
+        sys.exit(__doc__)
+    main(*sys.argv[1:])

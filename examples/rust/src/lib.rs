@@ -1,0 +1,179 @@
+//! The eight calls of the weaving guide for Rust. What each does is said in rigtemple.h.
+//!
+//! SAFETY of every call below: the pointers come from references and slices, so that none is null,
+//! all are aligned, the lengths are true, and what is written overlaps nothing.
+
+mod parts;
+mod words;
+
+use words::done;
+pub use words::{Choice, Ending, Offender, Refusal, Verdict};
+
+pub const SET_BYTES: usize = 16;
+pub const MOST_CARD_BYTES: usize = 24128;
+pub const MOST_PLAN_ACTIONS: usize = 1024;
+pub const MOST_PLACE_BYTES: usize = 1068;
+pub const MOST_LIST_ENTRIES: usize = 768;
+
+/// Where a weaver stands in a card; the plan is the first `length` bytes of `plan`.
+#[derive(Clone, Debug, PartialEq, Eq)]
+pub struct Configuration {
+    pub beliefs: [u8; SET_BYTES],
+    pub goals: [u8; SET_BYTES],
+    pub plan: [u8; MOST_PLAN_ACTIONS],
+    pub length: u16,
+    pub phase: u8,
+}
+
+impl Configuration {
+    /// No atoms, empty plan, phase 0.
+    pub const EMPTY: Configuration = Configuration {
+        beliefs: [0; SET_BYTES],
+        goals: [0; SET_BYTES],
+        plan: [0; MOST_PLAN_ACTIONS],
+        length: 0,
+        phase: 0,
+    };
+}
+
+/// What a run took, and why it ended.
+#[derive(Clone, Copy, Debug, PartialEq, Eq)]
+pub struct Ran {
+    pub moves: u16,
+    pub ending: Ending,
+}
+
+/// Judges a card.
+pub fn check(card: &[u8]) -> Result<(), Refusal> {
+    done(unsafe { parts::rigtemple_check_parts(card.as_ptr(), card.len()) })
+}
+
+/// The configuration that a weaver begins with.
+pub fn load(card: &[u8]) -> Result<Configuration, Refusal> {
+    let mut c = Configuration::EMPTY;
+    done(unsafe {
+        parts::rigtemple_load_parts(
+            card.as_ptr(),
+            card.len(),
+            c.beliefs.as_mut_ptr(),
+            c.goals.as_mut_ptr(),
+            c.plan.as_mut_ptr(),
+            &mut c.length,
+            &mut c.phase,
+        )
+    })?;
+    Ok(c)
+}
+
+/// Grades a card.
+pub fn grade(card: &[u8]) -> Result<Verdict, Refusal> {
+    let (mut verdict, mut offender, mut number) = (0, 0, 0);
+    done(unsafe {
+        parts::rigtemple_grade_parts(
+            card.as_ptr(),
+            card.len(),
+            &mut verdict,
+            &mut offender,
+            &mut number,
+        )
+    })?;
+    Ok(Verdict::of(verdict, offender, number))
+}
+
+/// Lists the codes of the enabled choices to the front of a list; how many they are.
+pub fn list(card: &[u8], c: &Configuration, list: &mut [u16]) -> Result<usize, Refusal> {
+    let mut entries = 0;
+    done(unsafe {
+        parts::rigtemple_list_parts(
+            card.as_ptr(),
+            card.len(),
+            c.beliefs.as_ptr(),
+            c.goals.as_ptr(),
+            c.plan.as_ptr(),
+            c.length,
+            c.phase,
+            list.as_mut_ptr(),
+            list.len(),
+            &mut entries,
+        )
+    })?;
+    Ok(usize::from(entries))
+}
+
+/// Takes a chosen move, by its code.
+pub fn take(card: &[u8], c: &mut Configuration, choice: u16) -> Result<(), Refusal> {
+    done(unsafe {
+        parts::rigtemple_take_parts(
+            card.as_ptr(),
+            card.len(),
+            c.beliefs.as_mut_ptr(),
+            c.goals.as_mut_ptr(),
+            c.plan.as_mut_ptr(),
+            &mut c.length,
+            &mut c.phase,
+            choice,
+        )
+    })
+}
+
+/// Runs by itself, for `budget` moves at most.
+pub fn run(card: &[u8], c: &mut Configuration, budget: u16) -> Result<Ran, Refusal> {
+    let (mut moves, mut ending) = (0, 0);
+    done(unsafe {
+        parts::rigtemple_run_parts(
+            card.as_ptr(),
+            card.len(),
+            c.beliefs.as_mut_ptr(),
+            c.goals.as_mut_ptr(),
+            c.plan.as_mut_ptr(),
+            &mut c.length,
+            &mut c.phase,
+            budget,
+            &mut moves,
+            &mut ending,
+        )
+    })?;
+    Ok(Ran {
+        moves,
+        ending: Ending::of(ending),
+    })
+}
+
+/// Saves a configuration to the front of a place; how many bytes it has.
+pub fn save(card: &[u8], c: &Configuration, place: &mut [u8]) -> Result<usize, Refusal> {
+    let mut bytes = 0;
+    done(unsafe {
+        parts::rigtemple_save_parts(
+            card.as_ptr(),
+            card.len(),
+            c.beliefs.as_ptr(),
+            c.goals.as_ptr(),
+            c.plan.as_ptr(),
+            c.length,
+            c.phase,
+            place.as_mut_ptr(),
+            place.len(),
+            &mut bytes,
+        )
+    })?;
+    Ok(usize::from(bytes))
+}
+
+/// Restores the configuration that a place holds.
+pub fn restore(card: &[u8], place: &[u8]) -> Result<Configuration, Refusal> {
+    let mut c = Configuration::EMPTY;
+    done(unsafe {
+        parts::rigtemple_restore_parts(
+            card.as_ptr(),
+            card.len(),
+            place.as_ptr(),
+            place.len(),
+            c.beliefs.as_mut_ptr(),
+            c.goals.as_mut_ptr(),
+            c.plan.as_mut_ptr(),
+            &mut c.length,
+            &mut c.phase,
+        )
+    })?;
+    Ok(c)
+}

@@ -1,0 +1,86 @@
+//! The functions of the archive, as rigtemple.h declares them: the eight calls over the parts of a
+//! configuration. `beliefs` and `goals` point to 16 bytes each, `plan` to 1,024.
+
+extern "C" {
+    pub fn rigtemple_check_parts(card: *const u8, card_len: usize) -> u16;
+
+    pub fn rigtemple_load_parts(
+        card: *const u8,
+        card_len: usize,
+        beliefs: *mut u8,
+        goals: *mut u8,
+        plan: *mut u8,
+        length: *mut u16,
+        phase: *mut u8,
+    ) -> u16;
+
+    pub fn rigtemple_grade_parts(
+        card: *const u8,
+        card_len: usize,
+        verdict: *mut u8,
+        offender: *mut u8,
+        number: *mut u16,
+    ) -> u16;
+
+    pub fn rigtemple_list_parts(
+        card: *const u8,
+        card_len: usize,
+        beliefs: *const u8,
+        goals: *const u8,
+        plan: *const u8,
+        length: u16,
+        phase: u8,
+        list: *mut u16,
+        room_in_entries: usize,
+        entries: *mut u16,
+    ) -> u16;
+
+    pub fn rigtemple_take_parts(
+        card: *const u8,
+        card_len: usize,
+        beliefs: *mut u8,
+        goals: *mut u8,
+        plan: *mut u8,
+        length: *mut u16,
+        phase: *mut u8,
+        choice: u16,
+    ) -> u16;
+
+    pub fn rigtemple_run_parts(
+        card: *const u8,
+        card_len: usize,
+        beliefs: *mut u8,
+        goals: *mut u8,
+        plan: *mut u8,
+        length: *mut u16,
+        phase: *mut u8,
+        budget: u16,
+        moves: *mut u16,
+        ending: *mut u8,
+    ) -> u16;
+
+    pub fn rigtemple_save_parts(
+        card: *const u8,
+        card_len: usize,
+        beliefs: *const u8,
+        goals: *const u8,
+        plan: *const u8,
+        length: u16,
+        phase: u8,
+        place: *mut u8,
+        room_in_bytes: usize,
+        bytes: *mut u16,
+    ) -> u16;
+
+    pub fn rigtemple_restore_parts(
+        card: *const u8,
+        card_len: usize,
+        place: *const u8,
+        place_len: usize,
+        beliefs: *mut u8,
+        goals: *mut u8,
+        plan: *mut u8,
+        length: *mut u16,
+        phase: *mut u8,
+    ) -> u16;
+}

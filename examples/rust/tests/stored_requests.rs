@@ -1,0 +1,178 @@
+//! The stored requests of crates/drill: each is read, the call is made, and every byte that is
+//! answered is held against the stored answers. `drill.md` says how both are written.
+
+use rigtemple::{Configuration, Ending, Offender, Refusal, Verdict, SET_BYTES};
+
+/// What a lent list and a lent place are filled with.
+const LENT_ENTRY: u16 = 0xEEEE;
+const LENT_BYTE: u8 = 0xEE;
+
+/// The requests that are still to be read.
+struct Requests<'a>(&'a [u8]);
+
+impl<'a> Requests<'a> {
+    fn bytes(&mut self, count: usize) -> &'a [u8] {
+        let (first, rest) = self.0.split_at(count);
+        self.0 = rest;
+        first
+    }
+
+    fn byte(&mut self) -> u8 {
+        self.bytes(1)[0]
+    }
+
+    fn number(&mut self) -> u16 {
+        u16::from_le_bytes([self.byte(), self.byte()])
+    }
+
+    /// A length and as many bytes.
+    fn counted(&mut self) -> &'a [u8] {
+        let count = self.number();
+        self.bytes(usize::from(count))
+    }
+
+    fn image(&mut self) -> Configuration {
+        let mut c = Configuration::EMPTY;
+        c.beliefs.copy_from_slice(self.bytes(SET_BYTES));
+        c.goals.copy_from_slice(self.bytes(SET_BYTES));
+        c.length = self.number();
+        c.phase = self.byte();
+        let plan = self.counted();
+        c.plan[..plan.len()].copy_from_slice(plan);
+        c
+    }
+}
+
+/// The answers written so far.
+#[derive(Default)]
+struct Answers(Vec<u8>);
+
+impl Answers {
+    fn byte(&mut self, byte: u8) {
+        self.0.push(byte);
+    }
+
+    fn number(&mut self, number: u16) {
+        self.0.extend(number.to_le_bytes());
+    }
+
+    /// The number of an answer.
+    fn answer<T>(&mut self, answer: &Result<T, Refusal>) {
+        self.number(
+            answer
+                .as_ref()
+                .map_or_else(|refusal| *refusal as u16, |_| 0),
+        );
+    }
+
+    fn image(&mut self, c: &Configuration) {
+        let most = c
+            .plan
+            .iter()
+            .rposition(|action| *action != 0)
+            .map_or(0, |last| last + 1);
+        self.0.extend(c.beliefs);
+        self.0.extend(c.goals);
+        self.number(c.length);
+        self.byte(c.phase);
+        self.number(most as u16);
+        self.0.extend(&c.plan[..most]);
+    }
+
+    /// The numbers of a verdict: 0 for a card that is refused.
+    fn verdict(&mut self, answer: &Result<Verdict, Refusal>) {
+        let (verdict, offender, number) = match answer {
+            Err(_) | Ok(Verdict::Bounded) => (0, 0, 0),
+            Ok(Verdict::Open(Offender::InitialPlan)) => (1, 1, 0),
+            Ok(Verdict::Open(Offender::Selection(rule))) => (1, 2, *rule),
+            Ok(Verdict::Open(Offender::Revision(rule))) => (1, 3, *rule),
+        };
+        self.byte(verdict);
+        self.byte(offender);
+        self.number(number);
+    }
+}
+
+fn list(card: &[u8], requests: &mut Requests, answers: &mut Answers) {
+    let c = requests.image();
+    let mut lent = vec![LENT_ENTRY; usize::from(requests.number())];
+    let answer = rigtemple::list(card, &c, &mut lent);
+    answers.answer(&answer);
+    answers.number(answer.unwrap_or(0) as u16);
+    lent.into_iter().for_each(|code| answers.number(code));
+}
+
+fn run(card: &[u8], requests: &mut Requests, answers: &mut Answers) {
+    let mut c = requests.image();
+    let answer = rigtemple::run(card, &mut c, requests.number());
+    answers.answer(&answer);
+    answers.image(&c);
+    answers.number(answer.map_or(0, |ran| ran.moves));
+    answers.byte(match answer.map(|ran| ran.ending) {
+        Err(_) | Ok(Ending::Spent) => 0,
+        Ok(Ending::Rest) => 1,
+        Ok(Ending::Full) => 2,
+    });
+}
+
+/// Saves; the number of bytes is not in the answer, and is held here.
+fn save(card: &[u8], requests: &mut Requests, answers: &mut Answers) {
+    let c = requests.image();
+    let mut lent = vec![LENT_BYTE; usize::from(requests.number())];
+    let answer = rigtemple::save(card, &c, &mut lent);
+    assert!(answer.map_or(true, |bytes| bytes == 44 + usize::from(c.length)));
+    answers.answer(&answer);
+    answers.0.extend(lent);
+}
+
+/// Loads and restores: a refusal answers the empty configuration.
+fn begun(answer: Result<Configuration, Refusal>, answers: &mut Answers) {
+    answers.answer(&answer);
+    answers.image(&answer.unwrap_or(Configuration::EMPTY));
+}
+
+/// Reads a request and answers it.
+fn answer<'a>(card: &mut &'a [u8], requests: &mut Requests<'a>, answers: &mut Answers) {
+    match requests.byte() {
+        0 => *card = requests.counted(),
+        1 => answers.answer(&rigtemple::check(card)),
+        2 => begun(rigtemple::load(card), answers),
+        3 => {
+            let verdict = rigtemple::grade(card);
+            answers.answer(&verdict);
+            answers.verdict(&verdict);
+        }
+        4 => list(card, requests, answers),
+        5 => {
+            let mut c = requests.image();
+            answers.answer(&rigtemple::take(card, &mut c, requests.number()));
+            answers.image(&c);
+        }
+        6 => run(card, requests, answers),
+        7 => save(card, requests, answers),
+        8 => begun(rigtemple::restore(card, requests.counted()), answers),
+        other => panic!("there is no request {other}"),
+    }
+}
+
+#[test]
+fn every_answered_byte_is_the_stored_one() {
+    let drill = concat!(env!("CARGO_MANIFEST_DIR"), "/../../crates/drill");
+    let asked = std::fs::read(format!("{drill}/stdin")).expect("the stored requests are there");
+    let wanted = std::fs::read(format!("{drill}/stdout")).expect("the stored answers are there");
+    let (mut card, mut requests, mut answers) = (&[][..], Requests(&asked), Answers::default());
+    let mut count = 0;
+    while !requests.0.is_empty() {
+        let at = answers.0.len();
+        answer(&mut card, &mut requests, &mut answers);
+        let end = answers.0.len();
+        assert_eq!(
+            answers.0[at..],
+            wanted[at..end.min(wanted.len())],
+            "request {count}"
+        );
+        count += 1;
+    }
+    assert_eq!(answers.0.len(), wanted.len());
+    println!("{count} requests, {} bytes answered", answers.0.len());
+}

@@ -1,0 +1,19 @@
+//! The words of the answers and the codes of choices.
+
+use rigtemple::{Choice, Refusal};
+
+#[test]
+fn refusals_have_their_numbers_and_names() {
+    assert_eq!(rigtemple::check(&[]), Err(Refusal::Short));
+    assert_eq!(Refusal::Short as u16, 1);
+    assert_eq!(Refusal::PlanFull as u16, 11);
+    assert_eq!(Refusal::PlanFull.to_string(), "plan full");
+    assert_eq!(Refusal::Configuration as u16, 13);
+}
+
+#[test]
+fn choices_have_their_codes() {
+    assert_eq!(Choice::Selection(255).code(), 255);
+    assert_eq!(Choice::Action(0).code(), 256);
+    assert_eq!(Choice::Revision(1).code(), 513);
+}

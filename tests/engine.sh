@@ -1,0 +1,7 @@
+# shellcheck shell=sh
+# Read by the scripts that put the C engine of bench/ in the library's place: sets `names`, the
+# words for a compiler that give the engine's functions the library's names.
+names=
+for call in check load grade list take run save restore; do
+    names="$names -Dengine_$call=rigtemple_${call}_parts"
+done

@@ -1,0 +1,81 @@
+#!/bin/sh
+# The library from other languages than C: as a shared object made from the archive, which passes
+# the stored requests; from Rust by examples/rust, which passes them too; and from Python by
+# examples/by_ctypes.py. The machine's Rust and Python link and load what the machine runs
+# (tests/machine.sh); a language that is missing is told. The last line is 'N passed, M failed'.
+#
+#   tests/languages.sh
+set -eu
+
+die() { printf 'languages.sh: %s\n' "$*" >&2; exit 2; }
+
+[ $# -eq 0 ] || die "usage: languages.sh"
+root=$(cd "$(dirname "$0")/.." && pwd)
+tests=$root/tests
+# shellcheck source=tests/kit.sh
+. "$tests/kit.sh"
+room=$(mktemp -d)
+trap 'rm -rf "$room"' EXIT
+passed=0
+failed=0
+
+# Counts one check: the words after the first are a command that has to succeed.
+expect() { # WHAT COMMAND...
+    told=$1
+    shift
+    if "$@" >"$room/said" 2>&1; then
+        passed=$((passed + 1))
+    else
+        failed=$((failed + 1))
+        printf 'failed: %s\n' "$told"
+        tail -n 20 "$room/said" | sed 's/^/    /'
+    fi
+}
+
+"$root/library" "$room/handed" 2>/dev/null || die './library failed'
+folder=$room/handed
+
+# The archive as a shared object, by the kit's linker, under a program that is linked to it.
+shared() {
+    "$own/ld.lld" -shared --whole-archive "$folder/librigtemple.a" --no-whole-archive \
+        "$lib/libc.so.6" -o "$room/librigtemple.so" &&
+        "$tests/build_c.sh" "$room/drill" "$tests/header_drill.c" "$room/librigtemple.so" &&
+        "$tests/run_c.sh" "$room/drill" <"$root/crates/drill/stdin" >"$room/got" &&
+        cmp "$root/crates/drill/stdout" "$room/got"
+}
+expect 'a shared object passes the stored requests' shared
+printf 'a shared object with the library\n'
+
+# shellcheck source=tests/machine.sh
+. "$tests/machine.sh"
+
+rust() {
+    (cd "$root/examples/rust" && RIGTEMPLE_FOLDER=$linked CARGO_TARGET_DIR=$root/target/rust \
+        cargo test --offline --locked --tests -- --nocapture)
+}
+if [ -n "$linked" ] && command -v cargo >/dev/null; then
+    expect 'Rust passes the stored requests' rust
+    printf 'Rust with %s: %s\n' "$what" "$(grep ' bytes answered' "$room/said")"
+else
+    printf 'Rust is not tried: there is no cargo, or no C compiler\n'
+fi
+
+python() {
+    cc -shared -Wl,--whole-archive "$linked/librigtemple.a" -Wl,--no-whole-archive \
+        -o "$room/machine.so" &&
+        python3 -B "$root/examples/by_ctypes.py" "$room/machine.so" "$1"
+}
+stripe() {
+    python "$root/cards/stripe.card" >"$room/lines" &&
+        printf 'rest after 6 moves\na place of 44 bytes, restored the same\n' | cmp - "$room/lines"
+}
+refused() { ! python "$root/cards/loop.card" && grep -q 'load is refused with 6' "$room/said"; }
+if [ -n "$linked" ]; then
+    expect 'Python runs the stripe card' stripe
+    expect 'Python is told of a refusal' refused
+    printf 'Python with %s\n' "$what"
+else
+    printf 'Python is not tried: there is no C compiler\n'
+fi
+printf '%d passed, %d failed\n' "$passed" "$failed"
+[ "$failed" -eq 0 ]

@@ -1,0 +1,20 @@
+# shellcheck shell=sh
+# Read by the tests that use the machine's own compilers: sets `linked`, a folder with a
+# librigtemple.a that they can link, and `what`, which of two it is. Where they make code for x86-64
+# it is the library, from the folder $folder; elsewhere the C engine of bench/ under the library's
+# names, compiled here. Without a C compiler `linked` is empty. `root` is the script's own.
+linked='' what=''
+case $(cc -dumpmachine 2>/dev/null) in
+'') ;;
+x86_64-*linux*) linked=${folder:?} what='the library' ;;
+*)
+    # shellcheck source=tests/engine.sh
+    . "${root:?}/tests/engine.sh"
+    linked=$root/target/c/machine what='the C engine in its place'
+    mkdir -p "$linked"
+    # shellcheck disable=SC2086,SC2154  # names are words, which tests/engine.sh sets
+    cc -O2 -fPIC $names -c "$root/bench/engine.c" -o "$linked/engine.o"
+    rm -f "$linked/librigtemple.a"
+    ar rcs "$linked/librigtemple.a" "$linked/engine.o"
+    ;;
+esac
