@@ -1,11 +1,8 @@
 -- A contract for C leaves one answer: two that meet it are both what its definition says.
-use mathlib.Core.Path.{_≡_, _∙_, sym, ap}
+use mathlib.Core.Path.{ap}
 use Rattle.meaning.specs.declared.Configuration.{Configuration}
+use Rattle.demands.proofs.Demands.{same}
 use Rattle.board.specs.Determined.{DeterminedParts}
-
--- both are what the contract names
-same : {X : Type 0} {r r′ x : X} → r ≡ x → r′ ≡ x → r ≡ r′
-same e f = e ∙ sym f
 
 pub determined : DeterminedParts
 determined =

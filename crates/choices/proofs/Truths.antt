@@ -13,6 +13,7 @@ use Rattle.paper.proofs.Relation.{false≢true}
 use Rattle.meaning.specs.declared.Layout.{Layout}
 use Rattle.meaning.specs.Card.{Bytes, nodeAt, queryOf, conditions, condition}
 use Rattle.meaning.specs.Refusals.{nodesGood, containsOf, containing}
+use Rattle.meaning.proofs.AtomKinds.{or-none}
 use Rattle.meaning.proofs.Nodes.{node-rule, made-of, made-from, contains-at, condition-at}
 use Rattle.card.specs.GoodCard.{GoodCondition}
 use Rattle.choices.specs.Truth.{truthOf, truths}
@@ -44,10 +45,6 @@ abbrev pub other : Letter → ℕ
 other 𝐁 = 2
 other 𝐆 = 1
 
-or-false : (a b : Bool) → a || b ≡ false → (a ≡ false) × (b ≡ false)
-or-false true b e = absurd (false≢true (sym e))
-or-false false b e = (refl, e)
-
 -- one node: its truth is that of its query, if this holds of its children and no atom is of the other kind
 node-truth : (L : Letter) (c : Config) (k a b : ℕ) → k ≤ 5 → (t : ℕ → Bool) (q : ℕ → Query L) (contains : ℕ → Bool)
     → containsOf (other L) k a b contains ≡ false
@@ -61,10 +58,10 @@ node-truth 𝐁 c (suc (suc zero)) a b h t q n e f s = absurd (false≢true (sym
 node-truth 𝐆 c (suc (suc zero)) a b h t q n e f s = refl
 node-truth L c (suc (suc (suc zero))) a b h t q n e f s = ap not (f (omega arith) e)
 node-truth L c (suc (suc (suc (suc zero)))) a b h t q n e f s =
-    let (x, y) = or-false (n a) (n b) e in
+    let (x, y) = or-none (n a) (n b) e in
     ap₂ _&&_ (f (omega arith) x) (s (omega arith) y)
 node-truth L c (suc (suc (suc (suc (suc zero))))) a b h t q n e f s =
-    let (x, y) = or-false (n a) (n b) e in
+    let (x, y) = or-none (n a) (n b) e in
     ap₂ _||_ (f (omega arith) x) (s (omega arith) y)
 node-truth L c (suc (suc (suc (suc (suc (suc k)))))) a b h t q n e f s = absurd (omega arith)
 

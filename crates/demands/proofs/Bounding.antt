@@ -69,10 +69,12 @@ module _ (b : Bytes) (g : Graded) (e : Grades b g) (v : g .verdict ≡ Verdict.B
     never-full budget r (done h) f = law .never-full bounded (stateOf c) budget w f
 
     -- the count of a chain's choices
-    counted : (ks : List Choice) (r : Ran) → Chain (agent b) (stateOf c .mental) ks (stateOf (r .configuration) .mental) → r .count ≡ length ks
+    counted : (ks : List Choice) (r : Ran) → Runs.Guided (agent b) (stateOf c) ks (stateOf (r .configuration))
+        → Chain (agent b) (stateOf c .mental) ks (stateOf (r .configuration) .mental) → r .count ≡ length ks
         → BoundedCount b c (weigh (weight b) (stateOf c .mental .π)) r
-    counted ks r chain n = record {
+    counted ks r guided chain n = record {
       choices = ks;
+      guided = guided;
       chain = chain;
       counted = n;
       at-most = rw n (law .with-selections bounded w chain);
@@ -80,10 +82,12 @@ module _ (b : Bytes) (g : Graded) (e : Grades b g) (v : g .verdict ≡ Verdict.B
     }
 
     pub run-count : (budget : ℕ) (r : Ran) → Running b c budget r → BoundedCount b c (weigh (weight b) (stateOf c .mental .π)) r
-    run-count budget r (refused h) = counted [] r stay refl
+    run-count budget r (refused h) = counted [] r Runs.ends stay refl
     run-count budget r (done h) =
         let (o, (t, tells)) = own-order b c h budget r (done h) in
-        counted (t .choices) r (subst (λ (s : State). Chain (agent b) (stateOf c .mental) (t .choices) (s .mental)) (sym (tells .reached .stands-for)) (t .chain)) (tells .count ∙ t .counted)
+        let back = sym (tells .reached .stands-for) in
+        counted (t .choices) r (subst (Runs.Guided (agent b) (stateOf c) (t .choices)) back (t .guided))
+        (subst (λ (s : State). Chain (agent b) (stateOf c .mental) (t .choices) (s .mental)) back (t .chain)) (tells .count ∙ t .counted)
 
     pub never-plan-full : (n : ℕ) (r : Reply) → Taking b c n r → r .answer ≡ Refused Refusal.PlanFull → ⊥
     never-plan-full n r (refused h) f = never-by-configuration b c (h ∙ f)

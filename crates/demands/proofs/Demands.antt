@@ -74,7 +74,7 @@ demand-3 =
     }
 
 -- both are what the contract names
-same : {X : Type 0} {r r′ x : X} → r ≡ x → r′ ≡ x → r ≡ r′
+pub same : {X : Type 0} {r r′ x : X} → r ≡ x → r′ ≡ x → r ≡ r′
 same e f = e ∙ sym f
 
 pub determined : Determined

@@ -8,7 +8,7 @@ use Prim.Native.Nat.{ℕ, zero, suc, _+_, _-_, _*_, _/_, _%_, _≤_, _<_}
 use native.Mathlib.Nat.{zero-add, zero-div, mod-lt}
 use native.Mathlib.Decide.{decLt}
 use native.Mathlib.Omega.{arith}
-use borrow.Author.Tests.{not-true, eqb-true, leb-true, le-leb}
+use borrow.Author.Tests.{not-true, leb-true, le-leb}
 use lib.Dec.{eqb, ltb}
 use lib.ListN.{length, length-take, take, drop, replicate, getD, List·getD-eq-default}
 use lib.Seq.{drop-append-seam}
@@ -28,11 +28,11 @@ use Rattle.meaning.specs.declared.Answer.the-variants.{Done}
 use Rattle.meaning.specs.declared.Configuration.{Configuration}
 use Rattle.meaning.specs.Card.{Bytes, layout, part, byte, plan, entries, conditions, specificationAt, selectionAt, revisionAt, specificationOf, selectionOf, revisionOf, agentOf, agentFor, agent, initialPlan, initialBeliefs, initialGoals, start}
 use Rattle.meaning.specs.Configurations.{padded, stateOf, configurationOf}
-use Rattle.meaning.specs.Refusals.{all, every, within, cardAnswer, endOf, offsetsGood, containing, conditionGood, spanGood, selectionGood, revisionGood, actionsGood, setGood, bothGood, setsGood, pool, configurationGood}
+use Rattle.meaning.specs.Refusals.{all, every, within, cardAnswer, containing, conditionGood, spanGood, selectionGood, revisionGood, actionsGood, setGood, bothGood, setsGood, pool, configurationGood}
 use Rattle.meaning.proofs.Entries.{GoodEntries, good-entries}
 use Rattle.meaning.proofs.Every.{both-true, all-at, all-of, numbers-at, numbers-of, every-at}
 use Rattle.meaning.proofs.Parts.{length-part, part-at}
-use Rattle.meaning.proofs.Accepted.{Accepted, accepted, within-high}
+use Rattle.meaning.proofs.Accepted.{Accepted, accepted, within-high, offsets}
 use Rattle.meaning.proofs.Configurations.{take-padded, good}
 
 pub record Known (l : Layout) (s : State) : Type 0 where
@@ -157,16 +157,7 @@ module _ (b : Bytes) (card : cardAnswer b ≡ Done) where
   a = accepted b card
 
   pool-inside : l .pool .offset + l .pool .count ≤ length b
-  unfolding offsetsGood
-  pool-inside =
-      let n = l .nodes in
-      let e1 = both (eqb (n .offset) (64 + 2 * l .actions)) _ (a .offsets) .1 in
-      let e2 = both (eqb (l .specifications .offset) (endOf 4 n)) _ e1 .1 in
-      let e3 = both (eqb (l .selections .offset) (endOf 36 (l .specifications))) _ e2 .1 in
-      let e4 = both (eqb (l .revisions .offset) (endOf 8 (l .selections))) _ e3 .1 in
-      let e5 = both (eqb (l .pool .offset) (endOf 12 (l .revisions))) _ e4 .1 in
-      let q : length b ≡ l .pool .offset + 1 * l .pool .count = eqb-true _ _ e5 in
-      omega arith
+  pool-inside = let q = offsets l (length b) (a .offsets) .ends in omega arith
 
   known-plan : (s : Span) → s .start + s .length ≤ l .pool .count → actionsGood (l .actions) (plan l b s) ≡ true
   known-plan = plan-known l b pool-inside (a .pool)

@@ -195,6 +195,9 @@ pub record Demand2 : Type 0 where
 pub record BoundedCount (b : Bytes) (c : Configuration) (w : ℕ) (r : Ran) : Type 0 where
   -- its choices
   pub choices : List Choice
+  -- 00, demand 2: "The guide's own order is document 01's.": they are the guide's own, from the configuration handed in to the
+  -- one reached
+  pub guided : Runs.Guided (agent b) (stateOf c) choices (stateOf (r .configuration))
   -- 01, "Expected forms by place": "equals the steps of the definition's chain"
   pub chain : Chain (agent b) (stateOf c .mental) choices (stateOf (r .configuration) .mental)
   pub counted : r .count ≡ length choices
@@ -229,11 +232,12 @@ pub record Demand3 : Type 0 where
   pub never-full : (b : Bytes) (g : Graded) → Grades b g → g .verdict ≡ Verdict.Bounded
       → (c : Configuration) → weigh (weight b) (stateOf c .mental .π) ≤ heaviestPlan
       → (budget : ℕ) (r : Ran) → Runs b c budget r → r .ending ≡ Ending.Full → ⊥
-  -- the sentence before of run: its count.
+  -- 00, demand 3: "a run with S selections has at most W plus 1,025 times S transitions", of the count that run answers.
   pub run-count : (b : Bytes) (g : Graded) → Grades b g → g .verdict ≡ Verdict.Bounded
       → (c : Configuration) → weigh (weight b) (stateOf c .mental .π) ≤ heaviestPlan
       → (budget : ℕ) (r : Ran) → Runs b c budget r → BoundedCount b c (weigh (weight b) (stateOf c .mental .π)) r
-  -- the same sentence of take: 01, "Numbers the guide may answer", row 11: "plan full" is never its answer.
+  -- 00, demand 3: "no run, selections included, ever meets a plan too long", of take: 01, "Numbers the guide may answer", row 11:
+  -- "plan full" is never its answer.
   pub never-plan-full : (b : Bytes) (g : Graded) → Grades b g → g .verdict ≡ Verdict.Bounded
       → (c : Configuration) → weigh (weight b) (stateOf c .mental .π) ≤ heaviestPlan
       → (n : ℕ) (r : Reply) → Takes b c n r → r .answer ≡ Refused Refusal.PlanFull → ⊥

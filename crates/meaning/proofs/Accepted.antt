@@ -2,11 +2,11 @@
 use mathlib.Core.Path.{_≡_}
 use mathlib.Core.Bool.{true}
 use mathlib.Core.List.{List, [], _∷_, map}
-use Prim.Native.Nat.{ℕ, zero, suc, _≤_}
+use Prim.Native.Nat.{ℕ, zero, suc, _+_, _*_, _≤_}
 use native.Mathlib.Omega.{arith}
-use lib.Dec.{leb}
+use lib.Dec.{leb, eqb}
 use lib.ListN.{length, getD}
-use borrow.Author.Tests.{leb-true, not-false}
+use borrow.Author.Tests.{leb-true, eqb-true, not-false}
 use Rattle.paper.proofs.Relation.{both}
 use Rattle.runs.specs.Order.{numbers}
 use Rattle.runs.specs.Theorems.{Numbered}
@@ -16,7 +16,7 @@ use Rattle.meaning.specs.declared.Answer.the-variants.{Done}
 use Rattle.meaning.specs.declared.Section.{Section}
 use Rattle.meaning.specs.declared.Layout.{Layout}
 use Rattle.meaning.specs.Card.{Bytes, layout, entries, weightAt, weights, weight, agentOf, agentFor, agent, initialPlan}
-use Rattle.meaning.specs.Refusals.{all, within, cardLongEnough, cardMarkGood, countsGood, offsetsGood, weightsGood, nodesGood, containing, rulesGood, actionsGood, pool, setsGood, cardTable, cardAnswer}
+use Rattle.meaning.specs.Refusals.{all, within, cardLongEnough, cardMarkGood, countsGood, endOf, offsetsGood, weightsGood, nodesGood, containing, rulesGood, actionsGood, pool, setsGood, cardTable, cardAnswer}
 use Rattle.meaning.specs.Theorems.{CardLaw}
 use Rattle.meaning.proofs.Tables.{passes}
 
@@ -96,6 +96,34 @@ counts l e0 =
       selections = leb-true _ _ h5;
       revisions = leb-true _ _ h6;
       pool = leb-true _ _ e6;
+    }
+
+-- ---- its offsets
+
+pub record Offsets (l : Layout) (n : ℕ) : Type 0 where
+  pub nodes : l .nodes .offset ≡ 64 + 2 * l .actions
+  pub specifications : l .specifications .offset ≡ endOf 4 (l .nodes)
+  pub selections : l .selections .offset ≡ endOf 36 (l .specifications)
+  pub revisions : l .revisions .offset ≡ endOf 8 (l .selections)
+  pub pool : l .pool .offset ≡ endOf 12 (l .revisions)
+  pub ends : n ≡ l .pool .offset + l .pool .count
+
+pub offsets : (l : Layout) (n : ℕ) → offsetsGood l n ≡ true → Offsets l n
+unfolding offsetsGood
+offsets l n e0 =
+    let (h1, e1) = both (eqb (l .nodes .offset) (64 + 2 * l .actions)) _ e0 in
+    let (h2, e2) = both (eqb (l .specifications .offset) (endOf 4 (l .nodes))) _ e1 in
+    let (h3, e3) = both (eqb (l .selections .offset) (endOf 36 (l .specifications))) _ e2 in
+    let (h4, e4) = both (eqb (l .revisions .offset) (endOf 8 (l .selections))) _ e3 in
+    let (h5, e5) = both (eqb (l .pool .offset) (endOf 12 (l .revisions))) _ e4 in
+    let total : n ≡ l .pool .offset + 1 * l .pool .count = eqb-true _ _ e5 in
+    record {
+      nodes = eqb-true _ _ h1;
+      specifications = eqb-true _ _ h2;
+      selections = eqb-true _ _ h3;
+      revisions = eqb-true _ _ h4;
+      pool = eqb-true _ _ h5;
+      ends = omega arith;
     }
 
 -- ---- its agent

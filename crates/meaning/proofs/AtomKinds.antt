@@ -15,7 +15,7 @@ use Rattle.meaning.proofs.Accepted.{accepted}
 use Rattle.meaning.proofs.Entries.{good-entries}
 use Rattle.meaning.proofs.Nodes.{node-rule, contains-at}
 
-or-none : (x y : Bool) → x || y ≡ false → (x ≡ false) × (y ≡ false)
+pub or-none : (x y : Bool) → x || y ≡ false → (x ≡ false) × (y ≡ false)
 or-none true y e = absurd (false≢true (sym e))
 or-none false y e = (refl, e)
 
