@@ -25,8 +25,8 @@
  * of RIGTEMPLE_MOST_LIST_ENTRIES (1,536 bytes) and a place of RIGTEMPLE_MOST_PLACE_BYTES are
  * always enough: 27,792 bytes together.
  *
- * Bytes of stack, as tests/stack.sh measures them on x86-64: check 808, load 936, grade 2,984,
- * list 2,824, take 1,512, run 1,640, save 936, restore 1,016.
+ * Bytes of stack, as tests/stack.sh measures them on x86-64: check 808, load 936, grade 3,000,
+ * list 2,824, take 1,544, run 1,656, save 936, restore 1,016.
  *
  * Save before you show. The weaver acts on what the screen tells; a move that is shown and
  * not kept is lost when the view is torn down, and a band is woven twice. And where a place
@@ -89,9 +89,9 @@ extern "C" {
 static inline const char *rigtemple_answer_name(uint16_t answer)
 {
     static const char *const names[] = {
-        "done",     "short",       "mark",  "count",    "offsets",   "weight",
-        "node",     "rule",        "action byte", "atom", "given up",  "plan full",
-        "no room",  "configuration", "no rule", "front", "condition",
+        "done",    "short",         "mark",        "count", "offsets",   "weight",
+        "node",    "rule",          "action byte", "atom",  "given up",  "plan full",
+        "no room", "configuration", "no rule",     "front", "condition",
     };
     return answer <= RIGTEMPLE_ANSWER_CONDITION ? names[answer] : "no answer of the guide";
 }
@@ -115,7 +115,7 @@ static inline const char *rigtemple_answer_sentence(uint16_t answer)
         "should be zero",
         "a byte of the pool, or of a place's plan, is not below the number of actions",
         "a set has an atom at or above the number of atoms",
-        "the guide does not answer this any more: 14, 15 and 16 stand in its place",
+        "no call answers this: 14, 15 and 16 stand in its place",
         "the choice is enabled, but leaves more than 1,024 actions",
         "the lent list or buffer is too short",
         "the configuration has a plan over 1,024, an action or atom that the card doesn't know, a "
