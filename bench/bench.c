@@ -31,7 +31,7 @@ struct calls {
     uint16_t (*list)(const uint8_t *, size_t, const uint8_t *, const uint8_t *, const uint8_t *,
                      uint16_t, uint8_t, uint16_t *, size_t, uint16_t *);
     uint16_t (*take)(const uint8_t *, size_t, uint8_t *, uint8_t *, uint8_t *, uint16_t *,
-                     uint8_t *, uint16_t);
+                     uint8_t *, uint16_t, uint16_t *);
     uint16_t (*run)(const uint8_t *, size_t, uint8_t *, uint8_t *, uint8_t *, uint16_t *, uint8_t *,
                     uint16_t, uint16_t *, uint8_t *);
     uint16_t (*save)(const uint8_t *, size_t, const uint8_t *, const uint8_t *, const uint8_t *,
@@ -64,7 +64,7 @@ struct input {
 /* What a batch of calls leaves: answers and everything lent. */
 struct left {
     struct rigtemple_configuration c;
-    uint16_t answer, list[ROOM], count, number;
+    uint16_t answer, list[ROOM], count, number, node;
     uint8_t verdict, offender, ending, place[RIGTEMPLE_MOST_PLACE_BYTES];
 };
 
@@ -111,7 +111,7 @@ static void batch_take(const struct calls *f, const struct input *in, unsigned t
     for (unsigned i = 0; i < times; i++) {
         if (i % CHOICES == 0)
             l->c = in->middle;
-        l->answer |= f->take(CARD(in), PARTS(&l->c), in->choice[i % CHOICES]);
+        l->answer |= f->take(CARD(in), PARTS(&l->c), in->choice[i % CHOICES], &l->node);
     }
 }
 

@@ -1,10 +1,11 @@
 /*
- * The engine: document 01's eight calls in plain C.
+ * The engine: document 01's eight calls in plain C, with document 02's wish 1.
  *
  * A card is checked once a call; after that nothing is tested that its acceptance settles. All
  * conditions are judged in one pass over the nodes, one mark a node, and again only when beliefs
- * or goals have changed. In a run the plan stands at the end of its 1,024 bytes, so that its front
- * moves and its rest never does.
+ * or goals have changed. What settled a condition is looked for only where a choice is refused for
+ * it. In a run the plan stands at the end of its 1,024 bytes, so that its front moves and its rest
+ * never does.
  */
 #include <string.h>
 
@@ -22,10 +23,12 @@ enum {
     RULE,
     ACTION_BYTE,
     ATOM,
-    NOT_ENABLED,
-    PLAN_FULL,
+    PLAN_FULL = 11,
     NO_ROOM,
-    CONFIGURATION
+    CONFIGURATION,
+    NO_RULE,
+    FRONT,
+    CONDITION
 };
 
 enum { SELECT, ACT, REVISE };                                  /* the kinds, in the phases' order */
@@ -36,7 +39,7 @@ enum { NONE, INITIAL_PLAN, SELECTION_RULE, REVISION_RULE };    /* the offenders 
 enum { NODE_BYTES = 4, SPECIFICATION_BYTES = 36, SELECTION_BYTES = 8, REVISION_BYTES = 12 };
 enum { SET_BYTES = 16, HEADER_BYTES = 64, PLACE_BYTES = 44 };
 enum { MOST_ENTRIES = 256, LONGEST_PLAN = 1024, LARGEST_POOL = 8192, MOST_CHOICES = 768 };
-enum { NO_RULE = -1 };
+enum { NO_MOVE = -1 };
 
 /* What a condition is made of; a number past the last node is UNKNOWN. */
 enum { BELIEF_ATOM = 1, GOAL_ATOM = 2, UNKNOWN = 4 };
@@ -447,14 +450,20 @@ static void judge(const struct card *c, unsigned count, const uint8_t *beliefs,
     }
 }
 
+/* Whether the head of a revision rule is a prefix of the plan. */
+static inline int head_fits(const struct card *c, const uint8_t *rule, const uint8_t *plan,
+                            unsigned length)
+{
+    const uint8_t *head = c->pool + number(rule + 2);
+    unsigned head_length = number(rule + 4);
+    return head_length <= length && head[0] == plan[0] && memcmp(head, plan, head_length) == 0;
+}
+
 /* "Enabled if the head is a prefix of the plan and the condition holds." */
 static inline int revision_enabled(const struct card *c, const uint8_t *mark, const uint8_t *rule,
                                    const uint8_t *plan, unsigned length)
 {
-    const uint8_t *head = c->pool + number(rule + 2);
-    unsigned head_length = number(rule + 4);
-    return mark[rule[0]] && head_length <= length && head[0] == plan[0] &&
-           memcmp(head, plan, head_length) == 0;
+    return mark[rule[0]] && head_fits(c, rule, plan, length);
 }
 
 /* The lowest enabled selection rule, of an empty plan, from `i` on. */
@@ -465,7 +474,7 @@ static int next_selection(const struct card *c, const uint8_t *mark, unsigned i)
         if (mark[rule[0]] & mark[rule[1]])
             return (int)i;
     }
-    return NO_RULE;
+    return NO_MOVE;
 }
 
 /* The lowest enabled specification of an action, from `i` on. */
@@ -477,7 +486,7 @@ static int next_specification(const struct card *c, const uint8_t *mark, unsigne
         if (entry[0] == action && mark[entry[1]])
             return (int)i;
     }
-    return NO_RULE;
+    return NO_MOVE;
 }
 
 /* The lowest enabled revision rule, of a plan that is not empty, from `i` on. */
@@ -487,17 +496,17 @@ static int next_revision(const struct card *c, const uint8_t *mark, const uint8_
     for (; i < c->revisions; i++)
         if (revision_enabled(c, mark, c->revision + REVISION_BYTES * i, plan, length))
             return (int)i;
-    return NO_RULE;
+    return NO_MOVE;
 }
 
-/* The lowest enabled number of a kind from `i` on, or NO_RULE. */
+/* The lowest enabled number of a kind from `i` on, or NO_MOVE. */
 static int next_of_kind(const struct card *c, const uint8_t *mark, unsigned kind,
                         const uint8_t *plan, unsigned length, unsigned i)
 {
     if (kind == SELECT)
-        return length == 0 ? next_selection(c, mark, i) : NO_RULE;
+        return length == 0 ? next_selection(c, mark, i) : NO_MOVE;
     if (length == 0)
-        return NO_RULE;
+        return NO_MOVE;
     return kind == ACT ? next_specification(c, mark, plan[0], i)
                        : next_revision(c, mark, plan, length, i);
 }
@@ -520,7 +529,7 @@ uint16_t engine_list(const uint8_t *card, size_t card_len, const uint8_t *belief
         return CONFIGURATION;
     judge(&c, c.nodes, beliefs, goals, mark);
     for (unsigned kind = SELECT; kind <= REVISE; kind++)
-        for (int i = next_of_kind(&c, mark, kind, plan, length, 0); i != NO_RULE;
+        for (int i = next_of_kind(&c, mark, kind, plan, length, 0); i != NO_MOVE;
              i = next_of_kind(&c, mark, kind, plan, length, (unsigned)i + 1))
             found[n++] = (uint16_t)(256 * kind + (unsigned)i);
     if (n > list_len)
@@ -561,49 +570,79 @@ static int replace(struct parts d, unsigned head_length, const uint8_t *body, un
     return 1;
 }
 
+/* Refuses a choice whose condition, node k, is false, with what settled it: by the marks down from
+ * k, of a "not" to its child, of an "and" and an "or" to "the left child's where the left alone
+ * settles the value, else the right's". */
+static uint16_t refuse_condition(const struct card *c, const uint8_t *mark, unsigned k,
+                                 uint16_t *settled)
+{
+    for (;;) {
+        const uint8_t *node = c->node + NODE_BYTES * k;
+        unsigned a = node[1], b = node[2];
+        switch (node[0]) {
+        case NOT:
+            k = a;
+            break;
+        case AND:
+            k = mark[a] ? b : a;
+            break;
+        case OR:
+            k = mark[a] ? a : b;
+            break;
+        default:
+            *settled = (uint16_t)k;
+            return CONDITION;
+        }
+    }
+}
+
 /* Takes selection rule i. */
-static uint16_t take_selection(const struct card *c, struct parts d, unsigned i)
+static uint16_t take_selection(const struct card *c, struct parts d, unsigned i, uint16_t *settled)
 {
     uint8_t mark[MOST_ENTRIES];
-    if (i >= c->selections || *d.length != 0)
-        return NOT_ENABLED;
+    if (i >= c->selections)
+        return NO_RULE;
+    if (*d.length != 0)
+        return FRONT;
     const uint8_t *rule = c->selection + SELECTION_BYTES * i;
     judge(c, 1u + (rule[0] > rule[1] ? rule[0] : rule[1]), d.beliefs, d.goals, mark);
     if (!(mark[rule[0]] & mark[rule[1]]))
-        return NOT_ENABLED;
+        return refuse_condition(c, mark, mark[rule[0]] ? rule[1] : rule[0], settled);
     replace(d, 0, c->pool + number(rule + 2), number(rule + 4));
     *d.phase = ACT;
     return DONE;
 }
 
 /* Takes the first action by specification i. */
-static uint16_t take_action(const struct card *c, struct parts d, unsigned i)
+static uint16_t take_action(const struct card *c, struct parts d, unsigned i, uint16_t *settled)
 {
     uint8_t mark[MOST_ENTRIES];
-    if (i >= c->specifications || *d.length == 0)
-        return NOT_ENABLED;
+    if (i >= c->specifications)
+        return NO_RULE;
     const uint8_t *entry = c->specification + SPECIFICATION_BYTES * i;
-    if (entry[0] != d.plan[0])
-        return NOT_ENABLED;
+    if (*d.length == 0 || entry[0] != d.plan[0])
+        return FRONT;
     judge(c, 1u + entry[1], d.beliefs, d.goals, mark);
     if (!mark[entry[1]])
-        return NOT_ENABLED;
+        return refuse_condition(c, mark, entry[1], settled);
     act(entry, d.beliefs, d.goals);
     replace(d, 1, c->pool, 0);
     *d.phase = REVISE;
     return DONE;
 }
 
-/* Takes revision rule i. */
-static uint16_t take_revision(const struct card *c, struct parts d, unsigned i)
+/* Takes revision rule i; no head is a prefix of an empty plan. */
+static uint16_t take_revision(const struct card *c, struct parts d, unsigned i, uint16_t *settled)
 {
     uint8_t mark[MOST_ENTRIES];
-    if (i >= c->revisions || *d.length == 0)
-        return NOT_ENABLED;
+    if (i >= c->revisions)
+        return NO_RULE;
     const uint8_t *rule = c->revision + REVISION_BYTES * i;
+    if (!head_fits(c, rule, d.plan, *d.length))
+        return FRONT;
     judge(c, 1u + rule[0], d.beliefs, d.goals, mark);
-    if (!revision_enabled(c, mark, rule, d.plan, *d.length))
-        return NOT_ENABLED;
+    if (!mark[rule[0]])
+        return refuse_condition(c, mark, rule[0], settled);
     if (!replace(d, number(rule + 4), c->pool + number(rule + 6), number(rule + 8)))
         return PLAN_FULL;
     *d.phase = SELECT;
@@ -611,10 +650,12 @@ static uint16_t take_revision(const struct card *c, struct parts d, unsigned i)
 }
 
 uint16_t engine_take(const uint8_t *card, size_t card_len, uint8_t *beliefs, uint8_t *goals,
-                     uint8_t *plan, uint16_t *length, uint8_t *phase, uint16_t choice)
+                     uint8_t *plan, uint16_t *length, uint8_t *phase, uint16_t choice,
+                     uint16_t *node)
 {
     struct card c;
     struct parts d = {beliefs, goals, plan, length, phase};
+    *node = 0;
     uint16_t answer = check(card, card_len, &c);
     if (answer != DONE)
         return answer;
@@ -622,13 +663,13 @@ uint16_t engine_take(const uint8_t *card, size_t card_len, uint8_t *beliefs, uin
         return CONFIGURATION;
     switch (choice / 256) {
     case SELECT:
-        return take_selection(&c, d, choice % 256u);
+        return take_selection(&c, d, choice % 256u, node);
     case ACT:
-        return take_action(&c, d, choice % 256u);
+        return take_action(&c, d, choice % 256u, node);
     case REVISE:
-        return take_revision(&c, d, choice % 256u);
+        return take_revision(&c, d, choice % 256u, node);
     default:
-        return NOT_ENABLED;
+        return NO_RULE;
     }
 }
 
@@ -673,14 +714,14 @@ static inline int move(struct walk *w, unsigned kind, unsigned i)
 }
 
 /* "From phase p the kinds p, p+1, p+2 (modulo 3) are tried in turn. In the first kind with an
- * enabled transition, the lowest number is taken." The number, and its kind; or NO_RULE. */
+ * enabled transition, the lowest number is taken." The number, and its kind; or NO_MOVE. */
 static inline int next_move(const struct walk *w, unsigned *kind)
 {
-    int found = NO_RULE;
+    int found = NO_MOVE;
     *kind = w->phase;
     for (unsigned tried = 0; tried < 3; tried++) {
         found = next_of_kind(w->card, w->mark, *kind, w->end - w->length, w->length, 0);
-        if (found != NO_RULE)
+        if (found != NO_MOVE)
             break;
         *kind = *kind == REVISE ? SELECT : *kind + 1;
     }
@@ -693,8 +734,8 @@ static unsigned walk(struct walk *w, unsigned budget, uint8_t *ending)
     unsigned kind;
     for (unsigned count = 0; count < budget; count++) {
         int found = next_move(w, &kind);
-        if (found == NO_RULE || !move(w, kind, (unsigned)found)) {
-            *ending = found == NO_RULE ? REST : FULL;
+        if (found == NO_MOVE || !move(w, kind, (unsigned)found)) {
+            *ending = found == NO_MOVE ? REST : FULL;
             return count;
         }
     }

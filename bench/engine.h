@@ -1,7 +1,7 @@
 /*
- * The engine: the eight calls of document 01 in hand-written C, with no proofs, as the
- * program that the library is measured against. The parameters and answers are those of the
- * functions `rigtemple_..._parts` in include/rigtemple.h.
+ * The engine: the eight calls of document 01, with document 02's wish 1, in hand-written C, with
+ * no proofs, as the program that the library is measured against. The parameters and answers are
+ * those of the functions `rigtemple_..._parts` in include/rigtemple.h.
  */
 #ifndef RIGTEMPLE_ENGINE_H
 #define RIGTEMPLE_ENGINE_H
@@ -22,7 +22,8 @@ uint16_t engine_list(const uint8_t *card, size_t card_len, const uint8_t *belief
                      uint16_t *list, size_t list_len, uint16_t *count);
 
 uint16_t engine_take(const uint8_t *card, size_t card_len, uint8_t *beliefs, uint8_t *goals,
-                     uint8_t *plan, uint16_t *length, uint8_t *phase, uint16_t choice);
+                     uint8_t *plan, uint16_t *length, uint8_t *phase, uint16_t choice,
+                     uint16_t *node);
 
 uint16_t engine_run(const uint8_t *card, size_t card_len, uint8_t *beliefs, uint8_t *goals,
                     uint8_t *plan, uint16_t *length, uint8_t *phase, uint16_t budget,

@@ -22,7 +22,7 @@ CALLS = {
     "load": (*CARD, *LENT),
     "grade": (*CARD, POINTER(c_uint8), POINTER(c_uint8), POINTER(c_uint16)),
     "list": (*CARD, *READ, POINTER(c_uint16), c_size_t, POINTER(c_uint16)),
-    "take": (*CARD, *LENT, c_uint16),
+    "take": (*CARD, *LENT, c_uint16, POINTER(c_uint16)),
     "run": (*CARD, *LENT, c_uint16, POINTER(c_uint16), POINTER(c_uint8)),
     "save": (*CARD, *READ, POINTER(c_uint8), c_size_t, POINTER(c_uint16)),
     "restore": (*CARD, POINTER(c_uint8), c_size_t, *LENT),

@@ -2,8 +2,9 @@
  * A weaving guide in a terminal: turned_screen CARD PLACE
  *
  * It shows the moves that are possible in the card and makes one for each line of input: an empty
- * line for the guide's own, the code of a choice for that one. The end of the input is the turn of
- * the screen: the program ends, and the next one goes on from the file PLACE.
+ * line for the guide's own, the code of a choice for that one; of a choice that is closed it tells
+ * why. The end of the input is the turn of the screen: the program ends, and the next one goes on
+ * from the file PLACE.
  *
  * Nothing is shown before it is kept. Where there is no file PLACE the card begins; a file that is
  * there is restored, an empty one too, and one that is refused is told and left as it is.
@@ -30,6 +31,16 @@ static int refused(const char *what, uint16_t answer)
     fprintf(stderr, "%s is refused: %s: %s\n", what, rigtemple_answer_name(answer),
             rigtemple_answer_sentence(answer));
     return 1;
+}
+
+/* Tells why a choice is refused; of a condition that is false, the node that settled it too. */
+static void refused_choice(uint16_t answer, uint16_t node)
+{
+    fprintf(stderr, "the choice is refused: %s: %s", rigtemple_answer_name(answer),
+            rigtemple_answer_sentence(answer));
+    if (answer == RIGTEMPLE_ANSWER_CONDITION)
+        fprintf(stderr, " (node %d)", node);
+    fprintf(stderr, "\n");
 }
 
 /* Tells why a file failed; the exit status. */
@@ -169,14 +180,14 @@ static uint16_t code_of(const char *line)
 /* Makes the move that a line asks for. A choice that is refused is told, and nothing changes. */
 static int move(const char *line, struct rigtemple_configuration *c, uint8_t *ending)
 {
-    uint16_t answer, moves;
+    uint16_t answer, moves, node;
     if (line[0] == '\n') {
         answer = rigtemple_run(card, card_len, c, 1, &moves, ending);
         return answer == RIGTEMPLE_ANSWER_DONE ? 0 : refused("the run", answer);
     }
-    answer = rigtemple_take(card, card_len, c, code_of(line));
+    answer = rigtemple_take(card, card_len, c, code_of(line), &node);
     if (answer != RIGTEMPLE_ANSWER_DONE)
-        refused("the choice", answer);
+        refused_choice(answer, node);
     return 0;
 }
 

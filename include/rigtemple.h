@@ -9,10 +9,10 @@
  *
  * What holds for every call:
  *
- *  - It ends, on all bytes and all numbers, and answers a number: 0 for done, 1 to 13 for a
+ *  - It ends, on all bytes and all numbers, and answers a number: 0 for done, another for a
  *    refusal. Where more than one refusal would fit, the card's come first (1 to 9 in that
- *    order), then the place's (1, 2, 3, 4, 8, 9) or the configuration's (13), then 10, 11
- *    and 12.
+ *    order), then the place's (1, 2, 3, 4, 8, 9) or the configuration's (13), then 14, 15,
+ *    16, 11 and 12. No call answers 10.
  *  - Every buffer is the caller's. The library keeps no memory, no pointer and no state
  *    between calls, and allocates nothing.
  *  - No pointer may be null, not even beside a length of 0, and no two that are given to
@@ -25,8 +25,8 @@
  * of RIGTEMPLE_MOST_LIST_ENTRIES (1,536 bytes) and a place of RIGTEMPLE_MOST_PLACE_BYTES are
  * always enough: 27,792 bytes together.
  *
- * Bytes of stack, as tests/stack.sh measures them on x86-64: check 808, load 936, grade 2,984,
- * list 2,824, take 1,512, run 1,640, save 936, restore 1,016.
+ * Bytes of stack, as tests/stack.sh measures them on x86-64: check 808, load 936, grade 3,000,
+ * list 2,824, take 1,544, run 1,656, save 936, restore 1,016.
  *
  * Save before you show. The weaver acts on what the screen tells; a move that is shown and
  * not kept is lost when the view is torn down, and a band is woven twice. And where a place
@@ -45,8 +45,8 @@ extern "C" {
 
 /* The version of this header's interface. The first number rises with a change that an app has
  * to follow, and the second is then 0; the second rises with what is only added. */
-#define RIGTEMPLE_VERSION "1.0"
-#define RIGTEMPLE_VERSION_FIRST 1
+#define RIGTEMPLE_VERSION "2.0"
+#define RIGTEMPLE_VERSION_FIRST 2
 #define RIGTEMPLE_VERSION_SECOND 0
 
 /* Marks an answer that must not be ignored, for the compilers that know it. */
@@ -78,19 +78,22 @@ extern "C" {
 #define RIGTEMPLE_ANSWER_RULE 7
 #define RIGTEMPLE_ANSWER_ACTION_BYTE 8
 #define RIGTEMPLE_ANSWER_ATOM 9
-#define RIGTEMPLE_ANSWER_NOT_ENABLED 10
 #define RIGTEMPLE_ANSWER_PLAN_FULL 11
 #define RIGTEMPLE_ANSWER_NO_ROOM 12
 #define RIGTEMPLE_ANSWER_CONFIGURATION 13
+#define RIGTEMPLE_ANSWER_NO_RULE 14
+#define RIGTEMPLE_ANSWER_FRONT 15
+#define RIGTEMPLE_ANSWER_CONDITION 16
 
-/* The name of an answer in document 01, for a log: "plan full" for 11. */
+/* The name of an answer, for a log: "plan full" for 11. */
 static inline const char *rigtemple_answer_name(uint16_t answer)
 {
     static const char *const names[] = {
-        "done", "short",       "mark", "count",       "offsets",   "weight",  "node",
-        "rule", "action byte", "atom", "not enabled", "plan full", "no room", "configuration",
+        "done",    "short",         "mark",        "count", "offsets",   "weight",
+        "node",    "rule",          "action byte", "atom",  "given up",  "plan full",
+        "no room", "configuration", "no rule",     "front", "condition",
     };
-    return answer <= RIGTEMPLE_ANSWER_CONFIGURATION ? names[answer] : "no answer of the guide";
+    return answer <= RIGTEMPLE_ANSWER_CONDITION ? names[answer] : "no answer of the guide";
 }
 
 /* What an answer says was refused. */
@@ -112,14 +115,18 @@ static inline const char *rigtemple_answer_sentence(uint16_t answer)
         "should be zero",
         "a byte of the pool, or of a place's plan, is not below the number of actions",
         "a set has an atom at or above the number of atoms",
-        "the choice is none of those that list gives",
+        "no call answers this: 14, 15 and 16 stand in its place",
         "the choice is enabled, but leaves more than 1,024 actions",
         "the lent list or buffer is too short",
         "the configuration has a plan over 1,024, an action or atom that the card doesn't know, a "
         "phase over 2, or something after the plan's end",
+        "the card has no such rule or specification",
+        "the plan's front does not fit: it is empty, or not empty, or has another first action or "
+        "another head",
+        "a condition of the choice is false; the node that settled it is told with it",
     };
-    return answer <= RIGTEMPLE_ANSWER_CONFIGURATION ? sentences[answer]
-                                                    : "the guide gives no such answer";
+    return answer <= RIGTEMPLE_ANSWER_CONDITION ? sentences[answer]
+                                                : "the guide gives no such answer";
 }
 
 /* Kinds of moves. */
@@ -129,7 +136,7 @@ static inline const char *rigtemple_answer_sentence(uint16_t answer)
 
 /* The code of a choice: 256 times the kind plus the number of the selection rule, specification
  * or revision rule, from 0. A kind over 2 or a number over 255, also one below 0, makes
- * RIGTEMPLE_NO_CHOICE, which rigtemple_take refuses with 10. It is a constant where its arguments
+ * RIGTEMPLE_NO_CHOICE, which rigtemple_take refuses with 14. It is a constant where its arguments
  * are; each is written twice in it, so give it no i++. */
 #define RIGTEMPLE_NO_CHOICE 65535
 #define RIGTEMPLE_CHOICE(kind, number)                                                        \
@@ -190,7 +197,7 @@ uint16_t rigtemple_list_parts(const uint8_t *card, size_t card_len, const uint8_
 RIGTEMPLE_LOOK_AT_ANSWER
 uint16_t rigtemple_take_parts(const uint8_t *card, size_t card_len, uint8_t *beliefs,
                               uint8_t *goals, uint8_t *plan, uint16_t *length, uint8_t *phase,
-                              uint16_t choice);
+                              uint16_t choice, uint16_t *node);
 
 RIGTEMPLE_LOOK_AT_ANSWER
 uint16_t rigtemple_run_parts(const uint8_t *card, size_t card_len, uint8_t *beliefs,
@@ -260,14 +267,22 @@ static inline uint16_t rigtemple_list(const uint8_t *card, size_t card_len,
 }
 
 /* Takes the move that the weaver chose, and changes `c` to what it leaves.
- * Answers 0, or 1 to 9, 13, 10 if the code is no enabled choice (any number may be given), or
- * 11 if the plan would get too long. A refusal leaves `c` as it came in. */
+ * Answers 0, or 1 to 9, 13, or why the move is closed: 14 if the card has no rule or specification
+ * of that number (any code may be given), 15 if the front of the plan is not the one that the move
+ * needs, 16 if a condition is false; or 11 if the plan would get too long. A move is closed, and
+ * answered with 14, 15 or 16, exactly if rigtemple_list does not give it. A refusal leaves `c` as
+ * it came in.
+ * `node` is written in each case: with 16 it becomes the number of the node that settled the
+ * condition, the belief condition's before the goal condition's, and else 0. That node is "true"
+ * or an atom of the card: the atom that is missing, or, where an odd number of "not" stands on
+ * the way to it, the one that is in the way. */
 RIGTEMPLE_LOOK_AT_ANSWER
 static inline uint16_t rigtemple_take(const uint8_t *card, size_t card_len,
-                                      struct rigtemple_configuration *c, uint16_t choice)
+                                      struct rigtemple_configuration *c, uint16_t choice,
+                                      uint16_t *node)
 {
     return rigtemple_take_parts(card, card_len, c->beliefs, c->goals, c->plan, &c->length,
-                                &c->phase, choice);
+                                &c->phase, choice, node);
 }
 
 /* Runs by itself, for `budget` moves at most, and changes `c` to the configuration reached.

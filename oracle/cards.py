@@ -572,7 +572,11 @@ def make_card(random, sizes):
     is no plan of length 1 and so no rule."""
     if sizes.pool == 0:
         sizes.selections = sizes.revisions = 0
-    conditions = make_conditions(random, sizes)
+    return card_under(random, sizes, make_conditions(random, sizes))
+
+
+def card_under(random, sizes, conditions):
+    """A good card of some sizes, its entries under some of the conditions."""
     palette = random.sample(range(sizes.actions), random.randint(1, min(sizes.actions, 6)))
     if sizes.actions > 6 and random.random() < 0.3:
         palette = list(range(sizes.actions))
@@ -591,6 +595,38 @@ def make_card(random, sizes):
         beliefs=some_atoms(random, sizes.atoms),
         goals=some_atoms(random, sizes.atoms),
     )
+
+
+# --- nested conditions ------------------------------------------------------
+
+
+def nested_node(random, conditions):
+    """A node over one or two of the latest of one kind."""
+    children = random.choice((conditions.belief, conditions.goal))[-6:]
+    kind = random.choice((NOT, AND, AND, OR, OR))
+    return Node(kind, random.choice(children), 0 if kind == NOT else random.choice(children))
+
+
+def nested_conditions(random, atoms, count):
+    """So many nodes: a third of them without children and of both kinds, the
+    others over one another."""
+    conditions = Conditions()
+    kinds = [BELIEVES, HAS_GOAL]
+    kinds += random.choices((TRUE, BELIEVES, BELIEVES, HAS_GOAL, HAS_GOAL), k=count // 3 - 2)
+    for kind in kinds:
+        add_node(conditions, leaf(random, kind, atoms))
+    while len(conditions.nodes) < count:
+        add_node(conditions, nested_node(random, conditions))
+    return conditions
+
+
+def nested_card(random):
+    """A small card whose entries have conditions of "not", "and" and "or" over
+    one another, so that what settles a condition is often deep below it."""
+    sizes = lively_sizes(random)
+    sizes.nodes = random.randint(12, 30)
+    made = nested_conditions(random, sizes.atoms, sizes.nodes)
+    return card_under(random, sizes, Conditions(made.nodes, made.belief[-8:], made.goal[-8:]))
 
 
 # --- tempers ----------------------------------------------------------------
@@ -923,8 +959,9 @@ def woven_card(random):
 
 def good_card(random, largest=CARD_LIMIT):
     """A good card of some shape and temper, of at most `largest` bytes."""
-    if random.random() < 0.35:
-        description = woven_card(random)
+    style = random.random()
+    if style < 0.6:
+        description = woven_card(random) if style < 0.3 else nested_card(random)
         if random.random() < 0.25:
             random.choice(TEMPERS)(random, description)
         if len(card(description)) <= largest:

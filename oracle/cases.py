@@ -15,9 +15,9 @@ import damage
 import drill
 import guide
 
-REQUEST_LIMIT = 40
+REQUEST_LIMIT = 50
 CALL_NAMES = ("check", "load", "grade", "list", "take", "run", "save", "restore")
-ANSWER_NUMBERS = range(14)
+ANSWER_NUMBERS = range(17)
 CALLS_ON_CONFIGURATIONS = (drill.LIST, drill.TAKE, drill.RUN, drill.SAVE)
 
 
@@ -84,7 +84,7 @@ def walk(random, card, configuration, steps):
         _, _, codes = guide.list_choices(card, configuration, 1024)
         if not codes:
             break
-        number, moved = guide.take(card, configuration, random.choice(codes))
+        number, _, moved = guide.take(card, configuration, random.choice(codes))
         if number == guide.DONE:
             configuration = moved
             met.append(configuration)
@@ -145,10 +145,25 @@ def list_request(random, card, configuration):
     return request_about(random, drill.LIST, configuration, room), codes
 
 
+def refused_choices(random, accepted, configuration):
+    """A choice for each of 14, 15 and 16 that the configuration has one for, and
+    one that is 15 though a condition is false, too."""
+    unfit, unfit_and_false, false = [], [], []
+    for code in damage.choices(accepted):
+        kind, n = divmod(code, 256)
+        holds = guide.first_false(accepted, configuration, kind, n) is None
+        if not guide.front_fits(accepted, configuration, kind, n):
+            (unfit if holds else unfit_and_false).append(code)
+        elif not holds:
+            false.append(code)
+    sorts = (damage.wrong_choices(accepted), unfit, unfit_and_false, false)
+    return [random.choice(codes) for codes in sorts if codes]
+
+
 def take_requests(random, accepted, configuration, codes, most):
-    """The enabled choices, `most` at most, and one code of the others."""
+    """The enabled choices, `most` at most, and refused ones."""
     chosen = list(codes) if len(codes) <= most else sorted(random.sample(codes, most))
-    chosen.append(random.choice(damage.wrong_choices(accepted)))
+    chosen += refused_choices(random, accepted, configuration)
     return [request_about(random, drill.TAKE, configuration, choice) for choice in chosen]
 
 
@@ -197,6 +212,17 @@ def full_requests(random, accepted):
             if random.random() < 0.3:
                 turned = configuration._replace(phase=2)
                 made.append(request_about(random, drill.RUN, turned, random.choice((1, 5, 1000))))
+    return made
+
+
+def closed_requests(random, accepted):
+    """Takes of a selection, an action and a revision whose front fits and of
+    which a condition is false."""
+    made = []
+    for kind in guide.KINDS:
+        found = damage.closed_configuration(random, accepted, kind)
+        if found is not None:
+            made.append(request_about(random, drill.TAKE, *found))
     return made
 
 
@@ -256,11 +282,12 @@ def damaged_place_requests(random, accepted, held):
 
 
 def good_requests(random, card):
-    """The requests about a good card, 40 at most."""
+    """The requests about a good card, 50 at most."""
     _, accepted = guide.judge(card)
     made = plain_requests()
     held = some_configurations(random, card, accepted)
     made += full_requests(random, accepted)
+    made += closed_requests(random, accepted)
     made += damaged_configuration_requests(random, accepted, held)
     made += damaged_place_requests(random, accepted, held)
     for configuration in held:

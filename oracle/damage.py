@@ -1074,11 +1074,50 @@ CONFIGURATION_RANGES = [
 # --- choices, rooms and full plans ------------------------------------------
 
 
+def choices(card):
+    """The codes of all the card's entries, rising."""
+    return [256 * kind + n for kind in guide.KINDS for n in range(len(guide.entries_of_kind(card, kind)))]
+
+
 def wrong_choices(card):
-    """Codes at and past the sections' ends, and past all kinds."""
-    counts = (len(card.selections), len(card.specifications), len(card.revisions))
-    past = [256 * kind + count for kind, count in enumerate(counts) if count < 256]
-    return past + [255, 256, 511, 512, 767, 768, 769, 1024, 32768, 65280, 65535]
+    """Codes of no entry: at and past the sections' ends, and past all kinds."""
+    past = [256 * kind + len(guide.entries_of_kind(card, kind)) for kind in guide.KINDS]
+    past += [255, 256, 511, 512, 767, 768, 769, 1024, 32768, 65280, 65535]
+    return [code for code in past if guide.names_no_entry(card, code)]
+
+
+def fitting_plan(random, card, kind, n):
+    """A plan whose front fits entry n of a kind, with a few actions after it
+    where there may be some."""
+    if kind == guide.SELECTION:
+        return b""
+    entry = guide.entries_of_kind(card, kind)[n]
+    front = bytes([entry.action]) if kind == guide.ACTION else entry.head
+    rest = bytes(random.choices(range(card.actions), k=random.choice((0, 0, 1, 2, 5))))
+    return (front + rest)[:guide.PLAN_LIMIT]
+
+
+def fitting_configuration(random, card, kind, n):
+    """A configuration whose plan's front fits entry n of a kind, with any sets of
+    the card's atoms."""
+    plan = fitting_plan(random, card, kind, n)
+    sets = random_atoms(random, card.atoms), random_atoms(random, card.atoms)
+    return guide.Configuration(*sets, padded(plan), len(plan), random.randrange(3))
+
+
+def closed_configuration(random, card, kind):
+    """A configuration whose plan's front fits some entry of a kind, and in which
+    a condition of that entry is false; the entry's code with it. Of those tried,
+    one whose settling node has a number far below the condition's. None where the
+    kind has no entry, or where the conditions hold in all of those tried."""
+    count, found = len(guide.entries_of_kind(card, kind)), {}
+    for _ in range(6 if count else 0):
+        n = random.randrange(count)
+        held = fitting_configuration(random, card, kind, n)
+        false = guide.first_false(card, held, kind, n)
+        if false is not None:
+            found[false - guide.judged(card, held, false).settled] = held, 256 * kind + n
+    return found[max(found)] if found else None
 
 
 def rooms_around(needed, most):
@@ -1104,7 +1143,7 @@ def full_configuration(random, card, over):
         held = guide.Configuration(
             beliefs, card.goals, padded(rule.head + rest), length, random.randrange(3)
         )
-        if guide.revision_is_enabled(card, held, n):
+        if guide.is_enabled(card, held, guide.REVISION, n):
             return held, 512 + n
     return None
 

@@ -1,7 +1,7 @@
 """The drill: requests on standard input, an answer for each on standard output.
 
-The requests and answers are those of drill.md; numbers of two bytes are low
-byte first.
+The requests and answers are those of drill.md, with what request 1 adds to them;
+numbers of two bytes are low byte first.
 """
 
 import struct
@@ -102,10 +102,11 @@ def answer_list(card, reader):
 
 
 def answer_take(card, reader):
-    """5 take: number (2), image."""
+    """5 take: number (2), "the node (2: with 16 the one that settled it, else
+    0)", image."""
     configuration, choice = reader.image(), reader.number()
-    number, configuration = guide.take(card, configuration, choice)
-    return two(number) + image(configuration)
+    number, node, configuration = guide.take(card, configuration, choice)
+    return two(number) + two(node) + image(configuration)
 
 
 def answer_run(card, reader):

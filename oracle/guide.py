@@ -1,7 +1,8 @@
-"""The eight calls of document 01 over plain values.
+"""The eight calls of document 01 over plain values, with request 1 of document
+02 ("say why a move is closed").
 
-Written from document 01 alone. Every function says which sentence of the
-document it stands for.
+Written from the two documents alone. Every function says which sentence of them
+it stands for.
 """
 
 import struct
@@ -9,7 +10,8 @@ from dataclasses import dataclass
 from functools import lru_cache
 from typing import NamedTuple
 
-# "Numbers the guide may answer."
+# "Numbers the guide may answer", and those of request 1: "10 gives way to three in
+# its place and this order".
 DONE = 0
 SHORT = 1
 MARK = 2
@@ -20,10 +22,12 @@ NODE = 6
 RULE = 7
 ACTION_BYTE = 8
 ATOM = 9
-NOT_ENABLED = 10
 PLAN_FULL = 11
 NO_ROOM = 12
 CONFIGURATION = 13
+NO_SUCH_ENTRY = 14
+FRONT = 15
+CONDITION = 16
 
 # "A choice is coded as 256 times the kind (0 selection, 1 action, 2 revision)
 # plus the number of the rule or specification, from 0."
@@ -215,27 +219,46 @@ def contained_atoms(nodes):
     return belief, goal
 
 
+class Judged(NamedTuple):
+    """What judging a condition answers: whether it holds, and the node that
+    "settled it"."""
+
+    holds: bool
+    settled: int
+
+
 @lru_cache(maxsize=64)
-def truths(nodes, beliefs, goals):
-    """ "Conditions: true; believes p, true exactly if p is in the beliefs; has
-    goal p, true exactly if p is in the goals; not; and; or": for each node
-    whether it holds. Each node is visited once, the lowest first."""
+def judgements(nodes, beliefs, goals):
+    """Each node judged. Each is visited once, the lowest first, so that its
+    children are judged before it."""
     believed, wanted = members(beliefs), members(goals)
-    holds = []
-    for kind, a, b, _ in nodes.entries:
-        if kind == 0:
-            holds.append(True)
-        elif kind == 1:
-            holds.append(believed >> a & 1 == 1)
-        elif kind == 2:
-            holds.append(wanted >> a & 1 == 1)
-        elif kind == 3:
-            holds.append(not holds[a])
-        elif kind == 4:
-            holds.append(holds[a] and holds[b])
+    found = []
+    for own, node in enumerate(nodes.entries):
+        if node.kind <= 2:
+            found.append(Judged(leaf_holds(node, believed, wanted), own))
         else:
-            holds.append(holds[a] or holds[b])
-    return holds
+            found.append(judged_over(node, found))
+    return found
+
+
+def leaf_holds(node, believed, wanted):
+    """ "True; believes p, true exactly if p is in the beliefs; has goal p, true
+    exactly if p is in the goals." """
+    if node.kind == 0:
+        return True
+    return (believed if node.kind == 1 else wanted) >> node.a & 1 == 1
+
+
+def judged_over(node, found):
+    """ "Not; and; or", and which node settles them: "for not, its child's; for
+    and and or, the left child's where the left alone settles the value, else the
+    right's". A false left settles an "and", a true left an "or"."""
+    left, right = found[node.a], found[node.b]
+    if node.kind == 3:
+        return Judged(not left.holds, left.settled)
+    if node.kind == 4:
+        return Judged(left.holds and right.holds, right.settled if left.holds else left.settled)
+    return Judged(left.holds or right.holds, left.settled if left.holds else right.settled)
 
 
 # --- the refusals of a card, row by row -------------------------------------
@@ -559,35 +582,23 @@ def judge_both(card, configuration):
 # --- transitions ------------------------------------------------------------
 
 
-def selection_is_enabled(card, configuration, n):
-    """Selection: "enabled if the plan is empty and both conditions of the rule
-    hold"."""
-    if configuration.length != 0:
-        return False
-    holds = truths(card.nodes, configuration.beliefs, configuration.goals)
-    rule = card.selections[n]
-    return holds[rule.belief_node] and holds[rule.goal_node]
+def selection_fits(rule, configuration):
+    """Selection: "enabled if the plan is empty"."""
+    return configuration.length == 0
 
 
-def action_is_enabled(card, configuration, n):
-    """Action: "enabled for a specification if the plan is not empty, its first
-    action is that of the specification, and the precondition holds"."""
-    specification = card.specifications[n]
-    if configuration.length == 0 or configuration.plan[0] != specification.action:
-        return False
-    return truths(card.nodes, configuration.beliefs, configuration.goals)[specification.node]
+def action_fits(specification, configuration):
+    """Action: "the plan is not empty, its first action is that of the
+    specification"."""
+    return configuration.length != 0 and configuration.plan[0] == specification.action
 
 
-def revision_is_enabled(card, configuration, n):
-    """Revision: "enabled if the head is a prefix of the plan and the condition
-    holds"."""
-    rule = card.revisions[n]
-    if len(rule.head) > configuration.length or not configuration.plan.startswith(rule.head):
-        return False
-    return truths(card.nodes, configuration.beliefs, configuration.goals)[rule.node]
+def revision_fits(rule, configuration):
+    """Revision: "the head is a prefix of the plan"."""
+    return len(rule.head) <= configuration.length and configuration.plan.startswith(rule.head)
 
 
-ENABLED = (selection_is_enabled, action_is_enabled, revision_is_enabled)
+FITS = (selection_fits, action_fits, revision_fits)
 
 
 def entries_of_kind(card, kind):
@@ -595,11 +606,42 @@ def entries_of_kind(card, kind):
     return (card.selections, card.specifications, card.revisions)[kind]
 
 
+def front_fits(card, configuration, kind, n):
+    """Whether the plan's front fits entry n of a kind."""
+    return FITS[kind](entries_of_kind(card, kind)[n], configuration)
+
+
+def conditions_of(card, kind, n):
+    """The nodes of the conditions that have to hold for entry n of a kind, "the
+    belief condition before the goal condition"."""
+    entry = entries_of_kind(card, kind)[n]
+    return (entry.belief_node, entry.goal_node) if kind == SELECTION else (entry.node,)
+
+
+def judged(card, configuration, node):
+    """A condition judged in a configuration."""
+    return judgements(card.nodes, configuration.beliefs, configuration.goals)[node]
+
+
+def first_false(card, configuration, kind, n):
+    """The first false condition of entry n of a kind; None where all of them
+    hold."""
+    for node in conditions_of(card, kind, n):
+        if not judged(card, configuration, node).holds:
+            return node
+    return None
+
+
+def is_enabled(card, configuration, kind, n):
+    """Enabled if the plan's front fits and the conditions hold (Definitions 10,
+    9 and 11)."""
+    return front_fits(card, configuration, kind, n) and first_false(card, configuration, kind, n) is None
+
+
 def enabled_of_kind(card, configuration, kind):
     """The enabled numbers of one kind, rising."""
-    is_enabled = ENABLED[kind]
     for n in range(len(entries_of_kind(card, kind))):
-        if is_enabled(card, configuration, n):
+        if is_enabled(card, configuration, kind, n):
             yield n
 
 
@@ -651,12 +693,30 @@ def guides_choice(card, configuration):
     return None
 
 
-def choice_is_enabled(card, configuration, choice):
-    """Whether the code is that of an enabled choice."""
+# --- the refusals of a choice -----------------------------------------------
+
+
+def names_no_entry(card, choice):
+    """14: "no such rule or specification". The code's kind is none of the three,
+    or its number is past the section's end."""
     kind, n = divmod(choice, 256)
-    if kind not in KINDS or n >= len(entries_of_kind(card, kind)):
-        return False
-    return ENABLED[kind](card, configuration, n)
+    return kind not in KINDS or n >= len(entries_of_kind(card, kind))
+
+
+def judge_choice(card, configuration, choice):
+    """The number of a choice, and the node that is shown with it (0 where none
+    is), in the order of request 1: "14 no such rule or specification; 15 the
+    plan's front doesn't fit (empty, not empty, other first action, other head);
+    16 a condition is false, with the node"."""
+    if names_no_entry(card, choice):
+        return NO_SUCH_ENTRY, 0
+    kind, n = divmod(choice, 256)
+    if not front_fits(card, configuration, kind, n):
+        return FRONT, 0
+    false = first_false(card, configuration, kind, n)
+    if false is not None:
+        return CONDITION, judged(card, configuration, false).settled
+    return DONE, 0
 
 
 # --- weight and grading -----------------------------------------------------
@@ -726,17 +786,20 @@ def list_choices(card, configuration, room):
 
 
 def take(card, configuration, choice):
-    """Take a chosen move: 10 when "the code is no enabled choice", 11 when "the
-    choice is enabled, but leaves more than 1,024 actions"."""
+    """Take a chosen move: 14, 15 or 16 when the choice is not enabled, 11 when
+    "the choice is enabled, but leaves more than 1,024 actions". Answers number,
+    node and configuration; "only a refused choice shows it": the node is that of
+    refusal 16, and 0 with any other number."""
     refusal, accepted = judge_both(card, configuration)
     if refusal != DONE:
-        return refusal, configuration
-    if not choice_is_enabled(accepted, configuration, choice):
-        return NOT_ENABLED, configuration
+        return refusal, 0, configuration
+    refusal, node = judge_choice(accepted, configuration, choice)
+    if refusal != DONE:
+        return refusal, node, configuration
     moved = after(accepted, configuration, *divmod(choice, 256))
     if moved is None:
-        return PLAN_FULL, configuration
-    return DONE, moved
+        return PLAN_FULL, 0, configuration
+    return DONE, 0, moved
 
 
 def run(card, configuration, budget):

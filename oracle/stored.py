@@ -6,7 +6,8 @@ writes against the second.
     python3 oracle/stored.py --check    # says whether the files are just that
 
 Both files follow from a fixed seed and hold every clause of document 01's refusal
-table, every range just inside, and the edges of plans, rooms and budgets.
+table and of request 1's, every range just inside, and the edges of plans, rooms and
+budgets.
 """
 
 import argparse
@@ -18,6 +19,7 @@ from random import Random
 
 import cards
 import cases
+import closed
 import damage
 import drill
 import guide
@@ -67,13 +69,23 @@ def no_card_case(name):
     return Case(name, b"", cases.damaged_requests(random_of(name), STRIPE))
 
 
+# The first and the last code of each kind, and codes past all kinds.
+END_CODES = (0, 255, 256, 511, 512, 767, 768, 65535)
+
+
+def end_requests(random):
+    """Takes at the ends of the three kinds' codes."""
+    return [cases.request_about(random, drill.TAKE, guide.EMPTY, code) for code in END_CODES]
+
+
 def named_cases():
     """The cards that the document or the drill names, the maximal one among
-    them."""
+    them, which has an entry for each code below 768."""
     for name, describe in cases.NAMED_CARDS:
-        card = cards.card(describe())
-        made = cases.good_requests(random_of(name), card)
-        yield Case(name, card, made if len(card) < 2000 else made[:3] + made[-18:])
+        card, random = cards.card(describe()), random_of(name)
+        made = cases.good_requests(random, card)
+        made = made if len(card) < 2000 else made[:3] + made[-18:]
+        yield Case(name, card, made + end_requests(random))
 
 
 # --- damaged cards ----------------------------------------------------------
@@ -228,6 +240,45 @@ def long_plan_cases():
         yield Case("full %d" % index, card, made)
 
 
+# --- closed moves -----------------------------------------------------------
+
+
+def closed_by_hand(one):
+    """The take of a closed move."""
+    request = cases.request_about(random_of(one.name), drill.TAKE, one.held, one.choice)
+    return Case(one.name, one.card, [request])
+
+
+def every_condition_case():
+    """Each node of the conditions card judged under each set of beliefs: "the left
+    child's where the left alone settles the value, else the right's"."""
+    random = random_of("every condition")
+    made = [
+        cases.request_about(random, drill.TAKE, held, choice) for held, choice in closed.every_condition()
+    ]
+    return Case("closed: every condition", closed.CONDITIONS, made)
+
+
+def nested_case(index):
+    """False conditions of a card with nested ones, and the choices refused in what
+    it loads to."""
+    random = random_of("nested", index)
+    card = cards.card(cards.nested_card(random))
+    _, accepted = guide.judge(card)
+    made = [request for _ in range(4) for request in cases.closed_requests(random, accepted)]
+    loaded = guide.load(card)[1]
+    made += cases.take_requests(random, accepted, loaded, [], 0)
+    return Case("closed: nested %d" % index, card, made)
+
+
+def closed_cases():
+    """Each clause of 14, 15 and 16 by hand, conditions of every shape, and their
+    order among the other numbers; nested conditions by seed."""
+    yield from map(closed_by_hand, closed.ALL)
+    yield every_condition_case()
+    yield from map(nested_case, range(20))
+
+
 # --- rooms ------------------------------------------------------------------
 
 
@@ -348,6 +399,7 @@ def all_cases():
         [longest_place_case()],
         set_cases(),
         long_plan_cases(),
+        closed_cases(),
         room_cases(),
         budget_cases(),
         verdict_cases(),

@@ -1,18 +1,22 @@
 """Tests of the oracle: document 01's cases P1 to P13, its program's lines, the
-damages' numbers, the drill's bytes, that a seed gives the same bytes, and what
-the stored requests hold."""
+damages' numbers, the closed moves of request 1, the drill's bytes, that a seed
+gives the same bytes, and what the stored requests hold."""
 
 import time
+from collections import Counter
 import unittest
 from random import Random
 
 import cards
 import cases
+import closed
 import damage
 import drill
 import guide
 import program
 import stored
+from cards import AND, BELIEVES, HAS_GOAL, NOT, OR, TRUE
+from closed import configuration
 
 STRIPE = cards.card(cards.stripe_card())
 
@@ -42,14 +46,6 @@ STRIPE_LINES = [
     "6 act 0 0 0",
     "rest 6",
 ]
-
-
-def configuration(beliefs=(), goals=(), plan=(), phase=0):
-    """A configuration from atoms and actions."""
-    array = bytes(plan).ljust(guide.PLAN_LIMIT, b"\0")
-    return guide.Configuration(
-        cards.atoms_set(*beliefs), cards.atoms_set(*goals), array, len(plan), phase
-    )
 
 
 def loaded(card):
@@ -84,24 +80,25 @@ class MarkedCases(unittest.TestCase):
         card = cards.card(description)
         for beliefs in ((), (2,)):
             held = configuration(beliefs=beliefs, goals=(2,), plan=(1,))
-            self.assertEqual(guide.take(card, held, 257), (0, configuration(phase=2)))
+            self.assertEqual(guide.take(card, held, 257), (0, 0, configuration(phase=2)))
 
     def test_p5_head_longer_than_the_plan(self):
-        """Plan 3, head 3 0: not enabled."""
+        """Plan 3, head 3 0: not enabled. By request 1 it is 15, "other head"."""
         description = cards.stripe_card()
         description.pool += bytes([3, 0])
         description.revisions[0] = cards.Revision(0, 5, 2, 0, 0)
         card = cards.card(description)
         held = configuration(beliefs=(3,), plan=(3,))
-        self.assertEqual(guide.take(card, held, 512), (10, held))
+        self.assertEqual(guide.take(card, held, 512), (15, 0, held))
         self.assertNotIn(512, guide.list_choices(card, held, 1024)[2])
         longer = configuration(beliefs=(3,), plan=(3, 0))
-        self.assertEqual(guide.take(card, longer, 512), (0, configuration(beliefs=(3,))))
+        self.assertEqual(guide.take(card, longer, 512), (0, 0, configuration(beliefs=(3,))))
 
     def test_p6_condition_fails(self):
-        """Plan 3, atom 3 not believed, choice 513: refusal 10."""
-        held = configuration(plan=(3,))
-        self.assertEqual(guide.take(STRIPE, held, 513), (10, held))
+        """Plan 3, atom 3 not believed, choice 513: "P6 becomes 16 with node 2"."""
+        for beliefs in ((), (0,), (0, 1, 2)):
+            held = configuration(beliefs=beliefs, plan=(3,))
+            self.assertEqual(guide.take(STRIPE, held, 513), (16, 2, held))
 
     def test_p7_the_place_after_step_four(self):
         """After step 4 the place is 33 50 01 00 02 00 2C 00 ..."""
@@ -124,7 +121,7 @@ class MarkedCases(unittest.TestCase):
         description = cards.stripe_card()
         description.revisions[0] = cards.Revision(0, 2, 1, 5, 0)
         found = guide.take(cards.card(description), configuration(plan=(3,)), 512)
-        self.assertEqual(found, (0, configuration()))
+        self.assertEqual(found, (0, 0, configuration()))
 
     def test_p10_the_offending_revision(self):
         """Revision 1's body weighing 3: open, revision 1."""
@@ -137,11 +134,11 @@ class MarkedCases(unittest.TestCase):
     def test_p11_a_plan_of_1024(self):
         """Plan of 1,024: head 1 and body 2 long, refusal 11; body 1 long, taken."""
         held = configuration(beliefs=(3,), plan=[3] + [0] * 1023)
-        self.assertEqual(guide.take(STRIPE, held, 513), (11, held))
+        self.assertEqual(guide.take(STRIPE, held, 513), (11, 0, held))
         self.assertEqual(guide.run(STRIPE, held._replace(phase=2), 5)[2:], (0, guide.FULL))
         held = held._replace(beliefs=cards.NO_ATOMS)
-        number, reached = guide.take(STRIPE, held, 514)
-        self.assertEqual((number, reached.length, reached.plan), (0, 1024, bytes(1024)))
+        number, node, reached = guide.take(STRIPE, held, 514)
+        self.assertEqual((number, node, reached.length, reached.plan), (0, 0, 1024, bytes(1024)))
 
     def test_p12_lists(self):
         """At the start the list is 0 alone; a list buffer of length 0 gives 12.
@@ -250,7 +247,7 @@ class Damages(unittest.TestCase):
             self.assertEqual(guide.run(card, held, 0)[:2], (one.number, held), one.name)
             self.assertEqual(guide.save(card, held, 2048)[0], one.number, one.name)
             taken = guide.take(card, held, 65535)
-            self.assertEqual(taken, (one.number or 10, held), one.name)
+            self.assertEqual(taken, (one.number or 14, 0, held), one.name)
 
     def test_full_plans(self):
         """A revision that leaves 1,024 actions is taken, one more is not."""
@@ -264,6 +261,101 @@ class Damages(unittest.TestCase):
                     met += 1
                     self.assertEqual(guide.take(card, *found)[0], number)
         self.assertGreater(met, 50)
+
+
+def judged_by_words(card, held, node):
+    """Whether a condition holds and what settles it, by the words of the two
+    documents from the root downward."""
+    kind, a, b, _ = card.nodes.entries[node]
+    if kind == TRUE:
+        return True, node
+    if kind in (BELIEVES, HAS_GOAL):
+        atoms = held.beliefs if kind == BELIEVES else held.goals
+        return atoms[a // 8] >> a % 8 & 1 == 1, node
+    left, settled = judged_by_words(card, held, a)
+    if kind == NOT:
+        return not left, settled
+    if (kind, left) in ((AND, False), (OR, True)):
+        return left, settled
+    return judged_by_words(card, held, b)
+
+
+def enabled_by_words(card, held, choice):
+    """Whether a choice is enabled, by document 01's Selection, Action, Revision."""
+    kind, n = divmod(choice, 256)
+    plan = held.plan[:held.length]
+    if kind == 0:
+        rule = card.selections[n]
+        fits, nodes = plan == b"", (rule.belief_node, rule.goal_node)
+    elif kind == 1:
+        entry = card.specifications[n]
+        fits, nodes = plan[:1] == bytes([entry.action]), (entry.node,)
+    else:
+        rule = card.revisions[n]
+        fits, nodes = plan[:len(rule.head)] == rule.head, (rule.node,)
+    return fits and all(judged_by_words(card, held, node)[0] for node in nodes)
+
+
+class ClosedMoves(unittest.TestCase):
+    """Request 1 of document 02: "say why a move is closed"."""
+
+    def test_by_hand(self):
+        """Each closed move has the number and the node written beside it, and the
+        configuration comes back as it came in."""
+        for one in closed.ALL:
+            found = guide.take(one.card, one.held, one.choice)
+            self.assertEqual(found, (one.number, one.node, one.held), one.name)
+
+    def test_unfit_fronts(self):
+        """Beside each unfit front the condition is true or false as its name says,
+        and with a fitting one the choice is 16 or taken."""
+        for one in closed.UNFIT:
+            _, accepted = guide.judge(one.card)
+            kind, n = divmod(one.choice, 256)
+            plan = damage.fitting_plan(Random(0), accepted, kind, n)
+            held = one.held._replace(plan=damage.padded(plan), length=len(plan))
+            expected = 16 if one.name.endswith("false") else 0
+            self.assertEqual(guide.take(one.card, held, one.choice)[0], expected, one.name)
+
+    def test_every_condition(self):
+        """Each node of the conditions card under each set of beliefs, by the table:
+        16 with the settling node where it is false; taken, with node 0, where it is
+        true."""
+        _, accepted = guide.judge(closed.CONDITIONS)
+        for node, beliefs, holds, settled in closed.settled_table():
+            held = configuration(beliefs, (), (0,))
+            self.assertEqual(guide.judged(accepted, held, node), (holds, settled))
+            expected = (0, 0, configuration(beliefs, phase=2)) if holds else (16, settled, held)
+            self.assertEqual(guide.take(closed.CONDITIONS, held, 256 + node), expected)
+
+    def test_settling_node_by_words(self):
+        """On cards with nested conditions each node is judged as the words say, and
+        what settles it is an atom or "true"."""
+        random = Random("words")
+        for _ in range(60):
+            _, accepted = guide.judge(cards.card(cards.nested_card(random)))
+            held = cases.random_configuration(random, accepted)
+            for node in range(len(accepted.nodes.entries)):
+                found = guide.judged(accepted, held, node)
+                self.assertEqual(found, judged_by_words(accepted, held, node))
+                self.assertIn(accepted.nodes.entries[found.settled].kind, (TRUE, BELIEVES, HAS_GOAL))
+
+    def test_which_choices_are_refused(self):
+        """ "Which choices are refused does not change": a code of an entry is refused
+        with 15 or 16 exactly if document 01 does not enable it, and is then not
+        listed; a code of none is 14."""
+        random = Random("refused")
+        for _ in range(60):
+            card = cards.card(cards.good_card(random, 500))
+            _, accepted = guide.judge(card)
+            for held in cases.some_configurations(random, card, accepted):
+                listed = guide.list_choices(card, held, 1024)[2]
+                for choice in damage.choices(accepted):
+                    enabled = enabled_by_words(accepted, held, choice)
+                    self.assertEqual(choice in listed, enabled)
+                    self.assertIn(guide.take(card, held, choice)[0], (0, 11) if enabled else (15, 16))
+                for choice in damage.wrong_choices(accepted):
+                    self.assertEqual(guide.take(card, held, choice), (14, 0, held))
 
 
 class GoodCards(unittest.TestCase):
@@ -301,9 +393,53 @@ class GoodCards(unittest.TestCase):
             codes = [code for code in guide.list_choices(card, held, 1024)[2] if code > 255]
             if not codes:
                 return
-            number, held = guide.take(card, held, random.choice(codes))
+            number, _, held = guide.take(card, held, random.choice(codes))
             self.assertEqual(number, 0)
         self.fail("more transitions than the plan weighs")
+
+
+# What a sort of closed move is called by: its number, and what it is. With 14 whether
+# the code's kind is one; with 15 the kind, whether the plan is empty, and whether the
+# conditions hold; with 16 the kind and which conditions hold, the condition's root and
+# where the settling node is, and the kind of the settling node.
+SORTS_OF_CLOSED_MOVES = (
+    {(14, 0), (14, 1), (14, 2), (14, "past all kinds")}
+    | {(15, 0, False, holds) for holds in (True, False)}
+    | {(15, kind, empty, holds) for kind in (1, 2) for empty in (True, False) for holds in (True, False)}
+    | {(16, 0, (False, False)), (16, 0, (False, True)), (16, 0, (True, False)), (16, 1, (False,)), (16, 2, (False,))}
+    | {(16, BELIEVES, "root"), (16, HAS_GOAL, "root"), (16, NOT, "left"), (16, NOT, "deeper")}
+    | {(16, AND, "left"), (16, AND, "right"), (16, AND, "deeper"), (16, OR, "right"), (16, OR, "deeper")}
+    | {(16, "settled by", kind) for kind in (TRUE, BELIEVES, HAS_GOAL)}
+)
+
+
+def where_settled(entries, root, settled):
+    """Where the node that settles a condition is: its root, one child and not the
+    other, both children, or none of these."""
+    kind, a, b, _ = entries[root]
+    if settled == root:
+        return "root"
+    names = {a: "left"} if kind == NOT else {a: "left", b: "right" if a != b else "both"}
+    return names.get(settled, "deeper")
+
+
+def sorts_of_closed_move(card, request, answer):
+    """The sorts of closed move that a take with its answer is."""
+    number, settled = guide.number(answer, 0), guide.number(answer, 2)
+    if number not in (14, 15, 16):
+        return []
+    _, accepted = guide.judge(card)
+    _, held, choice = cases.read_about(request)
+    kind, n = divmod(choice, 256)
+    if number == 14:
+        return [(14, kind if kind < 3 else "past all kinds")]
+    roots = guide.conditions_of(accepted, kind, n)
+    holds = tuple(guide.judged(accepted, held, root).holds for root in roots)
+    if number == 15:
+        return [(15, kind, held.length == 0, all(holds))]
+    root, entries = roots[holds.index(False)], accepted.nodes.entries
+    where = (16, entries[root].kind, where_settled(entries, root, settled))
+    return [(16, kind, holds), where, (16, "settled by", entries[settled].kind)]
 
 
 class Cases(unittest.TestCase):
@@ -317,12 +453,12 @@ class Cases(unittest.TestCase):
         self.assertNotEqual(one, list(cases.generate(8, 60, 700)))
 
     def test_no_card_too_large(self):
-        """No card of more than `largest` bytes, no case of more than 40
+        """No card of more than `largest` bytes, no case of more than 50
         requests."""
         for largest in (100, 255, 700):
             for case in cases.generate(3, 40, largest):
                 self.assertLessEqual(len(case.card), largest)
-                self.assertLessEqual(len(case.requests), 40)
+                self.assertLessEqual(len(case.requests), 50)
 
     def test_one_stream(self):
         """The stream's answers are those to the requests one by one."""
@@ -331,12 +467,27 @@ class Cases(unittest.TestCase):
         self.assertEqual(drill.answers(b"".join(cases.stream(some))), b"".join(single))
 
     def test_every_answer_is_met(self):
-        """Over 500 cards each answer is met at least ten times."""
-        met = [0] * 14
+        """Over 500 cards each answer is met at least ten times, but for 10, which
+        "gives way to three in its place"; and so is each sort of closed move."""
+        met, sorts = Counter(), Counter()
         for case in cases.generate(1, 500, 700):
             for request in case.requests:
-                met[guide.number(drill.answer(case.card, request), 0)] += 1
-        self.assertGreaterEqual(min(met), 10, met)
+                answer = drill.answer(case.card, request)
+                met[guide.number(answer, 0)] += 1
+                if request[0] == drill.TAKE:
+                    sorts.update(sorts_of_closed_move(case.card, request, answer))
+        self.assertEqual(set(met), set(range(17)) - {10})
+        self.assertGreaterEqual(min(met.values()), 10, met)
+        self.assertLessEqual(SORTS_OF_CLOSED_MOVES, set(sorts))
+        self.assertGreaterEqual(min(sorts[sort] for sort in SORTS_OF_CLOSED_MOVES), 10, sorts)
+
+    def test_node_only_with_16(self):
+        """ "With 16 the one that settled it, else 0." """
+        for case in cases.generate(2, 100, 700):
+            for request in case.requests:
+                answer = drill.answer(case.card, request)
+                if request[0] == drill.TAKE and guide.number(answer, 0) != 16:
+                    self.assertEqual(answer[2:4], b"\0\0")
 
 
 class Stored(unittest.TestCase):
@@ -349,7 +500,7 @@ class Stored(unittest.TestCase):
         "load": set(range(10)),
         "grade": set(range(10)),
         "list": set(range(10)) | {12, 13},
-        "take": set(range(10)) | {10, 11, 13},
+        "take": set(range(10)) | {11, 13, 14, 15, 16},
         "run": set(range(10)) | {13},
         "save": set(range(10)) | {12, 13},
         "restore": set(range(10)),
@@ -484,9 +635,49 @@ class Stored(unittest.TestCase):
         for kind in cases.CALLS_ON_CONFIGURATIONS:
             lengths = {cases.read_about(asked)[1].length for _, asked, _ in self.each(kind)}
             self.assertLessEqual({1022, 1023, 1024}, lengths)
-        taken = [(guide.number(a, 0), guide.number(a, 34)) for _, _, a in self.each(drill.TAKE)]
+        taken = [(guide.number(a, 0), guide.number(a, 36)) for _, _, a in self.each(drill.TAKE)]
         self.assertIn((0, 1024), taken)
         self.assertIn((11, 1024), taken)
+
+    def test_closed_moves(self):
+        """Each closed move by hand is a case with its number and its node, P6 among
+        them, and so is each sort of them."""
+        for one in closed.ALL:
+            case = self.named[one.name]
+            answer = drill.answer(case.card, *case.requests)
+            self.assertEqual(answer[:4], drill.two(one.number) + drill.two(one.node), one.name)
+        found = [sorts_of_closed_move(*taken) for taken in self.each(drill.TAKE)]
+        self.assertLessEqual(SORTS_OF_CLOSED_MOVES, {sort for sorts in found for sort in sorts})
+
+    def test_p6(self):
+        """ "P6 becomes 16 with node 2"; and specification 0 with the atoms 1 and 3
+        believed, whose condition is node 4, "1 and 3": the left holds, so it is the
+        right's, "not 2", which is node 2, neither the root nor a child of it."""
+        for name in ("P6", "closed: false, below the right of an and"):
+            case = self.named[name]
+            self.assertEqual(case.card, STRIPE_BYTES)
+            self.assertEqual(drill.answer(case.card, *case.requests)[:4], b"\x10\0\x02\0")
+
+    def test_every_condition(self):
+        """All nodes of the conditions card under all sets of beliefs."""
+        case = self.named["closed: every condition"]
+        asked = [cases.read_about(request)[1:] for request in case.requests]
+        self.assertEqual(asked, list(closed.every_condition()))
+        self.assertEqual(len(asked), len(list(closed.settled_table())))
+
+    def test_ends_of_the_codes(self):
+        """The maximal card has an entry for each code below 768: with the empty
+        plan, selections are 16 by the goal condition, node 2, and the others 15; the
+        smallest card has none."""
+        end = len(stored.END_CODES)
+        for name, expected in (
+            ("the maximal card", [16, 16, 15, 15, 15, 15, 14, 14]),
+            ("the smallest card", [14] * 8),
+        ):
+            case = self.named[name]
+            self.assertEqual(self.numbers(case)[-end:], expected)
+        first = drill.answer(self.named["the maximal card"].card, self.named["the maximal card"].requests[-end])
+        self.assertEqual(first[:4], b"\x10\0\x02\0")
 
 
 class DrillBytes(unittest.TestCase):
@@ -517,11 +708,21 @@ class DrillBytes(unittest.TestCase):
         self.assertEqual(found, bytes.fromhex("0000 0100 0000 EEEE 0C00 0000"))
 
     def test_take(self):
-        """Selection 0, and a code that is none."""
+        """Selection 0; a code that is none; action 0, as the plan is empty: number,
+        node 0, image."""
         request = b"\x05" + self.LOADED
         after = self.LOADED[:32] + bytes([1, 0, 1, 1, 0, 4])
-        found = self.answers(request + b"\x00\x00", request + b"\x00\x03")
-        self.assertEqual(found, b"\0\0" + after + b"\x0a\0" + self.LOADED)
+        found = self.answers(request + b"\x00\x00", request + b"\x00\x03", request + b"\x00\x01")
+        refused = b"\x0e\0\0\0" + self.LOADED + b"\x0f\0\0\0" + self.LOADED
+        self.assertEqual(found, b"\0\0\0\0" + after + refused)
+
+    def test_take_under_a_false_condition(self):
+        """P6: 16 and node 2, and the configuration as it came in, with the least
+        m."""
+        held = bytes(32) + bytes([1, 0, 0, 1, 0, 3])
+        wider = bytes(32) + bytes([1, 0, 0, 2, 0, 3, 0])
+        found = self.answers(b"\x05" + wider + b"\x01\x02")
+        self.assertEqual(found, b"\x10\0\x02\0" + held)
 
     def test_run(self):
         """Budget 4: the plan 2 0 has m 1, as its last byte is zero."""

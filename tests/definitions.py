@@ -27,6 +27,8 @@ import drill  # noqa: E402
 
 DEFINITIONS = ("paper", "runs", "meaning")
 CALLS = ("check", "load", "grade", "list", "take", "run", "save", "restore")
+# The numbers that the guide may answer.
+ANSWERS = (*range(10), *range(11, 17))
 # The checker computes a run step by step, so longer budgets are cut to this.
 LONGEST_RUN = 200
 PER_CRATE = 50
@@ -59,7 +61,7 @@ use Rattle.meaning.specs.declared.Written.{Written}
 use Rattle.meaning.specs.declared.Ran.{Ran}
 use Rattle.meaning.specs.Card.{Bytes}
 use Rattle.meaning.specs.Place.{twoBytes}
-use Rattle.meaning.specs.Refusals.{numberOf, answerNumber}
+use Rattle.meaning.specs.Refusals.{numberOf, answerNumber, answerNode}
 use Rattle.meaning.specs.Calls.{checks, loads, grades, lists, listLeaves, takes, runs, saves, saveLeaves, restores}
 
 -- a byte before what is left of the bytes after it, once zeros at the end are left off
@@ -94,8 +96,11 @@ replyBytes r = number (r .answer) ++ image (r .configuration)
 unfoldable pub loadBytes : Bytes → Bytes
 loadBytes b = replyBytes (loads b)
 
+abbrev takenBytes : Reply → Bytes
+takenBytes r = number (r .answer) ++ (twoBytes (answerNode (r .answer)) ++ image (r .configuration))
+
 unfoldable pub takeBytes : Bytes → Configuration → ℕ → Bytes
-takeBytes b c k = replyBytes (takes b c k)
+takeBytes b c k = takenBytes (takes b c k)
 
 unfoldable pub restoreBytes : Bytes → Bytes → Bytes
 restoreBytes b p = replyBytes (restores b p)
@@ -283,7 +288,7 @@ def gather(options):
 def table(met):
     """How often each answer was met for each call."""
     lines = ["answer  " + "".join(f"{call:>9}" for call in CALLS) + "      all"]
-    for number in range(14):
+    for number in ANSWERS:
         row = [met[call, number] for call in CALLS]
         lines.append(f"{number:>6}  " + "".join(f"{n:>9}" for n in row) + f"{sum(row):>9}")
     return "\n".join(lines)
@@ -336,7 +341,7 @@ def main():
 
 def report(options, met, total, refused, trouble):
     print("\n".join(refused) + trouble)
-    rare = [n for n in range(14) if sum(met[call, n] for call in CALLS) < 10]
+    rare = [n for n in ANSWERS if sum(met[call, n] for call in CALLS) < 10]
     if rare:
         print("answers met fewer than ten times:", *rare)
     failed = total if trouble else len(refused)

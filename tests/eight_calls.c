@@ -25,6 +25,10 @@ static void expect(int holds, const char *what)
 
 static struct card_bytes card;
 
+/* Its atoms, as bits of a set's first byte, and its actions. */
+enum { THREADED = 1 << 0, BOBBIN = 1 << 1, BAND = 1 << 2, BROKEN = 1 << 3 };
+enum { WEAVE, WIND, REPAIR, PICK, STRIPE, NO_ACTION = 255 };
+
 /* Whether two configurations are the same; the struct's padding does not count. */
 static int same(const struct rigtemple_configuration *one,
                 const struct rigtemple_configuration *other)
@@ -73,6 +77,36 @@ static struct rigtemple_configuration after(uint16_t moves)
     run(&c, moves, &taken, &ending);
     expect(taken == moves, "the moves are taken");
     return c;
+}
+
+/* A configuration with some of the card's atoms believed and wanted, and a plan of one action or of
+ * none. */
+static struct rigtemple_configuration standing(uint8_t beliefs, uint8_t goals, uint8_t action)
+{
+    struct rigtemple_configuration c = {.beliefs = {beliefs}, .goals = {goals}};
+    if (action != NO_ACTION) {
+        c.plan[0] = action;
+        c.length = 1;
+    }
+    return c;
+}
+
+/* Whether a choice of the card is taken, which tells no node. */
+static int takes(const struct card_bytes *of, struct rigtemple_configuration *c, uint16_t choice)
+{
+    uint16_t node = 0xEEEE;
+    return rigtemple_take(of->bytes, of->len, c, choice, &node) == RIGTEMPLE_ANSWER_DONE &&
+           node == 0;
+}
+
+/* Whether a choice is refused with that answer and that node, and the configuration stays. */
+static int refuses(const struct card_bytes *of, struct rigtemple_configuration *c, uint16_t choice,
+                   uint16_t answer, uint16_t node)
+{
+    struct rigtemple_configuration before = *c;
+    uint16_t told = 0xEEEE;
+    return rigtemple_take(of->bytes, of->len, c, choice, &told) == answer && told == node &&
+           same(c, &before);
 }
 
 /* ---- check, load, grade ---- */
@@ -125,8 +159,7 @@ static void test_refused_card(void)
     expect(rigtemple_list(bad.bytes, bad.len, &c, list, 2, &count) == RIGTEMPLE_ANSWER_NODE &&
                count == 0 && list[0] == 0xEEEE,
            "list refuses");
-    expect(rigtemple_take(bad.bytes, bad.len, &c, 0) == RIGTEMPLE_ANSWER_NODE && same(&c, &before),
-           "take refuses");
+    expect(refuses(&bad, &c, 0, RIGTEMPLE_ANSWER_NODE, 0), "take refuses");
     count = 9;
     expect(rigtemple_run(bad.bytes, bad.len, &c, 5, &count, &ending) == RIGTEMPLE_ANSWER_NODE &&
                count == 0 && ending == RIGTEMPLE_ENDING_SPENT && same(&c, &before),
@@ -164,8 +197,7 @@ static void test_steps(void)
                               &count) == RIGTEMPLE_ANSWER_DONE,
                "the moves are listed");
         expect(count == 1 && list[0] == choice, "the step is the one that is listed");
-        expect(rigtemple_take(card.bytes, card.len, &c, choice) == RIGTEMPLE_ANSWER_DONE,
-               "the step is taken");
+        expect(takes(&card, &c, choice), "the step is taken");
         expect(c.length == steps[i].length && c.phase == (steps[i].kind + 1) % 3,
                "the plan's length and the phase after it");
         expect(rigtemple_run(card.bytes, card.len, &own, 1, &taken, &ending) ==
@@ -192,31 +224,109 @@ static void test_budgets(void)
     expect(count == 6 && ending == RIGTEMPLE_ENDING_REST, "budget 7: rest, 6");
 }
 
-/* P6 and others: choices that are refused leave the configuration as it came in. */
+/* Choices with nothing believed, the band wanted and the plan "pick": why each is refused. */
+static const struct refused {
+    uint16_t choice, answer, node;
+} refused[] = {
+    {0, RIGTEMPLE_ANSWER_FRONT, 0},       /* the plan is not empty */
+    {1, RIGTEMPLE_ANSWER_NO_RULE, 0},     /* there is one selection rule */
+    {255, RIGTEMPLE_ANSWER_NO_RULE, 0},   /* the last number of a selection rule */
+    {256, RIGTEMPLE_ANSWER_FRONT, 0},     /* weave is not first; its condition is false too */
+    {257, RIGTEMPLE_ANSWER_FRONT, 0},     /* wind is not first; its condition is true */
+    {259, RIGTEMPLE_ANSWER_NO_RULE, 0},   /* there are three specifications */
+    {511, RIGTEMPLE_ANSWER_NO_RULE, 0},   /* the last number of a specification */
+    {512, RIGTEMPLE_ANSWER_FRONT, 0},     /* the head is stripe; the condition is true */
+    {513, RIGTEMPLE_ANSWER_CONDITION, 2}, /* P6: the head is pick; broken is not believed */
+    {515, RIGTEMPLE_ANSWER_NO_RULE, 0},   /* there are three revision rules */
+    {767, RIGTEMPLE_ANSWER_NO_RULE, 0},   /* the last number of a revision rule */
+    {768, RIGTEMPLE_ANSWER_NO_RULE, 0},   /* there are three kinds */
+    {65535, RIGTEMPLE_ANSWER_NO_RULE, 0}, /* the last number of all */
+};
+
 static void test_refused_choices(void)
 {
-    static const uint16_t codes[] = {0, 256, 257, 513, 515, 767, 768, 65535};
-    struct rigtemple_configuration c = begin();
-    memset(c.beliefs, 0, sizeof c.beliefs);
-    c.plan[0] = 3;
-    c.length = 1;
-    struct rigtemple_configuration before = c;
-    for (unsigned i = 0; i < sizeof codes / sizeof codes[0]; i++)
-        expect(rigtemple_take(card.bytes, card.len, &c, codes[i]) == RIGTEMPLE_ANSWER_NOT_ENABLED &&
-                   same(&c, &before),
-               "a code that is no enabled choice");
+    struct rigtemple_configuration c = standing(0, BAND, PICK);
+    for (unsigned i = 0; i < sizeof refused / sizeof refused[0]; i++)
+        expect(refuses(&card, &c, refused[i].choice, refused[i].answer, refused[i].node),
+               "a choice is refused for its reason");
     c.plan[1] = 1;
-    before = c;
-    expect(rigtemple_take(card.bytes, card.len, &c, 514) == RIGTEMPLE_ANSWER_CONFIGURATION &&
-               same(&c, &before),
+    expect(refuses(&card, &c, 514, RIGTEMPLE_ANSWER_CONFIGURATION, 0) &&
+               refuses(&card, &c, 513, RIGTEMPLE_ANSWER_CONFIGURATION, 0) &&
+               refuses(&card, &c, 768, RIGTEMPLE_ANSWER_CONFIGURATION, 0),
            "a byte after the plan's end");
+    c = standing(0, BAND, NO_ACTION);
+    expect(refuses(&card, &c, 257, RIGTEMPLE_ANSWER_FRONT, 0) &&
+               refuses(&card, &c, 512, RIGTEMPLE_ANSWER_FRONT, 0),
+           "an empty plan has no first action and no head");
+}
+
+/* Choices of which only a condition is false, and the node that settles it. Node 4 is "1 and 3",
+ * with 1 for the bobbin; 3 is "not 2", with 2 for broken. */
+static const struct closed {
+    uint8_t beliefs, goals, action;
+    uint16_t choice, node;
+} closed[] = {
+    {0, 0, NO_ACTION, 0, 5},                /* node 5, an atom: that node */
+    {BROKEN, BAND, PICK, 514, 2},           /* node 3: its child's */
+    {THREADED, BAND, WEAVE, 256, 1},        /* node 4: the left is false, the right true */
+    {BROKEN, BAND, WEAVE, 256, 1},          /* node 4: the left is false, and the right too */
+    {BOBBIN | BROKEN, BAND, WEAVE, 256, 2}, /* node 4: the left is true, so the right's */
+};
+
+static void test_settling_nodes(void)
+{
+    struct rigtemple_configuration c;
+    for (unsigned i = 0; i < sizeof closed / sizeof closed[0]; i++) {
+        c = standing(closed[i].beliefs, closed[i].goals, closed[i].action);
+        expect(refuses(&card, &c, closed[i].choice, RIGTEMPLE_ANSWER_CONDITION, closed[i].node),
+               "the node that settles a condition");
+    }
+    c = standing(BOBBIN, BAND, WEAVE);
+    expect(takes(&card, &c, 256), "the condition is true, and nothing is told");
+}
+
+/* Selection 0 with node 4 for its belief condition, and node 5 for its goal condition. */
+static void test_two_conditions(void)
+{
+    struct card_bytes two = card;
+    struct rigtemple_configuration c = standing(0, 0, NO_ACTION);
+    put_selection(&two, 0, 4, 5, 0, 1);
+    expect(refuses(&two, &c, 0, RIGTEMPLE_ANSWER_CONDITION, 1),
+           "both are false: the belief condition's node");
+    c = standing(BOBBIN | BROKEN, BAND, NO_ACTION);
+    expect(refuses(&two, &c, 0, RIGTEMPLE_ANSWER_CONDITION, 2), "the belief condition is false");
+    c = standing(BOBBIN, 0, NO_ACTION);
+    expect(refuses(&two, &c, 0, RIGTEMPLE_ANSWER_CONDITION, 5), "the goal condition is false");
+    c = standing(0, 0, PICK);
+    expect(refuses(&two, &c, 0, RIGTEMPLE_ANSWER_FRONT, 0), "both are false; the front is first");
+    c = standing(BOBBIN, BAND, NO_ACTION);
+    expect(takes(&two, &c, 0), "both are true");
+}
+
+/* What settles an "or", a "not" over "true", and a node over 253 others. */
+static void test_other_conditions(void)
+{
+    struct card_bytes other = card;
+    struct rigtemple_configuration c = standing(BROKEN, BAND, WEAVE);
+    put_node(&other, 4, NODE_OR, 1, 3);
+    expect(refuses(&other, &c, 256, RIGTEMPLE_ANSWER_CONDITION, 2), "a false or: the right's");
+    put_node(&other, 3, NODE_OR, 2, 1);
+    put_node(&other, 4, NODE_NOT, 3, 0);
+    expect(refuses(&other, &c, 256, RIGTEMPLE_ANSWER_CONDITION, 2), "a true or: the left's");
+    put_node(&other, 4, NODE_NOT, 0, 0);
+    expect(refuses(&other, &c, 256, RIGTEMPLE_ANSWER_CONDITION, 0), "true, which is node 0");
+    shared_nodes_card(&other);
+    put_node(&other, 0, NODE_TRUE, 0, 0);
+    put_node(&other, 1, NODE_BELIEVES, 0, 0);
+    c = standing(0, 0, 0);
+    expect(refuses(&other, &c, 256, RIGTEMPLE_ANSWER_CONDITION, 1), "from node 254 down to node 1");
 }
 
 /* The code of a choice is never that of another kind, whatever number is asked for. */
 static void test_codes(void)
 {
     static const long long numbers[] = {256, 257, 511, 512, 65536, 1LL << 32, -1};
-    struct rigtemple_configuration c = begin(), before = c;
+    struct rigtemple_configuration c = begin();
     for (unsigned kind = 0; kind < 3; kind++) {
         uint16_t last = RIGTEMPLE_CHOICE(kind, 255);
         expect(RIGTEMPLE_KIND_OF(last) == kind && RIGTEMPLE_NUMBER_OF(last) == 255,
@@ -226,10 +336,8 @@ static void test_codes(void)
                    "a number that no rule has");
     }
     expect(RIGTEMPLE_CHOICE(3, 0) == RIGTEMPLE_NO_CHOICE, "a kind that there is not");
-    expect(rigtemple_take(card.bytes, card.len, &c, RIGTEMPLE_NO_CHOICE) ==
-                   RIGTEMPLE_ANSWER_NOT_ENABLED &&
-               same(&c, &before),
-           "no choice is not enabled");
+    expect(refuses(&card, &c, RIGTEMPLE_NO_CHOICE, RIGTEMPLE_ANSWER_NO_RULE, 0),
+           "no choice has no rule");
 }
 
 /* The empty configuration is accepted, and a run from it tells nothing of why it is empty. */
@@ -259,15 +367,15 @@ static void test_full_plan(void)
     struct rigtemple_configuration before = c;
     uint16_t count = 9;
     uint8_t ending = 9;
-    expect(rigtemple_take(card.bytes, card.len, &c, 513) == RIGTEMPLE_ANSWER_PLAN_FULL &&
-               same(&c, &before),
-           "a plan too long is refused");
+    expect(refuses(&card, &c, 513, RIGTEMPLE_ANSWER_PLAN_FULL, 0), "a plan too long is refused");
     expect(rigtemple_run(card.bytes, card.len, &c, 1, &count, &ending) == RIGTEMPLE_ANSWER_DONE &&
                count == 0 && ending == RIGTEMPLE_ENDING_FULL && same(&c, &before),
            "a run stops before it");
     c.beliefs[0] = 1 << 0;
-    expect(rigtemple_take(card.bytes, card.len, &c, 514) == RIGTEMPLE_ANSWER_DONE &&
-               c.length == 1024 && c.plan[0] == 0 && c.plan[1] == 3 && c.plan[1023] == 3,
+    expect(refuses(&card, &c, 513, RIGTEMPLE_ANSWER_CONDITION, 2),
+           "a false condition is told before a plan too long");
+    expect(takes(&card, &c, 514) && c.length == 1024 && c.plan[0] == 0 && c.plan[1] == 3 &&
+               c.plan[1023] == 3,
            "a body as long as its head is taken");
 }
 
@@ -349,6 +457,9 @@ int main(void)
     test_steps();
     test_budgets();
     test_refused_choices();
+    test_settling_nodes();
+    test_two_conditions();
+    test_other_conditions();
     test_codes();
     test_empty_configuration();
     test_full_plan();

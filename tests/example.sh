@@ -41,6 +41,8 @@ holds() { # WHAT COMMAND...
     fi
 }
 
+not() { ! "$@"; }
+
 # The screen is turned after each move, and the place is the same as without a turn.
 turned() {
     card=$root/cards/stripe.card
@@ -57,9 +59,14 @@ turned() {
 choices() {
     rm -f "$place"
     expect 'a choice of the list is taken' 0 '512: revise 0' "$card" "$place" '0\n'
-    expect 'a choice that is not in it is refused by name' 0 'not enabled: ' "$card" "$place" '0\n'
-    expect 'a word is no choice' 0 'not enabled: ' "$card" "$place" 'band\n'
+    expect 'a choice that is not in it is refused by name' 0 'refused: front: ' "$card" "$place" \
+        '0\n'
+    expect 'a word is no choice' 0 'refused: no rule: ' "$card" "$place" 'band\n'
     expect 'the place is where it stood' 0 '512: revise 0' "$card" "$place" ''
+    expect 'a condition that is false' 0 'refused: condition: ' "$card" "$place" '512\n257\n514\n'
+    expect 'the node that settled it' 0 ' (node 2)' "$card" "$place" '514\n'
+    expect 'another reason has no node' 0 'refused: front: ' "$card" "$place" '512\n'
+    holds 'no node was told' not grep -qF '(node ' "$room/said"
     rm -f "$place"
     expect 'a plan that would get too long' 0 'full: ' "$root/cards/growing.card" "$place" \
         "$(printf '%0999d' 0 | sed 's/0/\\n/g')"

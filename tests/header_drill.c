@@ -8,15 +8,16 @@
  *   2 load                              number (2), image
  *   3 grade                             number (2), verdict (1), offender (1), its number (2)
  *   4 list     image, room (2)          number (2), count (2), the lent list (room entries)
- *   5 take     image, choice (2)        number (2), image
+ *   5 take     image, choice (2)        number (2), node (2), image
  *   6 run      image, budget (2)        number (2), image, count (2), ending (1)
  *   7 save     image, room (2)          number (2), the lent place (room bytes)
  *   8 restore  length (2), bytes        number (2), image
  *
  * An image: beliefs (16), goals (16), plan length (2), phase (1), m (2), m bytes of the plan's
- * array; the rest of it is zero. In an answer m is the least that serves. Lent buffers are lent
- * filled with EE hex. What a refused grading says beside its number is written as 0. A request
- * that breaks these rules ends the program.
+ * array; the rest of it is zero. In an answer m is the least that serves. The node of a take is
+ * with 16 the one that settled the condition, else 0. Lent buffers are lent filled with EE hex.
+ * What a refused grading says beside its number is written as 0. A request that breaks these rules
+ * ends the program.
  */
 #include <stdlib.h>
 #include <string.h>
@@ -170,8 +171,10 @@ static void answer_list(void)
 static void answer_take(void)
 {
     struct rigtemple_configuration c;
+    uint16_t node = LENT;
     get_image(&c);
-    put_number(rigtemple_take(card, card_len, &c, get_number(65535)));
+    put_number(rigtemple_take(card, card_len, &c, get_number(65535), &node));
+    put_number(node);
     put_image(&c);
 }
 

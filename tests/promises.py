@@ -5,9 +5,8 @@ the three demands has an edit of its name; and the lines of definitions that doc
     python3 tests/promises.py [--documents DIR]    the last line is 'N passed, M failed'
     python3 tests/promises.py --lines              how many lines of definitions there are, file by file, in reading order
 
-With --documents the quoted sentences are looked for in DIR/00-letter.md and DIR/01-scope.md too, and those that the comments of the
-crates quote in all documents of DIR. The notation is explained at the
-head of docs/PROMISES.md. Python 3.9 or later, standard library only.
+With --documents the quoted sentences are looked for in the letter and the documents 01 and 02 in DIR too, and those that the comments of
+the crates quote in all documents of DIR. The notation is explained at the head of docs/PROMISES.md. Python 3.9 or later, standard library only.
 """
 
 import argparse
@@ -19,7 +18,7 @@ from typing import NamedTuple
 
 TOP = os.path.dirname(os.path.dirname(os.path.abspath(__file__)))
 PROMISES, TRUSTED = "docs/PROMISES.md", "docs/TRUSTED.md"
-DOCUMENTS = ("00-letter.md", "01-scope.md")
+DOCUMENTS = ("00-letter.md", "01-scope.md", "02-change-requests.md")
 THEOREMS = "## The theorems"
 
 # What a reader has to read, in an order in which each file uses only what stands before it.
@@ -29,10 +28,11 @@ READING = (
     ("the order, a run, the grade", ("runs/src/lib.rt", "runs/specs/Limits.antt", "runs/specs/Order.antt", "runs/specs/Step.antt", "runs/specs/Run.antt", "runs/specs/Weight.antt")),
     ("a card's bytes, a configuration, a place", ("meaning/src/lib.rt", "meaning/specs/Card.antt", "meaning/specs/Configurations.antt",
                                                   "meaning/specs/Place.antt")),
-    ("the refusals and the eight answers", ("meaning/specs/Refusals.antt", "meaning/specs/Calls.antt", "meaning/specs/Numbers.antt")),
+    ("the refusals and the eight answers", ("meaning/specs/Refusals.antt", "meaning/specs/Why.antt", "meaning/specs/Calls.antt",
+                                            "meaning/specs/Numbers.antt")),
     ("what is proved of the definitions", ("paper/specs/Theorems.antt", "runs/specs/Theorems.antt", "meaning/specs/Theorems.antt")),
     ("the letter's demands", ("demands/specs/Contracts.antt", "demands/specs/Demands.antt", "demands/specs/TestOrder.antt",
-                              "demands/specs/Closed.antt")),
+                              "demands/specs/Closed.antt", "demands/specs/Shown.antt")),
     ("the cases", ("paper/specs/Cases.antt", "meaning/specs/Stripe.antt", "meaning/specs/Cases.antt")),
 )
 READ_CRATES = ("paper", "runs", "meaning", "demands")

@@ -16,7 +16,7 @@ enum { PAINTED = 65536, PAINT = 0xA5 };
 /* What the calls are made on. */
 static struct card_bytes card;
 static struct rigtemple_configuration held, c;
-static uint16_t list[RIGTEMPLE_MOST_LIST_ENTRIES], choice, count, number, answer;
+static uint16_t list[RIGTEMPLE_MOST_LIST_ENTRIES], choice, count, number, node, answer;
 static uint8_t place[RIGTEMPLE_MOST_PLACE_BYTES], kept[RIGTEMPLE_MOST_PLACE_BYTES];
 static uint8_t verdict, offender, ending;
 static uint16_t kept_len;
@@ -43,7 +43,7 @@ static uint16_t call_list(void)
 
 static uint16_t call_take(void)
 {
-    return rigtemple_take(card.bytes, card.len, &c, choice);
+    return rigtemple_take(card.bytes, card.len, &c, choice, &node);
 }
 
 static uint16_t call_run(void)

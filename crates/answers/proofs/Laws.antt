@@ -1,19 +1,24 @@
--- An offender's number fits in the 16 bits that it is written in: a card has at most 256 rules of a kind.
+-- An offender's number fits in the 16 bits that it is written in: a card has at most 256 rules of a kind. A refusal other than 16
+-- carries no node.
 use mathlib.Core.Path.{_≡_, refl, sym, subst}
 use mathlib.Core.Bool.{Bool, true, false}
 use mathlib.Core.List.{List, [], _∷_}
 use Prim.Native.Nat.{ℕ, suc, _+_, _≤_, _<_}
 use native.Mathlib.Omega.{arith}
 use lib.ListN.{length}
+use denote.Enum.Declared.{tagOf}
+use types.Run.{OneOf, miss}
 use Rattle.paper.specs.Language.{Plan, Agent}
 use Rattle.runs.specs.declared.Offender.{Offender}
 use Rattle.runs.specs.declared.Verdict.{Verdict}
 use Rattle.runs.specs.Weight.{light, lowers, firstOffender, verdict}
+use Rattle.meaning.specs.declared.Refusal.{Refusal}
+use Rattle.meaning.proofs.Refusal.{the-type}
 use Rattle.meaning.specs.declared.Answer.{Answer}
 use Rattle.meaning.specs.declared.Answer.the-variants.{Done, Refused}
 use Rattle.meaning.specs.declared.Graded.{Graded}
 use Rattle.meaning.specs.Card.{Bytes, layout, weight, agent, agentFor, agentOf, initialPlan}
-use Rattle.meaning.specs.Refusals.{cardAnswer}
+use Rattle.meaning.specs.Refusals.{carried, cardAnswer}
 use Rattle.meaning.specs.Calls.{grades}
 use Rattle.meaning.proofs.Calls.{grades-good, grades-refused}
 use Rattle.meaning.proofs.Accepted.{length-entries}
@@ -48,3 +53,23 @@ grades-narrow b = go (cardAnswer b) refl
         let v = verdict-narrow (weight b) (agent b) (initialPlan b) (rw (length-entries _ (layout b .selections)) (l .selections)) (rw (length-entries _ (layout b .revisions)) (l .revisions)) in
         subst (λ (x : Graded). verdictRule (x .verdict) < 65536) (sym (grades-good b e)) v
     go (Refused r) e = subst (λ (x : Graded). verdictRule (x .verdict) < 65536) (sym (grades-refused b r e)) (omega arith)
+
+-- ---- the variants but that of 16, by their tags
+
+pub no-node : (r : Refusal) → OneOf (0 ∷ 1 ∷ 2 ∷ 3 ∷ 4 ∷ 5 ∷ 6 ∷ 7 ∷ 8 ∷ 9 ∷ 10 ∷ 11 ∷ 13 ∷ 14 ∷ []) (tagOf the-type r) → carried r ≡ 0
+unfolding carried
+no-node (Refusal.Condition n) h = absurd (miss (0 ∷ 1 ∷ 2 ∷ 3 ∷ 4 ∷ 5 ∷ 6 ∷ 7 ∷ 8 ∷ 9 ∷ 10 ∷ 11 ∷ 13 ∷ 14 ∷ []) 12 tt h)
+no-node Refusal.Short h = refl
+no-node Refusal.Mark h = refl
+no-node Refusal.Count h = refl
+no-node Refusal.Offsets h = refl
+no-node Refusal.Weight h = refl
+no-node Refusal.Node h = refl
+no-node Refusal.Rule h = refl
+no-node Refusal.ActionByte h = refl
+no-node Refusal.Atom h = refl
+no-node Refusal.Configuration h = refl
+no-node Refusal.NoRule h = refl
+no-node Refusal.Front h = refl
+no-node Refusal.PlanFull h = refl
+no-node Refusal.NoRoom h = refl

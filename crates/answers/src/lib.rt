@@ -1,7 +1,7 @@
 // The numbers in which what the guide answers is told to others: the header, the drill and the program.
 ghost use mathlib.Core.Path.{_≡_};
 ghost use Prim.Native.Nat.{_<_};
-ghost use Rattle.meaning.specs.Refusals.{numberOf, answerNumber};
+ghost use Rattle.meaning.specs.Refusals.{numberOf, answerNumber, carried, answerNode};
 ghost use Rattle.meaning.specs.Numbers.{endingNumber, verdictNumber, offenderNumber, offenderRule, verdictOffender, verdictRule};
 use meaning::Answer;
 use meaning::Refusal;
@@ -24,7 +24,9 @@ pub fn refusal_number(r: Refusal) -> u16
         Refusal::ActionByte => 8,
         Refusal::Atom => 9,
         Refusal::Configuration => 13,
-        Refusal::NotEnabled => 10,
+        Refusal::NoRule => 14,
+        Refusal::Front => 15,
+        Refusal::Condition(_) => 16,
         Refusal::PlanFull => 11,
         Refusal::NoRoom => 12,
     }
@@ -37,6 +39,28 @@ pub fn answer_number(a: Answer) -> u16
     match a {
         Answer::Done => 0,
         Answer::Refused(r) => refusal_number(r),
+    }
+}
+
+// The node that a refusal carries: 02, Wish 1: "16 a condition is false, with the node". 0 where it carries none.
+fn refusal_node(r: Refusal) -> u16
+    requires { ⌜ carried r < 65536 ⌝ }
+    ensures { λ n. ⌜ n ≡ carried r ⌝ }
+{
+    let Refusal::Condition(node) = r else {
+        return 0;
+    };
+    node as u16
+}
+
+// The node that an answer shows, 0 where it shows none.
+pub fn answer_node(a: Answer) -> u16
+    requires { ⌜ answerNode a < 65536 ⌝ }
+    ensures { λ n. ⌜ n ≡ answerNode a ⌝ }
+{
+    match a {
+        Answer::Done => 0,
+        Answer::Refused(r) => refusal_node(r),
     }
 }
 

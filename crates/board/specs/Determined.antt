@@ -8,7 +8,7 @@ use Rattle.meaning.specs.declared.Configuration.{Configuration}
 use Rattle.meaning.specs.Card.{Bytes}
 use Rattle.meaning.specs.Calls.{checks, loads, grades, lists, listLeaves, takes, runs, saves, saveLeaves, restores}
 use Rattle.meaning.specs.Numbers.{checkedNumber}
-use Rattle.board.specs.Header.{whole, replied, gradedAs, wrote, ranTo}
+use Rattle.board.specs.Header.{whole, replied, took, gradedAs, wrote, ranTo}
 
 -- ---- the contracts
 
@@ -30,9 +30,9 @@ abbrev pub Lists : Bytes → Configuration → List ℕ → ℕ → List ℕ →
 Lists card d list n left count = wrote (lists card d list) (listLeaves card d list) n count left
 
 -- 01, "What the guide does": "take a chosen move": from a configuration d. "A refusal answers the number and the configuration
--- as it came in"
-abbrev pub Takes : Bytes → Configuration → ℕ → ℕ → Configuration → Type 0
-Takes card d choice n c = replied (takes card d choice) n c
+-- as it came in"; 02, Wish 1: "16 a condition is false, with the node"
+abbrev pub Takes : Bytes → Configuration → ℕ → ℕ → Configuration → ℕ → Type 0
+Takes card d choice n c node = took (takes card d choice) n c node
 
 -- 01, "What the guide does": "run by itself": from a configuration d. "the configuration reached, how many transitions were
 -- taken, and one of three endings"
@@ -59,8 +59,8 @@ pub record DeterminedParts : Type 0 where
       → (n ≡ n′) × (verdict ≡ verdict′) × (offender ≡ offender′) × (number ≡ number′)
   pub list : (card : Bytes) (d : Configuration) (list left left′ : List ℕ) (n n′ count count′ : ℕ)
       → Lists card d list n left count → Lists card d list n′ left′ count′ → (n ≡ n′) × (left ≡ left′) × (count ≡ count′)
-  pub take : (card : Bytes) (d : Configuration) (choice n n′ : ℕ) (c c′ : Configuration)
-      → Takes card d choice n c → Takes card d choice n′ c′ → (n ≡ n′) × (c ≡ c′)
+  pub take : (card : Bytes) (d : Configuration) (choice n n′ : ℕ) (c c′ : Configuration) (node node′ : ℕ)
+      → Takes card d choice n c node → Takes card d choice n′ c′ node′ → (n ≡ n′) × (c ≡ c′) × (node ≡ node′)
   pub run : (card : Bytes) (d : Configuration) (budget n n′ : ℕ) (c c′ : Configuration) (count count′ ending ending′ : ℕ)
       → Runs card d budget n c count ending → Runs card d budget n′ c′ count′ ending′
       → (n ≡ n′) × (c ≡ c′) × (count ≡ count′) × (ending ≡ ending′)

@@ -8,7 +8,7 @@ use Rattle.meaning.specs.declared.Graded.{Graded}
 use Rattle.meaning.specs.declared.Written.{Written}
 use Rattle.meaning.specs.declared.Ran.{Ran}
 use Rattle.meaning.specs.Card.{Bytes}
-use Rattle.meaning.specs.Refusals.{answerNumber}
+use Rattle.meaning.specs.Refusals.{answerNumber, answerNode}
 use Rattle.meaning.specs.Numbers.{endingNumber, verdictNumber, verdictOffender, verdictRule}
 
 -- A configuration from its parts: "`beliefs` and `goals` are 16 bytes each, `plan` is 1,024 bytes."
@@ -17,9 +17,13 @@ whole b g p n f = record { mind = record { beliefs = b; goals = g; length = n; p
 
 -- ---- what a call tells: n is its return value, the answer's number; c is what the lent parts hold when it returns
 
--- of `load`, `take` and `restore`
+-- of `load` and `restore`
 abbrev pub replied : Reply → ℕ → Configuration → Type 0
 replied x n c = (n ≡ answerNumber (x .answer)) × (c ≡ x .configuration)
+
+-- of `take`: with 16 the node that settled the condition, else 0
+abbrev pub took : Reply → ℕ → Configuration → ℕ → Type 0
+took x n c node = (n ≡ answerNumber (x .answer)) × (c ≡ x .configuration) × (node ≡ answerNode (x .answer))
 
 -- of `grade`: the verdict, the offender's kind and its number
 abbrev pub gradedAs : Graded → ℕ → ℕ → ℕ → ℕ → Type 0

@@ -3,6 +3,7 @@
 ghost use mathlib.Core.Path.{_≡_};
 ghost use Rattle.board.specs.Header.{whole};
 ghost use Rattle.board.specs.Determined.{Checks, Loads, Grades, Lists, Takes, Runs, Saves, Restores};
+use answers::answer_node;
 use answers::answer_number;
 use answers::ending_number;
 use answers::refusal_number;
@@ -69,7 +70,7 @@ pub extern "C" fn rigtemple_load_parts(
     answer_number(a)
 }
 
-// The configuration after the chosen move; as it came in, in a refusal.
+// The configuration after the chosen move; as it came in, in a refusal. With 16 the node that settled the condition.
 #[no_mangle]
 pub extern "C" fn rigtemple_take_parts(
     card: &[u8],
@@ -79,15 +80,18 @@ pub extern "C" fn rigtemple_take_parts(
     length: &mut u16,
     phase: &mut u8,
     choice: u16,
+    node: &mut u16,
 ) -> u16
     ensures { λ r. ⌜ Takes (now (card .entry))
         (whole (now (beliefs .entry)) (now (goals .entry)) (now (plan .entry)) (now (length .entry)) (now (phase .entry))) choice r
-        (whole (now (beliefs .exit)) (now (goals .exit)) (now (plan .exit)) (now (length .exit)) (now (phase .exit))) ⌝ }
+        (whole (now (beliefs .exit)) (now (goals .exit)) (now (plan .exit)) (now (length .exit)) (now (phase .exit)))
+        (now (node .exit)) ⌝ }
 {
     let taken = moves::take::take(card, mind(beliefs, goals, *length, *phase), plan, choice);
     let m = taken.mind;
     put(m, beliefs, goals, length, phase);
     let a = taken.answer;
+    *node = answer_node(a);
     answer_number(a)
 }
 

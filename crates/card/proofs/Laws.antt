@@ -28,7 +28,7 @@ contains-next : (l : Layout) (b : Bytes) → nodesGood l b ≡ true → (kind i 
     → ((j : ℕ) → j < i → getD marks j false ≡ getD (containing kind l b) j false)
     → containsOf kind (nodeAt l b i .kind) (nodeAt l b i .a) (nodeAt l b i .b) (λ j. getD marks j false) ≡ getD (containing kind l b) i false
 unfolding containing
-contains-next l b good kind i h marks same = made-from l b good i h (containsOf kind) false (contains-children kind) (λ j. getD marks j false) same
+contains-next l b good kind i h marks same = made-from l b good i h (λ i. containsOf kind) false (λ i. contains-children kind) (λ j. getD marks j false) same
 
 -- the last action and the number of actions tell the same of a byte
 pub known-by-last : (x actions : ℕ) → 1 ≤ actions → x ≤ 255 → leb x (min 255 (actions - 1)) ≡ ltb x actions

@@ -4,7 +4,6 @@ use mathlib.Core.Bool.{Bool, true, false, not, _&&_}
 use mathlib.Core.List.{List, [], _∷_}
 use mathlib.Core.Option.{Option, none, some}
 use Prim.Native.Nat.{ℕ, zero, suc, _≤_, _<_}
-use native.Mathlib.Nat.{zero-add}
 use native.Mathlib.Decide.{decLt}
 use native.Mathlib.Omega.{arith}
 use lib.Dec.{eqb, eqb·suc-zero}
@@ -13,7 +12,8 @@ use Rattle.paper.specs.Language.{Letter, 𝐁, 𝐆, Specification, Selection, 
 use Rattle.paper.specs.Transitions.{_⊨_, Choice, select, act, revise}
 use Rattle.paper.specs.Next.{isEmpty, startsWith, isPrefix, canSelect, selected, canAct, acted, canRevise, revised, outcome, next, isSome, enabled}
 use Rattle.paper.proofs.Relation.{outcome-yes, outcome-no, false≢true}
-use Rattle.runs.proofs.Numbers.{made-entry, made-none}
+use Rattle.runs.proofs.Numbers.{made-none}
+use Rattle.meaning.proofs.AgentEntries.{selectionFor, specificationFor, revisionFor, selection-entry, specification-entry, revision-entry}
 use Rattle.meaning.specs.declared.Layout.{Layout}
 use Rattle.meaning.specs.declared.Configuration.{Configuration}
 use Rattle.meaning.specs.Card.{Bytes, plan, condition, conditions, specificationAt, selectionAt, revisionAt, specificationOf, selectionOf, revisionOf, agentOf, agentFor}
@@ -23,7 +23,8 @@ use Rattle.card.specs.GoodCard.{GoodCondition}
 use Rattle.choices.specs.declared.ask.Asked.{Asked}
 use Rattle.choices.specs.Ready.{Judged}
 use Rattle.choices.specs.Asking.{askedBy, askedOf, asked, choiceAt}
-use Rattle.choices.proofs.Truths.{other, condition-truth}
+use Rattle.choices.specs.Truth.{other}
+use Rattle.choices.proofs.Truths.{condition-truth}
 
 -- ---- open exactly if enabled
 
@@ -71,31 +72,6 @@ open-enabled A c (revise n) = open-of _ _ canRevise revised c (λ r. refl) (getE
 pub told : (A : Agent) (c : Config) (k : Choice) (x y : Asked) → x ≡ asked A c k → x ≡ y → isOpen y ≡ enabled A c k
 told A c k x y e f = ap isOpen (sym f ∙ e) ∙ open-enabled A c k
 
--- ---- what stands under a number of a card's agent
-
-module _ (l : Layout) (b : Bytes) where
-  abbrev pub selectionFor : ℕ → Selection
-  selectionFor i = selectionOf (conditions 𝐁 l b) (conditions 𝐆 l b) l b (selectionAt l b i)
-
-  abbrev pub specificationFor : ℕ → Specification
-  specificationFor i = specificationOf (conditions 𝐁 l b) (specificationAt l b i)
-
-  abbrev pub revisionFor : ℕ → Revision
-  revisionFor i = revisionOf (conditions 𝐁 l b) l b (revisionAt l b i)
-
-  module _ (i : ℕ) where
-    pub selection-entry : i < l .selections .count → getElem? (agentFor l b .PS) i ≡ some (selectionFor i)
-    unfolding agentFor agentOf
-    selection-entry h = made-entry selectionFor 0 (l .selections .count) i h ∙ ap {B = Option Selection} (λ j. some (selectionFor j)) (zero-add i)
-
-    pub specification-entry : i < l .specifications .count → getElem? (agentFor l b .AS) i ≡ some (specificationFor i)
-    unfolding agentFor agentOf
-    specification-entry h = made-entry specificationFor 0 (l .specifications .count) i h ∙ ap {B = Option Specification} (λ j. some (specificationFor j)) (zero-add i)
-
-    pub revision-entry : i < l .revisions .count → getElem? (agentFor l b .PR) i ≡ some (revisionFor i)
-    unfolding agentFor agentOf
-    revision-entry h = made-entry revisionFor 0 (l .revisions .count) i h ∙ ap {B = Option Revision} (λ j. some (revisionFor j)) (zero-add i)
-
 -- ---- the front of a plan, by its bytes
 
 pub empty-exactly : (d : List ℕ) (n : ℕ) → n ≤ length d → isEmpty (take n d) ≡ eqb n 0
@@ -117,7 +93,7 @@ module _ (l : Layout) (b : Bytes) (c : Configuration) (marks : List Bool) (j : J
   abbrev n : ℕ
   n = c .mind .length
 
-  marked : (L : Letter) (x : ℕ) → GoodCondition l b (other L) x → getD marks x false ≡ (stateOf c .mental ⊨ condition (conditions L l b) x)
+  pub marked : (L : Letter) (x : ℕ) → GoodCondition l b (other L) x → getD marks x false ≡ (stateOf c .mental ⊨ condition (conditions L l b) x)
   unfolding stateOf
   marked L x k = j .marked x (k .known) ∙ condition-truth l b (j .ready .card .nodes) L (stateOf c .mental) x k
 

@@ -20,7 +20,7 @@ use Rattle.meaning.proofs.Accepted.{length-entries}
 use Rattle.layout.specs.Entries.{countOf}
 use Rattle.choices.specs.declared.ask.Chosen.{Chosen}
 use Rattle.choices.specs.Asking.{choiceAt, chosen}
-use Rattle.choices.proofs.Asking.{selectionFor, specificationFor, revisionFor}
+use Rattle.meaning.proofs.AgentEntries.{selectionFor, specificationFor, revisionFor}
 
 -- the first enabled of some choices, as the code tells it
 abbrev pub firstEnabled : Agent → Config → List Choice → Chosen

@@ -16,7 +16,7 @@ use Rattle.meaning.specs.Refusals.{nodesGood, containsOf, containing}
 use Rattle.meaning.proofs.AtomKinds.{or-none}
 use Rattle.meaning.proofs.Nodes.{node-rule, made-of, made-from, contains-at, condition-at}
 use Rattle.card.specs.GoodCard.{GoodCondition}
-use Rattle.choices.specs.Truth.{truthOf, truths}
+use Rattle.choices.specs.Truth.{truthOf, truths, other}
 
 truth-children : (σ γ : Atoms) (k a b : ℕ) (t t′ : ℕ → Bool) → (3 ≤ k → t a ≡ t′ a) → (4 ≤ k → t b ≡ t′ b) → truthOf k a b σ γ t ≡ truthOf k a b σ γ t′
 truth-children σ γ zero a b t t′ f s = refl
@@ -30,20 +30,15 @@ truth-children σ γ (suc (suc (suc (suc (suc (suc k)))))) a b t t′ f s = refl
 module _ (l : Layout) (b : Bytes) (good : nodesGood l b ≡ true) (σ γ : Atoms) where
   truth-at : (i : ℕ) → i < l .nodes .count → getD (truths l b σ γ) i false ≡ truthOf (nodeAt l b i .kind) (nodeAt l b i .a) (nodeAt l b i .b) σ γ (λ j. getD (truths l b σ γ) j false)
   unfolding truths
-  truth-at i h = made-of l b good i h (λ k a b t. truthOf k a b σ γ t) false (truth-children σ γ)
+  truth-at i h = made-of l b good i h (λ i k a b t. truthOf k a b σ γ t) false (λ i. truth-children σ γ)
 
   -- a turn of the pass: what is marked at node i by marks that are right below it
   pub truth-next : (i : ℕ) → i < l .nodes .count → (marks : List Bool) → ((j : ℕ) → j < i → getD marks j false ≡ getD (truths l b σ γ) j false)
       → truthOf (nodeAt l b i .kind) (nodeAt l b i .a) (nodeAt l b i .b) σ γ (λ j. getD marks j false) ≡ getD (truths l b σ γ) i false
   unfolding truths
-  truth-next i h marks same = made-from l b good i h (λ k a b t. truthOf k a b σ γ t) false (truth-children σ γ) (λ j. getD marks j false) same
+  truth-next i h marks same = made-from l b good i h (λ i k a b t. truthOf k a b σ γ t) false (λ i. truth-children σ γ) (λ j. getD marks j false) same
 
 -- ---- the truth of a condition of the right kind
-
--- the kind of the atoms that a query of a letter may not contain
-abbrev pub other : Letter → ℕ
-other 𝐁 = 2
-other 𝐆 = 1
 
 -- one node: its truth is that of its query, if this holds of its children and no atom is of the other kind
 node-truth : (L : Letter) (c : Config) (k a b : ℕ) → k ≤ 5 → (t : ℕ → Bool) (q : ℕ → Query L) (contains : ℕ → Bool)

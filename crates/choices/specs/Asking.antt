@@ -3,13 +3,15 @@ use mathlib.Core.Bool.{Bool, true, false, _&&_}
 use mathlib.Core.Option.{Option, none, some}
 use Prim.Native.Nat.{ℕ, zero, suc}
 use lib.ListN.{getElem?}
-use Rattle.paper.specs.Language.{Agent, Config}
+use Rattle.paper.specs.Language.{𝐁, 𝐆, Agent, Config}
 use Rattle.paper.specs.Transitions.{_⊨_, Choice, select, act, revise}
 use Rattle.paper.specs.Next.{isEmpty, startsWith, isPrefix, enabled}
 use Rattle.runs.specs.Order.{kind, number, ofKind, first}
+use Rattle.meaning.specs.declared.Refusal.{Refusal}
 use Rattle.meaning.specs.declared.Layout.{Layout}
 use Rattle.meaning.specs.declared.Configuration.{Configuration}
-use Rattle.meaning.specs.Card.{Bytes, agentFor}
+use Rattle.meaning.specs.Card.{Bytes, conditions, condition, specificationAt, selectionAt, revisionAt, agentFor}
+use Rattle.meaning.specs.Why.{falseOf, settler}
 use Rattle.meaning.specs.Configurations.{stateOf}
 use Rattle.choices.specs.declared.ask.Asked.{Asked}
 use Rattle.choices.specs.declared.ask.Chosen.{Chosen}
@@ -45,3 +47,18 @@ chosen (some k) = Chosen.At (kind k) (number k)
 -- the lowest enabled choice of a kind
 abbrev pub firstOpen : Layout → Bytes → Configuration → ℕ → Chosen
 firstOpen l b c k = chosen (first (enabled (agentFor l b) (stateOf c .mental)) (ofKind (agentFor l b) k))
+
+-- 02, Wish 1: "16 a condition is false, with the node, the belief condition before the goal condition.", of a choice that is
+-- closed by nothing else
+abbrev pub falseCondition : Layout → Bytes → Config → Choice → Refusal
+falseCondition l b c (select n) =
+    falseOf (c ⊨ condition (conditions 𝐁 l b) (selectionAt l b n .belief)) (settler 𝐁 l b c (selectionAt l b n .belief)) (settler 𝐆 l b c (selectionAt l b n .goal))
+falseCondition l b c (act n) = Refusal.Condition (settler 𝐁 l b c (specificationAt l b n .node))
+falseCondition l b c (revise n) = Refusal.Condition (settler 𝐁 l b c (revisionAt l b n .node))
+
+-- the refusal of a choice that was asked for, where q is that of a false condition
+abbrev pub refusalBy : Asked → Refusal → Refusal
+refusalBy Asked.Open q = q
+refusalBy Asked.NoRule q = Refusal.NoRule
+refusalBy Asked.Front q = Refusal.Front
+refusalBy Asked.Condition q = q

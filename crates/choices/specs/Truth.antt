@@ -5,9 +5,11 @@ use mathlib.Core.List.{List}
 use Prim.Native.Nat.{ℕ, zero, suc, _<_}
 use lib.ListN.{getD}
 use Rattle.paper.specs.Atoms.{Atoms, _∈_}
+use Rattle.paper.specs.Language.{Letter, 𝐁, 𝐆}
 use Rattle.meaning.specs.declared.Layout.{Layout}
 use Rattle.meaning.specs.declared.Mind.{Mind}
 use Rattle.meaning.specs.Card.{Bytes, nodes, pass}
+use Rattle.meaning.specs.Why.{leftIf}
 
 -- 01, "The card, edition 1": "Kind 0 true …; 1 believes a; 2 has goal a …; 3 not a …; 4 a and b; 5 a or b.", by the truth of
 -- the children. An accepted card has no other kind.
@@ -27,3 +29,18 @@ truths l b σ γ = pass (λ i n truth. truthOf (n .kind) (n .a) (n .b) σ γ tru
 -- marks that tell the truth of every node in a mind
 abbrev pub Marked : Layout → Bytes → Mind → List Bool → Type 0
 Marked l b m marks = (n : ℕ) → n < l .nodes .count → getD marks n false ≡ getD (truths l b (m .beliefs) (m .goals)) n false
+
+-- the kind of the atoms that a query of a letter may not contain
+abbrev pub other : Letter → ℕ
+other 𝐁 = 2
+other 𝐆 = 1
+
+-- 02, Wish 1: "for "not", its child's; for "and" and "or", the left child's where the left alone settles the value, else the
+-- right's": that child of a node that has one, by the truth of the left
+abbrev pub childOf : ℕ → ℕ → ℕ → Bool → ℕ
+childOf zero a b left = a
+childOf (suc zero) a b left = a
+childOf (suc (suc zero)) a b left = a
+childOf (suc (suc (suc zero))) a b left = a
+childOf (suc (suc (suc (suc zero)))) a b left = leftIf (not left) a b
+childOf (suc (suc (suc (suc (suc k))))) a b left = leftIf left a b

@@ -4,4 +4,5 @@ pub mod ask;
 pub mod configuration;
 pub mod in_place;
 pub mod room;
+pub mod settler;
 pub mod truth;

@@ -25,11 +25,11 @@ use Rattle.meaning.proofs.Tables.{done≢refused}
 use Rattle.runs.proofs.Weight.{open≢bounded}
 use Rattle.meaning.proofs.Accepted.{card-laws}
 use Rattle.demands.specs.Contracts.{Grades}
-use Rattle.demands.specs.Demands.{doneOrCard, BoundedCount}
+use Rattle.demands.specs.Demands.{doneOrCard, IsClosed, BoundedCount}
 use Rattle.demands.proofs.Among.{outside, configuration-among}
-use Rattle.demands.proofs.Choosing.{full≢not-enabled}
+use Rattle.demands.proofs.Choosing.{closed≢full}
 use Rattle.demands.proofs.Ordering.{own-order}
-use Rattle.demands.proofs.Ways.{Grading, Running, Taking, refused, not-enabled, plan-full, done, grading}
+use Rattle.demands.proofs.Ways.{Grading, Running, Taking, refused, is-closed, plan-full, done, grading}
 
 spent≢full : Ending.Spent ≡ Ending.Full → ⊥
 spent≢full e = let z : _≡_ {A = ℕ} 0 1 = cc in omega arith
@@ -91,7 +91,7 @@ module _ (b : Bytes) (g : Graded) (e : Grades b g) (v : g .verdict ≡ Verdict.B
 
     pub never-plan-full : (n : ℕ) (r : Reply) → Taking b c n r → r .answer ≡ Refused Refusal.PlanFull → ⊥
     never-plan-full n r (refused h) f = never-by-configuration b c (h ∙ f)
-    never-plan-full n r (not-enabled h l) f = full≢not-enabled (sym f)
+    never-plan-full n r (is-closed h e w l) f = closed≢full (subst IsClosed f w)
     never-plan-full n r (plan-full h k c′ m l) f =
         let j : length (c′ .π) ≤ 1024 = law .never-too-long bounded w (_then_ (m .transition) stay) in
         omega arith

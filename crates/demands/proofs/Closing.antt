@@ -22,7 +22,7 @@ use Rattle.demands.proofs.Known.{Known, known-good, known-agent, known-
 use Rattle.demands.proofs.Codes.{card-accepted}
 use Rattle.demands.proofs.Ordering.{passed-good}
 use Rattle.demands.proofs.Restoring.{restored-good, restored-known}
-use Rattle.demands.proofs.Ways.{Replying, Taking, Running, refused, not-enabled, plan-full, done, loading, restoring, taking, running}
+use Rattle.demands.proofs.Ways.{Replying, Taking, Running, refused, is-closed, plan-full, done, loading, restoring, taking, running}
 
 module _ (b : Bytes) where
   accepted-again : cardAnswer b ≡ Done → (s : State) → Known (layout b) s → OnAccepted b (configurationOf s)
@@ -43,7 +43,7 @@ module _ (b : Bytes) where
 
   took : (c : Configuration) (n : ℕ) (r : Reply) → Taking b c n r → r .answer ≡ Done → OnAccepted b (r .configuration)
   took c n r (refused e) h = absurd (done≢refused (sym h))
-  took c n r (not-enabled on x) h = absurd (done≢refused (sym h))
+  took c n r (is-closed on e w x) h = absurd (done≢refused (sym h))
   took c n r (plan-full on k c′ m l) h = absurd (done≢refused (sym h))
   took c n r (done on k c′ m l) h =
       let card = card-accepted b c on in

@@ -11,5 +11,6 @@ pub mod Known
 pub mod Restoring
 pub mod Bounding
 pub mod Testing
+pub mod Showing
 pub mod Closing
 pub mod Demands

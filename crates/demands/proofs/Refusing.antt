@@ -1,6 +1,6 @@
 -- Demand 1: what each call may answer, and what a refusal hands back.
 use mathlib.Core.Path.{_≡_, refl}
-use mathlib.Core.List.{List, [], _∷_, _++_, List·Memᴰ, List·Memᴰ·head}
+use mathlib.Core.List.{List, [], _∷_, _++_, List·Memᴰ, List·Memᴰ·head, List·Memᴰ·tail}
 use Prim.Native.Nat.{ℕ}
 use Rattle.meaning.specs.declared.Refusal.{Refusal}
 use Rattle.meaning.specs.declared.Answer.{Answer}
@@ -17,9 +17,9 @@ use Rattle.meaning.specs.Configurations.{empty}
 use Rattle.meaning.specs.Refusals.{numberOf, answerNumber}
 use Rattle.meaning.proofs.Tables.{done≢refused}
 use Rattle.meaning.specs.Numbers.{checkedNumber}
-use Rattle.demands.specs.Demands.{doneOrCard}
+use Rattle.demands.specs.Demands.{doneOrCard, IsClosed, no-rule, front, condition}
 use Rattle.demands.proofs.Among.{wider, card-among, configuration-among}
-use Rattle.demands.proofs.Ways.{Checking, Replying, Grading, Writing, Taking, Running, good, refused, done, no-room, not-enabled, plan-full}
+use Rattle.demands.proofs.Ways.{Checking, Replying, Grading, Writing, Taking, Running, good, refused, done, no-room, is-closed, plan-full}
 
 -- ---- the number
 
@@ -47,10 +47,16 @@ written-among b c xs out left r (refused h) = wider (doneOrCard ++ (13 ∷ [])) 
 written-among b c xs out left r (no-room h l) = wider (12 ∷ []) _ refl (List·Memᴰ·head refl)
 written-among b c xs out left r (done h l) = wider (0 ∷ []) _ refl (List·Memᴰ·head refl)
 
-pub taken-among : (b : Bytes) (c : Configuration) (n : ℕ) (r : Reply) → Taking b c n r → List·Memᴰ (answerNumber (r .answer)) (doneOrCard ++ (13 ∷ 10 ∷ 11 ∷ []))
+closed-among : {a : Answer} → IsClosed a → List·Memᴰ (answerNumber a) (14 ∷ 15 ∷ 16 ∷ [])
+unfolding answerNumber numberOf
+closed-among no-rule = List·Memᴰ·head refl
+closed-among front = List·Memᴰ·tail (List·Memᴰ·head refl)
+closed-among condition = List·Memᴰ·tail (List·Memᴰ·tail (List·Memᴰ·head refl))
+
+pub taken-among : (b : Bytes) (c : Configuration) (n : ℕ) (r : Reply) → Taking b c n r → List·Memᴰ (answerNumber (r .answer)) (doneOrCard ++ (13 ∷ 14 ∷ 15 ∷ 16 ∷ 11 ∷ []))
 unfolding doneOrCard answerNumber numberOf
 taken-among b c n r (refused h) = wider (doneOrCard ++ (13 ∷ [])) _ refl (at-answer _ h (configuration-among b c))
-taken-among b c n r (not-enabled h l) = wider (10 ∷ []) _ refl (List·Memᴰ·head refl)
+taken-among b c n r (is-closed h e w l) = wider (14 ∷ 15 ∷ 16 ∷ []) _ refl (closed-among w)
 taken-among b c n r (plan-full h k c′ m l) = wider (11 ∷ []) _ refl (List·Memᴰ·head refl)
 taken-among b c n r (done h k c′ m l) = wider (0 ∷ []) _ refl (List·Memᴰ·head refl)
 
@@ -76,7 +82,7 @@ written-refused b c xs out left r (done h l) q e = absurd (done≢refused e)
 
 pub taken-refused : (b : Bytes) (c : Configuration) (n : ℕ) (r : Reply) → Taking b c n r → (q : Refusal) → r .answer ≡ Refused q → r .configuration ≡ c
 taken-refused b c n r (refused h) q e = refl
-taken-refused b c n r (not-enabled h l) q e = refl
+taken-refused b c n r (is-closed h k w l) q e = refl
 taken-refused b c n r (plan-full h k c′ m l) q e = refl
 taken-refused b c n r (done h k c′ m l) q e = absurd (done≢refused e)
 

@@ -4,11 +4,12 @@ use mathlib.Core.Bool.{Bool, true, false}
 use mathlib.Core.List.{List}
 use mathlib.Core.Option.{Option, none, some}
 use Prim.Native.Nat.{ℕ, _≤_, _<_}
-use lib.Dec.{leb}
+use lib.Dec.{leb, ltb}
 use lib.ListN.{length}
 use borrow.Author.Tests.{leb-true, leb-false}
-use Rattle.paper.specs.Language.{Config}
-use Rattle.paper.specs.Transitions.{Choice}
+use Rattle.paper.specs.Language.{𝐁, 𝐆, Config}
+use Rattle.paper.specs.Transitions.{_⊨_, Choice, select, act, revise}
+use Rattle.paper.specs.Next.{isEmpty, startsWith, isPrefix}
 use Rattle.paper.proofs.Relation.{none≢some, some-inj}
 use Rattle.runs.specs.declared.Ending.{Ending}
 use Rattle.runs.specs.declared.Offender.{Offender}
@@ -18,6 +19,7 @@ use Rattle.runs.specs.Step.{after, Reached, stepBy}
 use Rattle.runs.specs.Run.{run}
 use Rattle.runs.specs.Weight.{verdict}
 use Rattle.runs.proofs.Step.{StepsTo, none-there, too-long, taken, steps-to}
+use Rattle.meaning.specs.declared.Layout.{Layout}
 use Rattle.meaning.specs.declared.Refusal.{Refusal}
 use Rattle.meaning.specs.declared.Answer.{Answer}
 use Rattle.meaning.specs.declared.Answer.the-variants.{Done, Refused}
@@ -27,14 +29,16 @@ use Rattle.meaning.specs.declared.Reply.{Reply}
 use Rattle.meaning.specs.declared.Graded.{Graded}
 use Rattle.meaning.specs.declared.Written.{Written}
 use Rattle.meaning.specs.declared.Ran.{Ran}
-use Rattle.meaning.specs.Card.{Bytes, layout, weight, agent, initialPlan, start}
+use Rattle.meaning.specs.Card as Card
+use Rattle.meaning.specs.Card.{Bytes, layout, weight, agent, initialPlan, start, conditions, plan, specificationAt, selectionAt, revisionAt}
 use Rattle.meaning.specs.Configurations.{stateOf, configurationOf, empty}
 use Rattle.meaning.specs.Place.{place, placed}
 use Rattle.meaning.specs.Refusals.{cardAnswer, placeAnswer, configurationAnswer}
+use Rattle.meaning.specs.Why.{frontFirst, ruleFirst, falseOf, settler, why, whyClosed}
 use Rattle.meaning.specs.Calls.{reply, graded, written, over, writes, leaves, lists, listLeaves, choice, ran, saves, saveLeaves}
 use Rattle.meaning.proofs.Calls.{checks-good, checks-refused, loads-good, loads-refused, grades-good, grades-refused, writes-refused, writes-room, writes-no-room, takes-refused, takes-nothing, takes-full, takes-to, runs-refused, runs-good, restores-good, restores-refused}
 use Rattle.demands.specs.Contracts.{Checks, Loads, Grades, Lists, Takes, Runs, Saves, Restores}
-use Rattle.demands.specs.Demands.{OnAccepted, ChosenMove}
+use Rattle.demands.specs.Demands.{OnAccepted, ChosenMove, IsClosed, no-rule, front, condition}
 use Rattle.demands.proofs.Codes.{coded, chosen}
 
 -- ---- check, load, grade, restore
@@ -108,9 +112,34 @@ saving b c out left r (e, f) = writing b c (place (stateOf c)) out left r e f
 
 -- ---- take
 
+rule-first : (t : Bool) {q : Refusal} → IsClosed (Refused q) → IsClosed (Refused (ruleFirst t q))
+rule-first true h = h
+rule-first false h = no-rule
+
+front-first : (t : Bool) {q : Refusal} → IsClosed (Refused q) → IsClosed (Refused (frontFirst t q))
+front-first true h = h
+front-first false h = front
+
+false-of : (t : Bool) (n m : ℕ) → IsClosed (Refused (falseOf t n m))
+false-of true n m = condition
+false-of false n m = condition
+
+-- whatever closes a choice is one of the three
+module _ (l : Layout) (b : Bytes) (c : Config) where
+  why-closed : (o : Option Choice) → IsClosed (Refused (whyClosed l b c o))
+  unfolding why
+  why-closed none = no-rule
+  why-closed (some (select n)) =
+      let e = selectionAt l b n in
+      rule-first (ltb n (l .selections .count))
+      (front-first (isEmpty (c .π))
+      (false-of (c ⊨ Card.condition (conditions 𝐁 l b) (e .belief)) (settler 𝐁 l b c (e .belief)) (settler 𝐆 l b c (e .goal))))
+  why-closed (some (act n)) = rule-first (ltb n (l .specifications .count)) (front-first (startsWith (specificationAt l b n .action) (c .π)) condition)
+  why-closed (some (revise n)) = rule-first (ltb n (l .revisions .count)) (front-first (isPrefix (plan l b (revisionAt l b n .head)) (c .π)) condition)
+
 pub data Taking (b : Bytes) (c : Configuration) (n : ℕ) : Reply → Type 0 where
   refused : {q : Refusal} → configurationAnswer b c ≡ Refused q → Taking b c n (reply (Refused q) c)
-  not-enabled : OnAccepted b c → ((k : Choice) (c′ : Config) → ChosenMove b c n k c′ → ⊥) → Taking b c n (reply (Refused Refusal.NotEnabled) c)
+  is-closed : OnAccepted b c → {q : Refusal} → q ≡ whyClosed (layout b) b (stateOf c .mental) (choice n) → IsClosed (Refused q) → ((k : Choice) (c′ : Config) → ChosenMove b c n k c′ → ⊥) → Taking b c n (reply (Refused q) c)
   plan-full : OnAccepted b c → (k : Choice) (c′ : Config) → ChosenMove b c n k c′ → 1024 < length (c′ .π) → Taking b c n (reply (Refused Refusal.PlanFull) c)
   done : OnAccepted b c → (k : Choice) (c′ : Config) → ChosenMove b c n k c′ → length (c′ .π) ≤ 1024
       → Taking b c n (reply Done (configurationOf (after (stateOf c) k c′)))
@@ -119,12 +148,12 @@ pub taking : (b : Bytes) (c : Configuration) (n : ℕ) (r : Reply) → Takes b c
 taking b c n r e = go (configurationAnswer b c) refl
   where
     by : OnAccepted b c → (k : Choice) → choice n ≡ some k → {o : Reached} → stepBy (agent b) (stateOf c) (choice n) ≡ o → StepsTo (agent b) (stateOf c) k o → Taking b c n r
-    by on k h q (none-there x) = rw (e ∙ takes-nothing b c on n q) (not-enabled on (λ j c′ m. x c′ (rw (some-inj (sym (chosen b c on m) ∙ h)) at (m .transition))))
+    by on k h q (none-there x) = rw (e ∙ takes-nothing b c on n q) (is-closed on refl (why-closed (layout b) b (stateOf c .mental) (choice n)) (λ j c′ m. x c′ (rw (some-inj (sym (chosen b c on m) ∙ h)) at (m .transition))))
     by on k h q (too-long c′ s l) = rw (e ∙ takes-full b c on n q) (plan-full on k c′ (record { coded = coded n k h; transition = s }) l)
     by on k h q (taken c′ s l) = rw (e ∙ takes-to b c on n k _ q) (done on k c′ (record { coded = coded n k h; transition = s }) l)
 
     read : OnAccepted b c → (o : Option Choice) → choice n ≡ o → Taking b c n r
-    read on none h = rw (e ∙ takes-nothing b c on n (ap (stepBy (agent b) (stateOf c)) h)) (not-enabled on (λ k c′ m. none≢some (sym h ∙ chosen b c on m)))
+    read on none h = rw (e ∙ takes-nothing b c on n (ap (stepBy (agent b) (stateOf c)) h)) (is-closed on refl (why-closed (layout b) b (stateOf c .mental) (choice n)) (λ k c′ m. none≢some (sym h ∙ chosen b c on m)))
     read on (some k) h = by on k h (ap (stepBy (agent b) (stateOf c)) h) (steps-to (agent b) (stateOf c) k)
 
     go : (a : Answer) → configurationAnswer b c ≡ a → Taking b c n r

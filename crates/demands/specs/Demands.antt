@@ -49,7 +49,7 @@ pub record Demand1 : Type 0 where
   pub list-listed : (b : Bytes) (c : Configuration) (out left : List ℕ) (r : Written) → Lists b c out r left
       → List·Memᴰ (answerNumber (r .answer)) (doneOrCard ++ (13 ∷ 12 ∷ []))
   pub take-listed : (b : Bytes) (c : Configuration) (n : ℕ) (r : Reply) → Takes b c n r
-      → List·Memᴰ (answerNumber (r .answer)) (doneOrCard ++ (13 ∷ 10 ∷ 11 ∷ []))
+      → List·Memᴰ (answerNumber (r .answer)) (doneOrCard ++ (13 ∷ 14 ∷ 15 ∷ 16 ∷ 11 ∷ []))
   pub run-listed : (b : Bytes) (c : Configuration) (budget : ℕ) (r : Ran) → Runs b c budget r
       → List·Memᴰ (answerNumber (r .answer)) (doneOrCard ++ (13 ∷ []))
   pub save-listed : (b : Bytes) (c : Configuration) (out left : Bytes) (r : Written) → Saves b c out r left
@@ -118,6 +118,15 @@ pub record ChosenMove (b : Bytes) (c : Configuration) (n : ℕ) (k : Choice) (c�
   pub coded : code k ≡ n
   pub transition : Transition b c k c′
 
+-- 02, Wish 1: "10 gives way to three in its place": what a choice that is closed is answered with.
+pub data IsClosed : Answer → Type 0 where
+  -- 02, Wish 1: "14 no such rule or specification"
+  no-rule : IsClosed (Refused Refusal.NoRule)
+  -- 02, Wish 1: "15 the plan's front doesn't fit"
+  front : IsClosed (Refused Refusal.Front)
+  -- 02, Wish 1: "16 a condition is false, with the node"
+  condition : {node : ℕ} → IsClosed (Refused (Refusal.Condition node))
+
 -- The configuration answered is the one that is handed out for a state, and stands for that state.
 pub record StandsFor (c : Configuration) (s : State) : Type 0 where
   pub handed-out : c ≡ configurationOf s
@@ -152,9 +161,10 @@ pub record Demand2 : Type 0 where
   -- guide's or a chosen one, the phase is the kind taken plus 1, modulo 3."
   pub taken-to : (b : Bytes) (c : Configuration) → OnAccepted b c → (n : ℕ) (r : Reply) → Takes b c n r
       → (k : Choice) (c′ : Config) → ChosenMove b c n k c′ → length (c′ .π) ≤ longestPlan → StandsFor (r .configuration) (after (stateOf c) k c′)
-  -- 01, "Numbers the guide may answer", row 10: "the code is no enabled choice"
-  pub not-enabled-exactly : (b : Bytes) (c : Configuration) → OnAccepted b c → (n : ℕ) (r : Reply) → Takes b c n r
-      → (r .answer ≡ Refused Refusal.NotEnabled) ↔ ((k : Choice) (c′ : Config) → ChosenMove b c n k c′ → ⊥)
+  -- 02, Wish 1: "Which choices are refused does not change": with 14, 15 or 16 exactly where 01, "Numbers the guide may answer",
+  -- row 10 has "the code is no enabled choice".
+  pub closed-exactly : (b : Bytes) (c : Configuration) → OnAccepted b c → (n : ℕ) (r : Reply) → Takes b c n r
+      → IsClosed (r .answer) ↔ ((k : Choice) (c′ : Config) → ChosenMove b c n k c′ → ⊥)
   -- 01, "Numbers the guide may answer", row 11: "the choice is enabled, but leaves more than 1,024 actions"
   pub plan-full-exactly : (b : Bytes) (c : Configuration) → OnAccepted b c → (n : ℕ) (r : Reply) → Takes b c n r
       → (r .answer ≡ Refused Refusal.PlanFull) ↔ ((k : Choice) × ((c′ : Config) × (ChosenMove b c n k c′ × (longestPlan < length (c′ .π)))))
@@ -164,7 +174,7 @@ pub record Demand2 : Type 0 where
   -- 01, "Numbers the guide may answer", row 10: "the code is no enabled choice": none of "The list of enabled choices".
   pub offered : (b : Bytes) (c : Configuration) → OnAccepted b c → (out left : List ℕ) (r : Written) → Lists b c out r left
       → r .answer ≡ Done → (n : ℕ) (r′ : Reply) → Takes b c n r′
-      → List·Memᴰ n (take (r .count) left) ↔ (r′ .answer ≡ Refused Refusal.NotEnabled → ⊥)
+      → List·Memᴰ n (take (r .count) left) ↔ (IsClosed (r′ .answer) → ⊥)
   -- 00, demand 2: "The guide's own order is document 01's.": which move is the guide's, from any state.
   pub own-move : (b : Bytes) (s : State) → Runs.OrderLaws (agent b) s
   -- 00, demand 2: "The guide's own order is document 01's.": a run takes the guide's moves, each step of the chain.

@@ -1,4 +1,5 @@
 pub mod Contracts
 pub mod Demands
 pub mod Closed
+pub mod Shown
 pub mod TestOrder

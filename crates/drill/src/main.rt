@@ -4,6 +4,7 @@
 ghost use mathlib.Core.Path.{_≡_};
 ghost use Prim.Native.Nat.{_≤_};
 ghost use lib.ListN.{length};
+use answers::answer_node;
 use answers::answer_number;
 use answers::ending_number;
 use answers::refusal_number;
@@ -266,7 +267,7 @@ fn list(card: &[u8]) -> bool {
     true
 }
 
-// Request 5.
+// Request 5: "number (2), … the node (2: with 16 the one that settled it, else 0), image"
 fn take(card: &[u8]) -> bool {
     let asked = next_image();
     if !asked.whole {
@@ -281,6 +282,7 @@ fn take(card: &[u8]) -> bool {
     let a = r.answer;
     let next = r.configuration;
     tell(answer_number(a));
+    tell(answer_node(a));
     tell_image(next);
     true
 }

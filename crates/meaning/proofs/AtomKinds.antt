@@ -30,7 +30,7 @@ own : {kind : ℕ} → AtomKind kind → (a b : ℕ) (f : ℕ → Bool) → cont
 own belief a b f = refl
 own goal a b f = refl
 
-first-free : (kind k a b : ℕ) (f : ℕ → Bool) → 3 ≤ k → k ≤ 5 → containsOf kind k a b f ≡ false → f a ≡ false
+pub first-free : (kind k a b : ℕ) (f : ℕ → Bool) → 3 ≤ k → k ≤ 5 → containsOf kind k a b f ≡ false → f a ≡ false
 first-free kind zero a b f h m e = absurd (omega arith)
 first-free kind (suc zero) a b f h m e = absurd (omega arith)
 first-free kind (suc (suc zero)) a b f h m e = absurd (omega arith)
@@ -39,7 +39,7 @@ first-free kind (suc (suc (suc (suc zero)))) a b f h m e = or-none (f a) (f b) e
 first-free kind (suc (suc (suc (suc (suc zero))))) a b f h m e = or-none (f a) (f b) e .0
 first-free kind (suc (suc (suc (suc (suc (suc k)))))) a b f h m e = absurd (omega arith)
 
-second-free : (kind k a b : ℕ) (f : ℕ → Bool) → 4 ≤ k → k ≤ 5 → containsOf kind k a b f ≡ false → f b ≡ false
+pub second-free : (kind k a b : ℕ) (f : ℕ → Bool) → 4 ≤ k → k ≤ 5 → containsOf kind k a b f ≡ false → f b ≡ false
 second-free kind zero a b f h m e = absurd (omega arith)
 second-free kind (suc zero) a b f h m e = absurd (omega arith)
 second-free kind (suc (suc zero)) a b f h m e = absurd (omega arith)

@@ -23,6 +23,7 @@ use Rattle.meaning.specs.declared.Configuration.{Configuration}
 use Rattle.meaning.specs.Configurations.{stateOf, configurationOf, empty}
 use Rattle.meaning.specs.Refusals.{cardAnswer, placeAnswer, _given-when_, andThen, firstGiven, configurationGood, configurationTable, configurationAnswer}
 use Rattle.meaning.specs.Place.{place, placed}
+use Rattle.meaning.specs.Why.{whyClosed}
 use Rattle.meaning.specs.Calls.{checks, reply, loads, graded, grades, written, over, roomFor, writeAnswer, writes, leaves, lists, listLeaves, choice, takes, ran, runs, saves, saveLeaves, restores}
 use Rattle.meaning.proofs.Tables.{given, not-given}
 
@@ -90,7 +91,7 @@ module _ (b : Bytes) (c : Configuration) where
   runs-refused budget r e = rw (e, runs)
 
 module _ (b : Bytes) (c : Configuration) (good : configurationAnswer b c ≡ Done) where
-  pub takes-nothing : (code : ℕ) → stepBy (agent b) (stateOf c) (choice code) ≡ nothing → takes b c code ≡ reply (Refused Refusal.NotEnabled) c
+  pub takes-nothing : (code : ℕ) → stepBy (agent b) (stateOf c) (choice code) ≡ nothing → takes b c code ≡ reply (Refused (whyClosed (layout b) b (stateOf c .mental) (choice code))) c
   unfolding takes
   takes-nothing code e = rw (good, takes, e)
 

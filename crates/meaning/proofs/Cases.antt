@@ -3,11 +3,11 @@ use mathlib.Core.Path.{refl}
 use mathlib.Core.List.{flatten}
 use Rattle.meaning.specs.Stripe.{assembled, set, specification, selection, revision, stripeWith, stripe, stripe-P4, stripe-P5, stripe-P9, stripe-P10, stripe-P13}
 use Rattle.meaning.specs.Numbers.{checkedNumber, endingNumber, verdictNumber, verdictOffender, verdictRule, offenderNumber, offenderRule}
-use Rattle.meaning.specs.Cases.{shown, shownCheck, shownReply, shownGrade, shownWritten, shownRun, configuration, loaded, afterSteps, guideCode, stepLine, takenInTurn, placeP7, resting, PCases}
+use Rattle.meaning.specs.Cases.{shown, shownCheck, shownReply, shownTake, shownGrade, shownWritten, shownRun, configuration, loaded, afterSteps, guideCode, stepLine, takenInTurn, placeP7, resting, PCases, ClosedCases}
 use Rattle.meaning.proofs.Computing.{computing}
 
 pub P-cases : PCases
-unfolding computing checkedNumber flatten assembled set specification selection revision stripeWith stripe stripe-P4 stripe-P5 stripe-P9 stripe-P10 stripe-P13 endingNumber verdictNumber verdictOffender verdictRule offenderNumber offenderRule shown shownCheck shownReply shownGrade shownWritten shownRun configuration loaded afterSteps guideCode stepLine takenInTurn placeP7 resting
+unfolding computing checkedNumber flatten assembled set specification selection revision stripeWith stripe stripe-P4 stripe-P5 stripe-P9 stripe-P10 stripe-P13 endingNumber verdictNumber verdictOffender verdictRule offenderNumber offenderRule shown shownCheck shownReply shownTake shownGrade shownWritten shownRun configuration loaded afterSteps guideCode stepLine takenInTurn placeP7 resting
 P-cases =
     record {
       accepted = refl;
@@ -34,3 +34,7 @@ P-cases =
       P12-rest-no-room = refl;
       P13 = refl;
     }
+
+pub closed-cases : ClosedCases
+unfolding computing flatten assembled set specification selection revision stripeWith stripe shown shownTake configuration
+closed-cases = record { missing = refl; in-the-way = refl; front = refl; no-specification = refl; no-kind = refl }

@@ -10,4 +10,6 @@ pub mod Pass
 pub mod Nodes
 pub mod Places
 pub mod Entries
+pub mod AgentEntries
 pub mod AtomKinds
+pub mod Settling

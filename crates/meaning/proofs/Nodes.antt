@@ -66,24 +66,24 @@ module _ (l : Layout) (b : Bytes) where
     node-rule = rule (l .atoms) i (x .kind) (x .a) (x .b) (both (kindGood (l .atoms) i (x .kind) (x .a) (x .b)) _ (every-at (λ i. nodeGood (l .atoms) i (nodeAt l b i)) (l .nodes .count) i good h) .0)
 
     -- what a pass makes of node i, if it looks at the children that the kind has
-    module _ {X : Type 0} (make : ℕ → ℕ → ℕ → (ℕ → X) → X) (other : X)
-        (children : (k a b : ℕ) (q q′ : ℕ → X) → (3 ≤ k → q a ≡ q′ a) → (4 ≤ k → q b ≡ q′ b) → make k a b q ≡ make k a b q′) where
+    module _ {X : Type 0} (make : ℕ → ℕ → ℕ → ℕ → (ℕ → X) → X) (other : X)
+        (children : (i k a b : ℕ) (q q′ : ℕ → X) → (3 ≤ k → q a ≡ q′ a) → (4 ≤ k → q b ≡ q′ b) → make i k a b q ≡ make i k a b q′) where
       abbrev made : List X
-      made = pass (λ i n q. make (n .kind) (n .a) (n .b) q) other (nodes l b)
+      made = pass (λ i n q. make i (n .kind) (n .a) (n .b) q) other (nodes l b)
 
-      pub made-of : getD made i other ≡ make (x .kind) (x .a) (x .b) (λ j. getD made j other)
+      pub made-of : getD made i other ≡ make i (x .kind) (x .a) (x .b) (λ j. getD made j other)
       made-of =
           let e : getD (nodes l b) i x ≡ x = node-at i x h in
           let r = node-rule in
-          let p = pass-at (λ i n q. make (n .kind) (n .a) (n .b) q) other (nodes l b) i x (rw length-nodes h)
-          (rw e (λ q q′ same. children (x .kind) (x .a) (x .b) q q′ (λ k. same (x .a) (r .first k)) (λ k. same (x .b) (r .second k)))) in
+          let p = pass-at (λ i n q. make i (n .kind) (n .a) (n .b) q) other (nodes l b) i x (rw length-nodes h)
+          (rw e (λ q q′ same. children i (x .kind) (x .a) (x .b) q q′ (λ k. same (x .a) (r .first k)) (λ k. same (x .b) (r .second k)))) in
           rw e at p
 
       -- the same, from what is right below node i
-      pub made-from : (q : ℕ → X) → ((j : ℕ) → j < i → q j ≡ getD made j other) → make (x .kind) (x .a) (x .b) q ≡ getD made i other
+      pub made-from : (q : ℕ → X) → ((j : ℕ) → j < i → q j ≡ getD made j other) → make i (x .kind) (x .a) (x .b) q ≡ getD made i other
       made-from q same =
           let r = node-rule in
-          children (x .kind) (x .a) (x .b) q (λ j. getD made j other) (λ k. same (x .a) (r .first k)) (λ k. same (x .b) (r .second k)) ∙ sym made-of
+          children i (x .kind) (x .a) (x .b) q (λ j. getD made j other) (λ k. same (x .a) (r .first k)) (λ k. same (x .b) (r .second k)) ∙ sym made-of
 
 -- ---- what is made of a node looks at the children that its kind has
 
@@ -111,9 +111,9 @@ module _ (l : Layout) (b : Bytes) (good : nodesGood l b ≡ true) (i : ℕ) (h :
   pub contains-at : (kind : ℕ)
       → getD (containing kind l b) i false ≡ containsOf kind (nodeAt l b i .kind) (nodeAt l b i .a) (nodeAt l b i .b) (λ j. getD (containing kind l b) j false)
   unfolding containing
-  contains-at kind = made-of l b good i h (containsOf kind) false (contains-children kind)
+  contains-at kind = made-of l b good i h (λ i. containsOf kind) false (λ i. contains-children kind)
 
   pub condition-at : (L : Letter)
       → getD (conditions L l b) i ⊤ ≡ queryOf L (nodeAt l b i .kind) (nodeAt l b i .a) (nodeAt l b i .b) (λ j. getD (conditions L l b) j ⊤)
   unfolding conditions
-  condition-at L = made-of l b good i h (queryOf L) ⊤ (query-children L)
+  condition-at L = made-of l b good i h (λ i. queryOf L) ⊤ (λ i. query-children L)

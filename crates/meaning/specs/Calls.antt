@@ -29,6 +29,7 @@ use Rattle.meaning.specs.Card.{Bytes, layout, weight, agent, initialPlan
 use Rattle.meaning.specs.Configurations.{stateOf, configurationOf, empty}
 use Rattle.meaning.specs.Place.{place, placed}
 use Rattle.meaning.specs.Refusals.{cardAnswer, placeAnswer, configurationAnswer}
+use Rattle.meaning.specs.Why.{whyClosed}
 
 -- ---- check, load, grade
 
@@ -119,13 +120,14 @@ choiceOf (suc (suc (suc k))) n = none
 unfoldable pub choice : ℕ → Option Choice
 choice k = choiceOf (k / 256) (k % 256)
 
--- 00, demand 2: "A chosen move is taken exactly if it is such a transition and its plan fits." 01, "Numbers the guide may
--- answer", row 10: "the code is no enabled choice"; row 11: "the choice is enabled, but leaves more than 1,024 actions".
+-- 00, demand 2: "A chosen move is taken exactly if it is such a transition and its plan fits." 02, Wish 1: "Refusals: 10 gives
+-- way to three in its place", where 01, "Numbers the guide may answer", row 10 has "the code is no enabled choice"; row 11: "the
+-- choice is enabled, but leaves more than 1,024 actions".
 unfoldable pub takes : Bytes → Configuration → ℕ → Reply
 takes b c code = elim (configurationAnswer b c) [
   | Refused r ↦ reply (Refused r) c
   | Done ↦ elim (stepBy (agent b) (stateOf c) (choice code)) [
-    | nothing ↦ reply (Refused Refusal.NotEnabled) c
+    | nothing ↦ reply (Refused (whyClosed (layout b) b (stateOf c .mental) (choice code))) c
     | full ↦ reply (Refused Refusal.PlanFull) c
     | to k s ↦ reply Done (configurationOf s)
   ]

@@ -17,7 +17,7 @@ use Rattle.meaning.specs.declared.Written.{Written}
 use Rattle.meaning.specs.declared.Ran.{Ran}
 use Rattle.meaning.specs.Card.{Bytes, weight, agent}
 use Rattle.meaning.specs.Configurations.{stateOf, configurationOf}
-use Rattle.meaning.specs.Refusals.{answerNumber}
+use Rattle.meaning.specs.Refusals.{answerNumber, answerNode}
 use Rattle.meaning.specs.Numbers.{checkedNumber, endingNumber, verdictNumber, verdictOffender, verdictRule}
 use Rattle.meaning.specs.Calls.{checks, loads, grades, lists, listLeaves, takes, runs, saves, saveLeaves, restores}
 use Rattle.meaning.specs.Stripe.{set, stripe, stripe-P4, stripe-P5, stripe-P9, stripe-P10, stripe-P13}
@@ -36,6 +36,10 @@ shownCheck v = checkedNumber v ∷ []
 -- PCases.
 unfoldable pub shownReply : Reply → List ℕ
 shownReply r = answerNumber (r .answer) ∷ shown (r .configuration)
+
+-- What take answers: the number, the node that is shown, then the configuration.
+unfoldable pub shownTake : Reply → List ℕ
+shownTake r = answerNumber (r .answer) ∷ answerNode (r .answer) ∷ shown (r .configuration)
 
 -- What grading answers in numbers: 01, "Numbers the guide may answer": "no."; then the verdict, its
 -- offender's kind and number. Serves PCases.
@@ -113,10 +117,10 @@ pub record PCases : Type 0 where
   pub P3 : shownRun (runs stripe (afterSteps 6) 0) ≡ 0 ∷ 0 ∷ 0 ∷ resting
   -- 01, P4: "Add {2}, Del {2}, goals {2}: atom 2 is in neither set afterwards." Atom 1 is believed, so that weave is enabled.
   pub P4 : shownReply (takes stripe-P4 (configuration (set 2) (set 4) 0 (0 ∷ [])) 256) ≡ 0 ∷ (set 2 ++ (set 0 ++ (2 ∷ [])))
-  -- 01, P5: "Plan 3, head 3 0: not enabled."
-  pub P5 : shownReply (takes stripe-P5 (configuration (set 8) (set 4) 0 (3 ∷ [])) 513) ≡ 10 ∷ (set 8 ++ (set 4 ++ (0 ∷ 3 ∷ [])))
-  -- 01, P6: "Plan 3, atom 3 not believed, choice 513: refusal 10."
-  pub P6 : shownReply (takes stripe (configuration (set 1) (set 4) 0 (3 ∷ [])) 513) ≡ 10 ∷ (set 1 ++ (set 4 ++ (0 ∷ 3 ∷ [])))
+  -- 01, P5: "Plan 3, head 3 0: not enabled."; 02, Wish 1: "15 the plan's front doesn't fit (…, other head)".
+  pub P5 : shownTake (takes stripe-P5 (configuration (set 8) (set 4) 0 (3 ∷ [])) 513) ≡ 15 ∷ 0 ∷ (set 8 ++ (set 4 ++ (0 ∷ 3 ∷ [])))
+  -- 01, P6: "Plan 3, atom 3 not believed, choice 513: refusal 10."; 02, Wish 1: "P6 becomes 16 with node 2."
+  pub P6 : shownTake (takes stripe (configuration (set 1) (set 4) 0 (3 ∷ [])) 513) ≡ 16 ∷ 2 ∷ (set 1 ++ (set 4 ++ (0 ∷ 3 ∷ [])))
   -- 01, P7: "After step 4 the place is 33 50 01 00 02 00 2C 00 00 00 00 00, then …"; the lent buffer has a byte more, which stays.
   pub P7 : shownWritten (saves stripe (afterSteps 4) (replicate 47 0xEE)) (saveLeaves stripe (afterSteps 4) (replicate 47 0xEE))
       ≡ 0 ∷ 46 ∷ (placeP7 0 ++ (0xEE ∷ []))
@@ -144,3 +148,16 @@ pub record PCases : Type 0 where
   pub P12-rest-no-room : shownWritten (lists stripe (afterSteps 6) []) (listLeaves stripe (afterSteps 6) []) ≡ 0 ∷ 0 ∷ []
   -- 01, P13: "Node 0 "not 0": refusal 6."
   pub P13 : shownCheck (checks stripe-P13) ≡ 6 ∷ []
+
+-- Where P6 cannot tell the node from the condition's root: 01, "The stripe card": "Specifications: 0 weave if node 4", "1 believes
+-- 1; 2 believes 3; 3 not 2; 4 1 and 3". The choice is 256, of specification 0.
+pub record ClosedCases : Type 0 where
+  -- 02, Wish 1: "the left child's where the left alone settles the value": atom 1 is missing.
+  pub missing : shownTake (takes stripe (configuration (set 8) (set 4) 0 (0 ∷ [])) 256) ≡ 16 ∷ 1 ∷ (set 8 ++ (set 4 ++ (0 ∷ 0 ∷ [])))
+  -- 02, Wish 1: "else the right's", "for "not", its child's": atom 3 is in the way.
+  pub in-the-way : shownTake (takes stripe (configuration (set 10) (set 4) 0 (0 ∷ [])) 256) ≡ 16 ∷ 2 ∷ (set 10 ++ (set 4 ++ (0 ∷ 0 ∷ [])))
+  -- 02, Wish 1: "15 the plan's front doesn't fit (…, other first action, …)", though the condition is false too.
+  pub front : shownTake (takes stripe (configuration (set 8) (set 4) 0 (1 ∷ [])) 256) ≡ 15 ∷ 0 ∷ (set 8 ++ (set 4 ++ (0 ∷ 1 ∷ [])))
+  -- 02, Wish 1: "14 no such rule or specification": specification 3, and a kind that there is not.
+  pub no-specification : shownTake (takes stripe (configuration (set 8) (set 4) 0 (0 ∷ [])) 259) ≡ 14 ∷ 0 ∷ (set 8 ++ (set 4 ++ (0 ∷ 0 ∷ [])))
+  pub no-kind : shownTake (takes stripe (configuration (set 8) (set 4) 0 (0 ∷ [])) 768) ≡ 14 ∷ 0 ∷ (set 8 ++ (set 4 ++ (0 ∷ 0 ∷ [])))

@@ -2,6 +2,7 @@ pub mod Card
 pub mod Configurations
 pub mod Place
 pub mod Refusals
+pub mod Why
 pub mod Calls
 pub mod Numbers
 pub mod Theorems

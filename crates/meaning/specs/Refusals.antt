@@ -20,7 +20,8 @@ use Rattle.meaning.specs.declared.SelectionEntry.{SelectionEntry}
 use Rattle.meaning.specs.declared.RevisionEntry.{RevisionEntry}
 use Rattle.meaning.specs.Card.{Bytes, byte, numberAt, part, layout, weightAt, nodeAt, nodes, pass, specificationAt, selectionAt, revisionAt, initialBeliefs, initialGoals}
 
--- 01, "Numbers the guide may answer": the columns "no." and "name".
+-- 01, "Numbers the guide may answer": the columns "no." and "name"; 02, Wish 1: "10 gives way to three in its place", 14, 15 and
+-- 16.
 unfoldable pub numberOf : Refusal → ℕ
 numberOf Refusal.Short = 1
 numberOf Refusal.Mark = 2
@@ -32,7 +33,9 @@ numberOf Refusal.Rule = 7
 numberOf Refusal.ActionByte = 8
 numberOf Refusal.Atom = 9
 numberOf Refusal.Configuration = 13
-numberOf Refusal.NotEnabled = 10
+numberOf Refusal.NoRule = 14
+numberOf Refusal.Front = 15
+numberOf (Refusal.Condition n) = 16
 numberOf Refusal.PlanFull = 11
 numberOf Refusal.NoRoom = 12
 
@@ -40,6 +43,30 @@ numberOf Refusal.NoRoom = 12
 unfoldable pub answerNumber : Answer → ℕ
 answerNumber Done = 0
 answerNumber (Refused r) = numberOf r
+
+-- 02, Wish 1: "16 a condition is false, with the node": the number that a refusal carries, and 0 where it carries none
+-- (docs/DECISIONS.md, "Numbers in refusals").
+unfoldable pub carried : Refusal → ℕ
+carried (Refusal.Condition n) = n
+carried Refusal.Short = 0
+carried Refusal.Mark = 0
+carried Refusal.Count = 0
+carried Refusal.Offsets = 0
+carried Refusal.Weight = 0
+carried Refusal.Node = 0
+carried Refusal.Rule = 0
+carried Refusal.ActionByte = 0
+carried Refusal.Atom = 0
+carried Refusal.Configuration = 0
+carried Refusal.NoRule = 0
+carried Refusal.Front = 0
+carried Refusal.PlanFull = 0
+carried Refusal.NoRoom = 0
+
+-- 02, Wish 1: "only a refused choice shows it": the node that an answer shows, and 0 where it shows none.
+unfoldable pub answerNode : Answer → ℕ
+answerNode Done = 0
+answerNode (Refused r) = carried r
 
 -- 01, "Numbers the guide may answer": a row of the table.
 pub record Row (X : Type 0) : Type 0 where

@@ -1,10 +1,12 @@
 -- What is proved of a card's meaning (in proofs/).
 use mathlib.Core.Path.{_≡_}
 use mathlib.Core.Logic.{_↔_}
-use mathlib.Core.Bool.{true, false}
+use mathlib.Core.Bool.{Bool, true, false, not}
 use mathlib.Core.List.{List, [], _∷_, _++_, map, List·Memᴰ}
 use Prim.Native.Nat.{ℕ, _≤_, _<_}
-use lib.ListN.{length}
+use lib.ListN.{length, getD}
+use Rattle.paper.specs.Language.{Letter, Config}
+use Rattle.paper.specs.Transitions.{_⊨_}
 use Rattle.paper.specs.Theorems.{AreBytes}
 use Rattle.runs.specs.Limits.{longestPlan}
 use Rattle.runs.specs.Order.{State}
@@ -13,7 +15,8 @@ use Rattle.meaning.specs.declared.Refusal.{Refusal}
 use Rattle.meaning.specs.declared.Answer.the-variants.{Done, Refused}
 use Rattle.meaning.specs.declared.Layout.{Layout}
 use Rattle.meaning.specs.declared.Configuration.{Configuration}
-use Rattle.meaning.specs.Card.{Bytes, layout, nodeAt, specificationAt, selectionAt, revisionAt, weight, agent, initialPlan}
+use Rattle.meaning.specs.Card.{Bytes, layout, nodeAt, conditions, condition, specificationAt, selectionAt, revisionAt, weight, agent, initialPlan}
+use Rattle.meaning.specs.Why.{settler, turns}
 use Rattle.meaning.specs.Configurations.{stateOf, configurationOf}
 use Rattle.meaning.specs.Place.{place, placed}
 use Rattle.meaning.specs.Refusals.{numberOf, cardAnswer, Row, firstGiven, cardTable, configurationTable, placeTable, configurationGood}
@@ -96,6 +99,24 @@ pub record KindLaws (b : Bytes) : Type 0 where
 -- The same of every accepted card.
 abbrev pub KindLaw : Type 0
 KindLaw = (b : Bytes) → cardAnswer b ≡ Done → KindLaws b
+
+-- A value turned, or not. Serves SettlerLaws.
+abbrev pub turnedBy : Bool → Bool → Bool
+turnedBy false v = v
+turnedBy true v = not v
+
+-- 02, Wish 1: "Judging a condition should also name the atom that settled it", of a node's condition, read by a letter.
+pub record SettlerLaws (L : Letter) (l : Layout) (b : Bytes) (c : Config) (n : ℕ) : Type 0 where
+  -- the node is one of the condition's own
+  pub own : StandsIn l b (settler L l b c n) n
+  -- 02, Wish 1: "for an atom or "true", that node": it is one of these
+  pub leaf : nodeAt l b (settler L l b c n) .kind ≤ 2
+  -- the condition's value is that node's value, turned once for each "not" on the way to it
+  pub value : (c ⊨ condition (conditions L l b) n) ≡ turnedBy (getD (turns L l b c) n false) (c ⊨ condition (conditions L l b) (settler L l b c n))
+
+-- The same of every node of an accepted card, and every configuration.
+abbrev pub SettlerLaw : Type 0
+SettlerLaw = (b : Bytes) → cardAnswer b ≡ Done → (L : Letter) (c : Config) (n : ℕ) → n < layout b .nodes .count → SettlerLaws L (layout b) b c n
 
 -- 00, demand 2: "On an accepted card and configuration": one that passes row 13 is known by its state, and a state that fits by
 -- its configuration.

@@ -3,7 +3,8 @@
 use runs::Ending;
 use runs::Verdict;
 
-// 01, "Numbers the guide may answer": the rows of the table but the first, by their names, in its order.
+// 01, "Numbers the guide may answer": the rows of the table but the first, by their names, in its order; in the place of "not
+// enabled" the three of 02, Wish 1: no such rule or specification, the plan's front, a condition with the node that settled it.
 pub enum Refusal {
     Short,
     Mark,
@@ -15,7 +16,9 @@ pub enum Refusal {
     ActionByte,
     Atom,
     Configuration,
-    NotEnabled,
+    NoRule,
+    Front,
+    Condition(usize),
     PlanFull,
     NoRoom,
 }

@@ -24,7 +24,8 @@ use Rattle.meaning.specs.Configurations.{stateOf}
 use Rattle.meaning.proofs.Parts.{length-part}
 use Rattle.card.specs.GoodCard.{GoodSpan}
 use Rattle.choices.specs.Ready.{Ready}
-use Rattle.choices.proofs.Asking.{isOpen, open-enabled, selectionFor, specificationFor, revisionFor, selection-entry, specification-entry, revision-entry, empty-exactly, first-exactly, known-number}
+use Rattle.meaning.proofs.AgentEntries.{selectionFor, specificationFor, revisionFor, selection-entry, specification-entry, revision-entry}
+use Rattle.choices.proofs.Asking.{isOpen, open-enabled, empty-exactly, first-exactly, known-number}
 use Rattle.moves.specs.Steps.{Open}
 
 -- what is enabled may be applied

@@ -59,24 +59,24 @@ Open l b c k = asked (agentFor l b) (stateOf c .mental) k ≡ Asked.Open
 abbrev pub takenTo : List ℕ → List ℕ → ℕ → ℕ → ℕ → Stepped
 takenTo b g n k i = record { mind = record { beliefs = b; goals = g; length = n; phase = (k + 1) % 3 }; transition = Transition.Taken k i }
 
--- 01, "Numbers the guide may answer", rows 0, 10 and 11
-abbrev pub answerTo : Transition → Answer
-answerTo (Transition.Taken k i) = Done
-answerTo Transition.Nothing = Refused Refusal.NotEnabled
-answerTo Transition.Full = Refused Refusal.PlanFull
+-- 01, "Numbers the guide may answer", rows 0 and 11; q is the refusal of a choice that has no transition
+abbrev pub answerTo : Refusal → Transition → Answer
+answerTo q (Transition.Taken k i) = Done
+answerTo q Transition.Nothing = Refused q
+answerTo q Transition.Full = Refused Refusal.PlanFull
 
 -- why the choice of a code is closed, if it is: where there is none, 02, Wish 1: "no such rule or specification"
 abbrev pub askedFor : Agent → Config → Option Choice → Asked
 askedFor A c none = Asked.NoRule
 askedFor A c (some k) = asked A c k
 
--- 01, "Numbers the guide may answer", row 10: "the code is no enabled choice", whatever the reason
-abbrev pub answerAsked : Asked → Answer
-answerAsked Asked.Open = Done
-answerAsked Asked.NoRule = Refused Refusal.NotEnabled
-answerAsked Asked.Front = Refused Refusal.NotEnabled
-answerAsked Asked.Condition = Refused Refusal.NotEnabled
+-- done where a choice that was asked for is open, and else the refusal q: 02, Wish 1: "10 gives way to three in its place"
+abbrev pub answerAsked : Asked → Refusal → Answer
+answerAsked Asked.Open q = Done
+answerAsked Asked.NoRule q = Refused q
+answerAsked Asked.Front q = Refused q
+answerAsked Asked.Condition q = Refused q
 
 -- what taking a choice answers
-abbrev pub takenBy : Reached → Configuration → Reply
-takenBy o c = reply (answerTo (transitionOf o)) (configurationAfter o c)
+abbrev pub takenBy : Refusal → Reached → Configuration → Reply
+takenBy q o c = reply (answerTo q (transitionOf o)) (configurationAfter o c)

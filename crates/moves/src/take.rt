@@ -3,6 +3,8 @@ ghost use mathlib.Core.Path.{_≡_};
 ghost use Rattle.runs.specs.Step.{stepBy};
 ghost use Rattle.meaning.specs.Card.{agentFor};
 ghost use Rattle.meaning.specs.Configurations.{stateOf};
+ghost use Rattle.meaning.specs.declared.Refusal.{Refusal};
+ghost use Rattle.meaning.specs.Why.{whyClosed};
 ghost use Rattle.meaning.specs.Calls.{choice, takes};
 ghost use Rattle.layout.specs.PlaceParts.{lent};
 ghost use Rattle.choices.specs.Ready.{Ready, Judged};
@@ -16,6 +18,7 @@ use choices::ask::Asked;
 use choices::ask::ask;
 use choices::configuration::judge_configuration;
 use choices::in_place::ReplyInPlace;
+use choices::settler::false_condition;
 use choices::truth::judge_nodes;
 use choices::truth::no_marks;
 use meaning::Answer;
@@ -43,25 +46,40 @@ fn ask_code(
     ask(card, l, m, plan, marks, kind as u8, (code % 256) as usize)
 }
 
-// Row 10: done where a choice that was asked for is open, and 10 for each reason why it is closed.
-fn answer_asked(asked: Asked) -> Answer
-    ensures { λ r. ⌜ r ≡ answerAsked asked ⌝ }
+// 02, Wish 1: "Refusals: 10 gives way to three in its place and this order": done where the choice of a code, which was asked
+// for, is open.
+fn answer_asked(
+    card: &[u8],
+    l: Layout,
+    m: Mind,
+    plan: &[u8; 1024],
+    marks: &[bool; 256],
+    asked: Asked,
+    code: u16,
+) -> Answer
+    requires { ⌜ Judged l (now card) (lent m (now plan)) (now marks) ⌝ }
+    requires { ⌜ asked ≡ askedFor (agentFor l (now card)) (stateOf (lent m (now plan)) .mental) (choice code) ⌝ }
+    ensures { λ r. ⌜ r ≡ answerAsked asked (whyClosed l (now (card .entry)) (stateOf (lent m (now (plan .entry))) .mental) (choice code)) ⌝ }
 {
     match asked {
         Asked::Open => Answer::Done,
-        Asked::NoRule => Answer::Refused(Refusal::NotEnabled),
-        Asked::Front => Answer::Refused(Refusal::NotEnabled),
-        Asked::Condition => Answer::Refused(Refusal::NotEnabled),
+        Asked::NoRule => Answer::Refused(Refusal::NoRule),
+        Asked::Front => Answer::Refused(Refusal::Front),
+        Asked::Condition => {
+            let kind = (code / 256) as u8;
+            let i = (code % 256) as usize;
+            Answer::Refused(false_condition(card, l, m, plan, marks, kind, i))
+        }
     }
 }
 
 // Row 11: what is answered of what a transition comes to. Of an open choice there is one, and done or 11 is answered.
 fn answer_to(transition: Transition) -> Answer
-    ensures { λ r. ⌜ r ≡ answerTo transition ⌝ }
+    ensures { λ r. ⌜ r ≡ answerTo Refusal.NoRule transition ⌝ }
 {
     match transition {
         Transition::Taken(_, _) => Answer::Done,
-        Transition::Nothing => Answer::Refused(Refusal::NotEnabled),
+        Transition::Nothing => Answer::Refused(Refusal::NoRule),
         Transition::Full => Answer::Refused(Refusal::PlanFull),
     }
 }
@@ -70,14 +88,16 @@ fn answer_to(transition: Transition) -> Answer
 fn take_choice(card: &[u8], l: Layout, m: Mind, plan: &mut [u8; 1024], code: u16) -> ReplyInPlace
     requires { ⌜ Ready l (now card) (lent m (now plan)) ⌝ }
     ensures { λ r. ⌜ replyWith r (now (plan .exit))
-        ≡ takenBy (stepBy (agentFor l (now (card .entry))) (stateOf (lent m (now (plan .entry)))) (choice code)) (lent m (now (plan .entry))) ⌝ }
+        ≡ takenBy (whyClosed l (now (card .entry)) (stateOf (lent m (now (plan .entry))) .mental) (choice code))
+        (stepBy (agentFor l (now (card .entry))) (stateOf (lent m (now (plan .entry)))) (choice code)) (lent m (now (plan .entry))) ⌝ }
 {
     let mut marks = no_marks();
     judge_nodes(card, l, m, &mut marks);
-    let asked = answer_asked(ask_code(card, l, m, plan, &marks, code));
-    let Answer::Done = asked else {
+    let asked = ask_code(card, l, m, plan, &marks, code);
+    let answer = answer_asked(card, l, m, plan, &marks, asked, code);
+    let Answer::Done = answer else {
         return ReplyInPlace {
-            answer: asked,
+            answer: answer,
             mind: m,
         };
     };

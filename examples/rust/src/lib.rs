@@ -6,7 +6,7 @@
 mod parts;
 mod words;
 
-use words::done;
+use words::{done, done_or_closed};
 pub use words::{Choice, Ending, Offender, Refusal, Verdict};
 
 pub const SET_BYTES: usize = 16;
@@ -102,7 +102,8 @@ pub fn list(card: &[u8], c: &Configuration, list: &mut [u16]) -> Result<usize, R
 
 /// Takes a chosen move, by its code.
 pub fn take(card: &[u8], c: &mut Configuration, choice: u16) -> Result<(), Refusal> {
-    done(unsafe {
+    let mut node = 0;
+    let answer = unsafe {
         parts::rigtemple_take_parts(
             card.as_ptr(),
             card.len(),
@@ -112,8 +113,10 @@ pub fn take(card: &[u8], c: &mut Configuration, choice: u16) -> Result<(), Refus
             &mut c.length,
             &mut c.phase,
             choice,
+            &mut node,
         )
-    })
+    };
+    done_or_closed(answer, node)
 }
 
 /// Runs by itself, for `budget` moves at most.

@@ -44,6 +44,7 @@ extern "C" {
         length: *mut u16,
         phase: *mut u8,
         choice: u16,
+        node: *mut u16,
     ) -> u16;
 
     pub fn rigtemple_run_parts(

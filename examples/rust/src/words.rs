@@ -2,11 +2,10 @@
 
 use std::fmt;
 
-/// A refusal, by its name; its number is `refusal as u16`.
+/// A refusal, by its name.
 #[derive(Clone, Copy, Debug, PartialEq, Eq)]
-#[repr(u16)]
 pub enum Refusal {
-    Short = 1,
+    Short,
     Mark,
     Count,
     Offsets,
@@ -15,32 +14,72 @@ pub enum Refusal {
     Rule,
     ActionByte,
     Atom,
-    NotEnabled,
     PlanFull,
     NoRoom,
     Configuration,
+    NoRule,
+    Front,
+    /// A condition is false; the number of the node that settled it.
+    Condition(u16),
 }
 
-/// The refusals with the names of document 01's table, in the order of their numbers.
-const REFUSALS: [(Refusal, &str); 13] = [
-    (Refusal::Short, "short"),
-    (Refusal::Mark, "mark"),
-    (Refusal::Count, "count"),
-    (Refusal::Offsets, "offsets"),
-    (Refusal::Weight, "weight"),
-    (Refusal::Node, "node"),
-    (Refusal::Rule, "rule"),
-    (Refusal::ActionByte, "action byte"),
-    (Refusal::Atom, "atom"),
-    (Refusal::NotEnabled, "not enabled"),
-    (Refusal::PlanFull, "plan full"),
-    (Refusal::NoRoom, "no room"),
-    (Refusal::Configuration, "configuration"),
-];
+impl Refusal {
+    /// Its number in the header.
+    pub fn number(self) -> u16 {
+        self.told().0
+    }
+
+    /// Its number and its name.
+    fn told(self) -> (u16, &'static str) {
+        match self {
+            Refusal::Short => (1, "short"),
+            Refusal::Mark => (2, "mark"),
+            Refusal::Count => (3, "count"),
+            Refusal::Offsets => (4, "offsets"),
+            Refusal::Weight => (5, "weight"),
+            Refusal::Node => (6, "node"),
+            Refusal::Rule => (7, "rule"),
+            Refusal::ActionByte => (8, "action byte"),
+            Refusal::Atom => (9, "atom"),
+            Refusal::PlanFull => (11, "plan full"),
+            Refusal::NoRoom => (12, "no room"),
+            Refusal::Configuration => (13, "configuration"),
+            Refusal::NoRule => (14, "no rule"),
+            Refusal::Front => (15, "front"),
+            Refusal::Condition(_) => (16, "condition"),
+        }
+    }
+
+    /// The refusal of a number, with the node that is answered beside it.
+    fn of(number: u16, node: u16) -> Refusal {
+        match number {
+            1 => Refusal::Short,
+            2 => Refusal::Mark,
+            3 => Refusal::Count,
+            4 => Refusal::Offsets,
+            5 => Refusal::Weight,
+            6 => Refusal::Node,
+            7 => Refusal::Rule,
+            8 => Refusal::ActionByte,
+            9 => Refusal::Atom,
+            11 => Refusal::PlanFull,
+            12 => Refusal::NoRoom,
+            13 => Refusal::Configuration,
+            14 => Refusal::NoRule,
+            15 => Refusal::Front,
+            16 => Refusal::Condition(node),
+            other => panic!("no refusal has the number {other}"),
+        }
+    }
+}
 
 impl fmt::Display for Refusal {
     fn fmt(&self, out: &mut fmt::Formatter) -> fmt::Result {
-        out.write_str(REFUSALS[*self as usize - 1].1)
+        out.write_str(self.told().1)?;
+        match self {
+            Refusal::Condition(node) => write!(out, " (node {node})"),
+            _ => Ok(()),
+        }
     }
 }
 
@@ -48,9 +87,14 @@ impl std::error::Error for Refusal {}
 
 /// Takes an answer's number apart. A number that no table has is a fault, and stops the program.
 pub fn done(answer: u16) -> Result<(), Refusal> {
+    done_or_closed(answer, 0)
+}
+
+/// The same of a chosen move, which answers a node beside its number.
+pub fn done_or_closed(answer: u16, node: u16) -> Result<(), Refusal> {
     match answer {
         0 => Ok(()),
-        number => Err(REFUSALS[usize::from(number) - 1].0),
+        number => Err(Refusal::of(number, node)),
     }
 }
 

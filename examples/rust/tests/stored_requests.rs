@@ -61,7 +61,7 @@ impl Answers {
         self.number(
             answer
                 .as_ref()
-                .map_or_else(|refusal| *refusal as u16, |_| 0),
+                .map_or_else(|refusal| refusal.number(), |_| 0),
         );
     }
 
@@ -100,6 +100,17 @@ fn list(card: &[u8], requests: &mut Requests, answers: &mut Answers) {
     answers.answer(&answer);
     answers.number(answer.unwrap_or(0) as u16);
     lent.into_iter().for_each(|code| answers.number(code));
+}
+
+fn take(card: &[u8], requests: &mut Requests, answers: &mut Answers) {
+    let mut c = requests.image();
+    let answer = rigtemple::take(card, &mut c, requests.number());
+    answers.answer(&answer);
+    answers.number(match answer {
+        Err(Refusal::Condition(node)) => node,
+        _ => 0,
+    });
+    answers.image(&c);
 }
 
 fn run(card: &[u8], requests: &mut Requests, answers: &mut Answers) {
@@ -143,11 +154,7 @@ fn answer<'a>(card: &mut &'a [u8], requests: &mut Requests<'a>, answers: &mut An
             answers.verdict(&verdict);
         }
         4 => list(card, requests, answers),
-        5 => {
-            let mut c = requests.image();
-            answers.answer(&rigtemple::take(card, &mut c, requests.number()));
-            answers.image(&c);
-        }
+        5 => take(card, requests, answers),
         6 => run(card, requests, answers),
         7 => save(card, requests, answers),
         8 => begun(rigtemple::restore(card, requests.counted()), answers),

@@ -5,10 +5,12 @@ use rigtemple::{Choice, Refusal};
 #[test]
 fn refusals_have_their_numbers_and_names() {
     assert_eq!(rigtemple::check(&[]), Err(Refusal::Short));
-    assert_eq!(Refusal::Short as u16, 1);
-    assert_eq!(Refusal::PlanFull as u16, 11);
+    assert_eq!(Refusal::Short.number(), 1);
+    assert_eq!(Refusal::PlanFull.number(), 11);
     assert_eq!(Refusal::PlanFull.to_string(), "plan full");
-    assert_eq!(Refusal::Configuration as u16, 13);
+    assert_eq!(Refusal::Configuration.number(), 13);
+    assert_eq!(Refusal::Condition(2).number(), 16);
+    assert_eq!(Refusal::Condition(2).to_string(), "condition (node 2)");
 }
 
 #[test]

@@ -1,6 +1,7 @@
 use Rattle.board.specs.Header.{whole}
 use Rattle.layout.specs.PlaceParts.{lent}
-use Rattle.meaning.specs.Refusals.{answerNumber}
+use Rattle.meaning.specs.Refusals.{answerNumber, answerNode}
+use Rattle.demands.proofs.Showing.{node-narrow}
 use Rattle.meaning.specs.declared.Reply.{Reply}
 use Rattle.meaning.specs.declared.Mind.{Mind}
 use Rattle.meaning.specs.Calls.{takes}
@@ -20,19 +21,33 @@ take-requires c κs = search needs
 put-requires : tie.Need-put-requires
 put-requires c κs = search needs
 
+answer-node-requires : tie.Need-answer-node-requires
+answer-node-requires c κs =
+    let a = c .before .before .before .before .before .before .before .before .before .before .before .before .before .before .args in
+    let e = c .before .before .before .before .before .before .take .ensures ∙ ap (λ (x : Mind). takes (now (a .card)) (lent x (now (a .plan))) (a .choice)) (c .before .before .before .before .before .before .before .before .mind .ensures) in
+    node-narrow (now (a .card)) _ (a .choice) _ e
+
 answer-number-requires : tie.Need-answer-number-requires
 answer-number-requires c κs = search needs
 
 returns : tie.Need-returns
 returns c =
-    let a = c .before .before .before .before .before .before .before .before .before .before .before .before .before .before .before .args in
-    let t = c .before .before .before .before .before .before .before .take in
-    let u = c .before .put .ensures in
-    let e = t .ensures ∙ ap (λ (x : Mind). takes (now (a .card)) (lent x (now (a .plan))) (a .choice)) (c .before .before .before .before .before .before .before .before .before .mind .ensures) in (
+    let a = c .before .before .before .before .before .before .before .before .before .before .before .before .before .before .before .before .args in
+    let t = c .before .before .before .before .before .before .before .before .take in
+    let u = c .before .before .put .ensures in
+    let e = t .ensures ∙ ap (λ (x : Mind). takes (now (a .card)) (lent x (now (a .plan))) (a .choice)) (c .before .before .before .before .before .before .before .before .before .before .mind .ensures) in (
       c .answer-number .ensures ∙ ap (λ (x : Reply). answerNumber (x .answer)) e,
       (λ i. whole (u .0 i) (u .1 i) (t .last .1 .1 .0) (u .2 i) (u .3 i)) ∙ ap (λ (x : Reply). x .configuration) e,
+      c .before .answer-node .ensures ∙ ap (λ (x : Reply). answerNode (x .answer)) e,
     )
 
 pub rigtemple-take-parts-spec : {M : Type 1} → statement M
 rigtemple-take-parts-spec =
-    tie.close (tie.spec mind-requires take-requires put-requires answer-number-requires returns)
+    tie.close
+    (tie.spec
+    mind-requires
+    take-requires
+    put-requires
+    answer-node-requires
+    answer-number-requires
+    returns)

@@ -1,3 +1,4 @@
+use Rattle.meaning.specs.declared.Refusal.{Refusal}
 use Rattle.moves.specs.Steps.{answerTo}
 use mathlib.Core.Path.{sym, ap}
 use borrow.Author.Needs.{needs}
@@ -14,13 +15,13 @@ enum-told-3 : tie.Need-enum-told-3
 enum-told-3 c = search needs
 
 returns : tie.Need-returns
-returns c = ap answerTo (sym (c .enum-told .given .1))
+returns c = ap (answerTo Refusal.NoRule) (sym (c .enum-told .given .1))
 
 returns-2 : tie.Need-returns-2
-returns-2 c = ap answerTo (sym (c .enum-told2 .given .1))
+returns-2 c = ap (answerTo Refusal.NoRule) (sym (c .enum-told2 .given .1))
 
 returns-3 : tie.Need-returns-3
-returns-3 c = ap answerTo (sym (c .enum-told3 .given .1))
+returns-3 c = ap (answerTo Refusal.NoRule) (sym (c .enum-told3 .given .1))
 
 pub answer-to-spec : {M : Type 1} → statement M
 answer-to-spec = tie.close (tie.spec enum-told enum-told-2 enum-told-3 returns returns-2 returns-3)

@@ -1,3 +1,4 @@
+use Rattle.meaning.specs.Why.{whyClosed}
 use Rattle.runs.specs.Step.{stepBy}
 use Rattle.meaning.specs.declared.Layout.{Layout}
 use Rattle.meaning.specs.Configurations.{stateOf}
@@ -75,7 +76,7 @@ returns-3 c =
     let g = sym (c .before .before .before .before .before .before .before .before .before .check .ensures) ∙ c .before .before .before .before .before .before .before .checked .given .1 in
     let e = judged-so b d _ g (j .result) (j .ensures .0) ∙ c .before .before .enum-told2 .given .1 in
     let s = good-judged b _ g .1 in
-    c .take-choice .ensures ∙ ap (λ (x : Layout). takenBy (stepBy (agentFor x b) (stateOf d) (choice (a .choice))) d) s ∙ takes-by b d e (a .choice)
+    c .take-choice .ensures ∙ ap (λ (x : Layout). takenBy (whyClosed x b (stateOf d .mental) (choice (a .choice))) (stepBy (agentFor x b) (stateOf d) (choice (a .choice))) d) s ∙ takes-by b d e (a .choice)
 
 pub take-spec : {M : Type 1} → statement M
 take-spec =

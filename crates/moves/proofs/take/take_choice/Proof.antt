@@ -1,9 +1,11 @@
+use Rattle.meaning.specs.declared.Refusal.{Refusal}
+use Rattle.meaning.specs.Why.{whyClosed}
 use mathlib.Core.Bool.{false}
 use lib.ListN.{length-replicate}
 use mathlib.Core.Path.{sym, ap, _∙_}
 use Rattle.layout.specs.PlaceParts.{lent}
 use Rattle.moves.specs.Steps.{answerTo, takenBy}
-use Rattle.moves.proofs.Taking.{not-open, is-open, closed-by, open-code, step-known, not-taken, is-taken}
+use Rattle.moves.proofs.Taking.{not-open, is-open, closed-by, open-code, open-something, step-known, not-taken, is-taken}
 use Rattle.meaning.specs.Card.{agentFor}
 use Rattle.meaning.specs.Configurations.{stateOf}
 use Rattle.meaning.specs.Calls.{choice, reply}
@@ -25,7 +27,8 @@ ask-code-requires : tie.Need-ask-code-requires
 ask-code-requires c κs = record { ready = c .before .before .before .before .before .before .pre; marked = c .before .before .judge-nodes .ensures .0 }
 
 answer-asked-requires : tie.Need-answer-asked-requires
-answer-asked-requires c κs = search needs
+answer-asked-requires c κs =
+    (record { ready = c .before .before .before .before .before .before .before .before .before .pre; marked = c .before .before .before .before .before .judge-nodes .ensures .0 }, c .before .before .ask-code .ensures)
 
 enum-told : tie.Need-enum-told
 enum-told c = search needs
@@ -35,11 +38,12 @@ enum-told-2 c = search needs
 
 returns : tie.Need-returns
 returns c =
-    let a = c .before .before .before .before .before .before .before .before .before .before .args in
+    let a = c .before .before .before .before .before .before .before .before .before .before .before .before .args in
     let d = lent (a .m) (now (a .plan)) in
-    let (r, n) = not-open _ _ (sym (c .before .before .answer-asked .ensures) ∙ c .enum-told2 .given .1) in
-    let t = closed-by (a .l) (now (a .card)) d (choice (a .code)) (λ e. n (c .before .before .before .ask-code .ensures ∙ e)) in
-    ap (λ x. reply x d) (c .before .before .answer-asked .ensures ∙ r) ∙ ap (λ (x : Reached). takenBy x d) (sym t)
+    let q = whyClosed (a .l) (now (a .card)) (stateOf d .mental) (choice (a .code)) in
+    let (r, n) = not-open _ q _ (sym (c .before .before .answer-asked .ensures) ∙ c .enum-told2 .given .1) in
+    let t = closed-by (a .l) (now (a .card)) d (choice (a .code)) (λ e. n (c .before .before .before .before .before .ask-code .ensures ∙ e)) in
+    ap (λ x. reply x d) (c .before .before .answer-asked .ensures ∙ r) ∙ ap (λ (x : Reached). takenBy q x d) (sym t)
 
 cast-step : tie.Need-cast-step
 cast-step c = search needs
@@ -49,10 +53,10 @@ cast-step-2 c = search needs
 
 step-requires : tie.Need-step-requires
 step-requires c κs =
-    let a = c .before .before .before .before .before .before .before .before .before .before .before .args in
-    let e = sym (c .before .before .before .before .ask-code .ensures) ∙ is-open _ (sym (c .before .before .before .answer-asked .ensures) ∙ c .before .enum-told .given .1) in
+    let a = c .before .before .before .before .before .before .before .before .before .before .before .before .before .args in
+    let e = sym (c .before .before .before .before .before .before .ask-code .ensures) ∙ is-open _ _ (sym (c .before .before .before .answer-asked .ensures) ∙ c .before .enum-told .given .1) in
     let (k, o) = open-code (agentFor (a .l) (now (a .card))) (stateOf (lent (a .m) (now (a .plan))) .mental) (a .code) e in
-    (c .before .before .before .before .before .before .before .before .before .before .before .pre, k, o)
+    (c .before .before .before .before .before .before .before .before .before .before .before .before .before .pre, k, o)
 
 answer-to-requires : tie.Need-answer-to-requires
 answer-to-requires c κs = search needs
@@ -65,27 +69,29 @@ enum-told-4 c = search needs
 
 returns-2 : tie.Need-returns-2
 returns-2 c =
-    let a = c .before .before .before .before .before .before .before .before .before .before .before .before .before .before .before .before .args in
+    let a = c .before .before .before .before .before .before .before .before .before .before .before .before .before .before .before .before .before .before .args in
     let A = agentFor (a .l) (now (a .card)) in
     let d = lent (a .m) (now (a .plan)) in
-    let e = sym (c .before .before .before .before .before .before .before .before .before .ask-code .ensures) ∙ is-open _ (sym (c .before .before .before .before .before .before .before .before .answer-asked .ensures) ∙ c .before .before .before .before .before .before .enum-told .given .1) in
+    let q = whyClosed (a .l) (now (a .card)) (stateOf d .mental) (choice (a .code)) in
+    let e = sym (c .before .before .before .before .before .before .before .before .before .before .before .ask-code .ensures) ∙ is-open _ _ (sym (c .before .before .before .before .before .before .before .before .answer-asked .ensures) ∙ c .before .before .before .before .before .before .enum-told .given .1) in
     let (k, o) = open-code A (stateOf d .mental) (a .code) e in
     let s = c .before .before .before .before .step .ensures in
     let x = step A (stateOf d) (choiceAt (a .code / 256) (a .code % 256)) in
-    not-taken d (c .before .before .answer-to .result) _ _ x _ (c .before .before .answer-to .ensures ∙ ap answerTo (s .0)) (c .enum-told4 .given .1) (s .1)
-    ∙ ap (λ (x : Reached). takenBy x d) (step-known A (stateOf d) (a .code) k)
+    not-taken d (c .before .before .answer-to .result) _ _ Refusal.NoRule q x _ (open-something (a .l) (now (a .card)) d _ o) (c .before .before .answer-to .ensures ∙ ap (answerTo Refusal.NoRule) (s .0)) (c .enum-told4 .given .1) (s .1)
+    ∙ ap (λ (x : Reached). takenBy q x d) (step-known A (stateOf d) (a .code) k)
 
 returns-3 : tie.Need-returns-3
 returns-3 c =
-    let a = c .before .before .before .before .before .before .before .before .before .before .before .before .before .before .before .before .args in
+    let a = c .before .before .before .before .before .before .before .before .before .before .before .before .before .before .before .before .before .before .args in
     let A = agentFor (a .l) (now (a .card)) in
     let d = lent (a .m) (now (a .plan)) in
-    let e = sym (c .before .before .before .before .before .before .before .before .before .ask-code .ensures) ∙ is-open _ (sym (c .before .before .before .before .before .before .before .before .answer-asked .ensures) ∙ c .before .before .before .before .before .before .enum-told .given .1) in
+    let q = whyClosed (a .l) (now (a .card)) (stateOf d .mental) (choice (a .code)) in
+    let e = sym (c .before .before .before .before .before .before .before .before .before .before .before .ask-code .ensures) ∙ is-open _ _ (sym (c .before .before .before .before .before .before .before .before .answer-asked .ensures) ∙ c .before .before .before .before .before .before .enum-told .given .1) in
     let (k, o) = open-code A (stateOf d .mental) (a .code) e in
     let s = c .before .before .before .before .step .ensures in
     let x = step A (stateOf d) (choiceAt (a .code / 256) (a .code % 256)) in
-    is-taken d (c .before .before .answer-to .result) _ _ x (c .before .before .answer-to .ensures ∙ ap answerTo (s .0)) (c .enum-told3 .given .1) (s .1)
-    ∙ ap (λ (x : Reached). takenBy x d) (step-known A (stateOf d) (a .code) k)
+    is-taken d (c .before .before .answer-to .result) _ _ Refusal.NoRule q x (c .before .before .answer-to .ensures ∙ ap (answerTo Refusal.NoRule) (s .0)) (c .enum-told3 .given .1) (s .1)
+    ∙ ap (λ (x : Reached). takenBy q x d) (step-known A (stateOf d) (a .code) k)
 
 pub take-choice-spec : {M : Type 1} → statement M
 take-choice-spec =

@@ -1,0 +1,75 @@
+/*
+ * Makes one call of the library or of the C engine so many times, for bench/instructions.sh, which
+ * counts the instructions that it takes.
+ *
+ *   instructions SIDE CARD CALL TIMES    0 to 9 each: 0 ours, 1 the engine's; 0 stripe, 1 typical
+ */
+#include "../include/rigtemple.h"
+#include "../tests/cards.h"
+#include "engine.h"
+
+enum { CHECK, LOAD, GRADE, LIST, TAKE, REFUSED, RUN_1, RUN_9, SAVE, RESTORE };
+enum { BEFORE = 3 };
+
+/* A revision of the stripe card whose condition is false then. */
+enum { CLOSED = 514 };
+
+static struct card_bytes card;
+static struct rigtemple_configuration middle, c;
+static uint8_t place[RIGTEMPLE_MOST_PLACE_BYTES], verdict, offender, ending;
+static uint16_t list[RIGTEMPLE_MOST_LIST_ENTRIES], place_len, number, moves, node;
+
+#define CARD card.bytes, card.len
+#define PARTS c.beliefs, c.goals, c.plan, &c.length, &c.phase
+#define PARTS_READ c.beliefs, c.goals, c.plan, c.length, c.phase
+
+/* One call by the functions whose names begin and end as told. */
+#define CALL(of, parts)                                                                       \
+    switch (call) {                                                                           \
+    case CHECK: return of##check##parts(CARD);                                                \
+    case LOAD: return of##load##parts(CARD, PARTS);                                           \
+    case GRADE: return of##grade##parts(CARD, &verdict, &offender, &number);                  \
+    case LIST: return of##list##parts(CARD, PARTS_READ, list, sizeof list / 2, &number);      \
+    case TAKE: return of##take##parts(CARD, PARTS, list[0], &node);                           \
+    case REFUSED: return of##take##parts(CARD, PARTS, CLOSED, &node);                         \
+    case RUN_1: return of##run##parts(CARD, PARTS, 1, &moves, &ending);                       \
+    case RUN_9: return of##run##parts(CARD, PARTS, 9, &moves, &ending);                       \
+    case SAVE: return of##save##parts(CARD, PARTS_READ, place, sizeof place, &number);        \
+    default: return of##restore##parts(CARD, place, place_len, PARTS);                        \
+    }
+
+static uint16_t ours(int call)
+{
+    CALL(rigtemple_, _parts)
+}
+
+static uint16_t engines(int call)
+{
+    CALL(engine_, )
+}
+
+/* The configuration after three moves, its place, and the first of its choices. */
+static int begin(int which)
+{
+    if (which == 0)
+        endless_stripe_card(&card);
+    else
+        typical_card(&card);
+    if (rigtemple_load(CARD, &c) || rigtemple_run(CARD, &c, BEFORE, &moves, &ending) ||
+        rigtemple_save(CARD, &c, place, sizeof place, &place_len))
+        return 1;
+    middle = c;
+    return rigtemple_list(CARD, &c, list, sizeof list / 2, &number);
+}
+
+int main(int count, char **words)
+{
+    unsigned answers = 0;
+    if (count != 5 || begin(words[2][0] - '0'))
+        return 2;
+    for (int i = 0; i < words[4][0] - '0'; i++) {
+        c = middle;
+        answers |= words[1][0] == '0' ? ours(words[3][0] - '0') : engines(words[3][0] - '0');
+    }
+    return answers == 0 ? 0 : 1;
+}

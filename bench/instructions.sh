@@ -1,0 +1,44 @@
+#!/bin/sh
+# Counts the instructions that a call of the library takes, and of the C engine: on the stripe card made endless and on a typical
+# card, after three moves, with a copy of the configuration for each call. Unlike a time, a count is the same in every run and wherever the code lies.
+#
+#   bench/instructions.sh
+#
+# It needs the kit's emulator, which the kit has for machines that are not x86-64.
+set -eu
+
+die() { printf 'instructions.sh: %s\n' "$*" >&2; exit 2; }
+
+[ $# -eq 0 ] || die "usage: instructions.sh"
+root=$(cd "$(dirname "$0")/.." && pwd)
+# shellcheck source=tests/kit.sh
+. "$root/tests/kit.sh"
+[ -x "$own/qemu-x86_64" ] || die "the kit has no emulator for $(uname -m)"
+program=$root/target/c/instructions
+archive=$("$root/tests/archive.sh")
+"$root/tests/build_c.sh" "$program" "$root/bench/instructions.c" "$root/bench/engine.c" \
+    "$root/tests/cards.c" "$archive"
+log=$(mktemp)
+trap 'rm -f "$log"' EXIT
+
+# How many instructions the program takes with the words that are given.
+count() {
+    "$own/qemu-x86_64" -one-insn-per-tb -d exec,nochain -D "$log" "$lib/ld-linux-x86-64.so.2" \
+        --library-path "$lib" "$program" "$@" || [ $? -eq 1 ] || die "no such card or call"
+    grep -c '^Trace' "$log"
+}
+
+# How many a call takes: of two calls, less those of one.
+call() { echo $(($(count "$1" "$2" "$3" 2) - $(count "$1" "$2" "$3" 1))); }
+
+printf '%-28s %10s %10s %7s\n' instructions ours engine ratio
+for card in 0:stripe 1:typical; do
+    for what in 0:check 1:load 2:grade 3:list 4:take 5:'take, with 16' 6:'run of 1' \
+        7:'run of 9' 8:save 9:restore; do
+        [ "$card $what" != '1:typical 5:take, with 16' ] || continue
+        ours=$(call 0 "${card%%:*}" "${what%%:*}")
+        engine=$(call 1 "${card%%:*}" "${what%%:*}")
+        printf '%-28s %10d %10d %7s\n' "${what#*:}, ${card#*:}" "$ours" "$engine" \
+            "$(awk "BEGIN { printf \"%.2f\", $ours / $engine }")"
+    done
+done

@@ -1,0 +1,63 @@
+use Rattle.demands.proofs.Showing.{node-narrow}
+use borrow.Author.Needs.{needs}
+use denote.Ref.{now}
+use Rattle.drill.proofs.take.Statement.{statement}
+use Rattle.drill.proofs.take.Tie as tie
+
+next-image-requires : tie.Need-next-image-requires
+next-image-requires c κs = search needs
+
+returns : tie.Need-returns
+returns c = search needs
+
+next-number-requires : tie.Need-next-number-requires
+next-number-requires c κs = search needs
+
+enum-known-code : tie.Need-enum-known-code
+enum-known-code c = search needs
+
+enum-told : tie.Need-enum-told
+enum-told c = search needs
+
+returns-2 : tie.Need-returns-2
+returns-2 c = search needs
+
+take-requires : tie.Need-take-requires
+take-requires c κs = search needs
+
+answer-number-requires : tie.Need-answer-number-requires
+answer-number-requires c κs = search needs
+
+tell-requires : tie.Need-tell-requires
+tell-requires c κs = search needs
+
+answer-node-requires : tie.Need-answer-node-requires
+answer-node-requires c κs =
+    node-narrow (now (c .before .before .before .before .before .before .before .before .before .before .before .before .before .args .card)) (c .before .before .before .before .before .before .before .before .before .before .before .next-image .result .configuration) (c .before .before .before .before .before .code .given .0 .0) (c .before .before .before .take .result) (c .before .before .before .take .ensures .0)
+
+tell-requires-2 : tie.Need-tell-requires-2
+tell-requires-2 c κs = search needs
+
+tell-image-requires : tie.Need-tell-image-requires
+tell-image-requires c κs = search needs
+
+returns-3 : tie.Need-returns-3
+returns-3 c = search needs
+
+pub take-spec : {M : Type 1} → statement M
+take-spec =
+    tie.close
+    (tie.spec
+    next-image-requires
+    returns
+    next-number-requires
+    enum-known-code
+    enum-told
+    returns-2
+    take-requires
+    answer-number-requires
+    tell-requires
+    answer-node-requires
+    tell-requires-2
+    tell-image-requires
+    returns-3)
