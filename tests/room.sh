@@ -1,7 +1,7 @@
 #!/usr/bin/env bash
 # Measures the room that the guide needs: the deepest stack of each call through the header (tests/stack.sh), what an app lends with
-# the largest card, and the stack of the program. The last line is 'N passed, M failed': each call within 8,192 bytes, and all
-# together, and the program, within 65,536.
+# the largest card, and the stack of the program. The last line is 'N passed, M failed': each call within 8,192 bytes, reading a text
+# within 32,768, and all together, and the program, within 65,536.
 #
 #   tests/room.sh
 set -eu
@@ -23,7 +23,9 @@ within() { # WHAT BYTES BOUND
 calls=$("$root/tests/stack.sh" | grep ' bytes of stack') || die "tests/stack.sh failed"
 deepest=0
 while read -r call bytes _; do
-    within "the stack of $call" "$bytes" 8192
+    bound=8192
+    [ "$call" != text ] || bound=32768
+    within "the stack of $call" "$bytes" $bound
     [ "$bytes" -le "$deepest" ] || deepest=$bytes
 done <<END
 $calls
