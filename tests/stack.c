@@ -3,7 +3,7 @@
  * painted, the call is made, and the paint that is gone tells how deep it went. The worst over a
  * few cards (the stripe card, two maximal ones, the shared-nodes card, a refused one) and over
  * configurations with an empty plan, a plan of 1,024 actions, and one that is refused; for the text
- * calls over texts with few and many lines, nested 32 and 34 deep and 60,000 brackets deep, and
+ * calls over texts with few and many lines, nested 32 to 34 deep and 60,000 brackets deep, and
  * over every node of these cards and of two that print much. A line for each call: its name and
  * the bytes.
  */
@@ -140,6 +140,10 @@ static void measure_reading(void)
     deep_text(&text, 32);
     measure_call(&text_calls[0]);
     deep_text(&text, 34);
+    measure_call(&text_calls[0]);
+    brackets_text(&text, 32);
+    measure_call(&text_calls[0]);
+    brackets_text(&text, 33);
     measure_call(&text_calls[0]);
     open_text(&text, 60000);
     measure_call(&text_calls[0]);

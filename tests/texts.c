@@ -71,6 +71,18 @@ void deep_text(struct text_bytes *text, unsigned deep)
     add(text, "begin beliefs goals plan\n");
 }
 
+void brackets_text(struct text_bytes *text, unsigned deep)
+{
+    text->len = 0;
+    add(text, "atoms 1\naction 1\ndo 0 if ");
+    for (unsigned k = 0; k < deep; k++)
+        add(text, "T|T&(");
+    add(text, "B0");
+    for (unsigned k = 0; k < deep; k++)
+        add(text, ")");
+    add(text, " add del\nbegin beliefs goals plan\n");
+}
+
 void remarks_text(struct text_bytes *text)
 {
     text->len = 0;

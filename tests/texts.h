@@ -22,6 +22,9 @@ void full_text(struct text_bytes *text);
 /* Conditions in which brackets and "!" nest so deep, an even number from 4 on. */
 void deep_text(struct text_bytes *text, unsigned deep);
 
+/* A condition in so many brackets. */
+void brackets_text(struct text_bytes *text, unsigned deep);
+
 /* A text that is mostly remarks. */
 void remarks_text(struct text_bytes *text);
 
