@@ -7,12 +7,12 @@
 #include <stdio.h>
 #include <stdlib.h>
 #include <string.h>
-#include <time.h>
 
 #include "../tests/cards.h"
 
 #include "../include/rigtemple.h"
 #include "engine.h"
+#include "timing.h"
 
 enum { FEWEST = 31, MOST = 301, CHOICES = 64, RUN_BUDGET = 1000 };
 enum { ROOM = RIGTEMPLE_MOST_LIST_ENTRIES };
@@ -223,13 +223,6 @@ static void compare(const struct input *in)
 
 /* ---- time ---- */
 
-static double now(void)
-{
-    struct timespec t;
-    clock_gettime(CLOCK_MONOTONIC, &t);
-    return 1e9 * (double)t.tv_sec + (double)t.tv_nsec;
-}
-
 /* Nanoseconds of a batch. */
 static double time_of(const struct row *row, const struct calls *f, const struct input *in,
                       unsigned times)
@@ -238,18 +231,6 @@ static double time_of(const struct row *row, const struct calls *f, const struct
     double start = now();
     row->make(f, in, times, &l);
     return now() - start;
-}
-
-static int by_size(const void *one, const void *other)
-{
-    double a = *(const double *)one, b = *(const double *)other;
-    return (a > b) - (a < b);
-}
-
-static double median(double *times, unsigned count)
-{
-    qsort(times, count, sizeof times[0], by_size);
-    return times[count / 2];
 }
 
 /* A line of a table: a call on an input, so many times in a batch, and the times of the batches,

@@ -1,6 +1,6 @@
 /*
- * The engine: the eight calls of document 01, with document 02's wish 1, in hand-written C, with
- * no proofs, as the program that the library is measured against. The parameters and answers are
+ * The engine: the eight calls of document 01, with document 02's wishes 1 and 2, in hand-written
+ * C, with no proofs, as the program that the library is measured against. The parameters and answers are
  * those of the functions `rigtemple_..._parts` in include/rigtemple.h.
  */
 #ifndef RIGTEMPLE_ENGINE_H
@@ -36,5 +36,11 @@ uint16_t engine_save(const uint8_t *card, size_t card_len, const uint8_t *belief
 uint16_t engine_restore(const uint8_t *card, size_t card_len, const uint8_t *place,
                         size_t place_len, uint8_t *beliefs, uint8_t *goals, uint8_t *plan,
                         uint16_t *length, uint8_t *phase);
+
+uint16_t engine_text(const uint8_t *text, size_t text_len, uint8_t *card, size_t card_len,
+                     uint16_t *bytes, size_t *place);
+
+uint16_t engine_print(const uint8_t *card, size_t card_len, uint16_t node, uint8_t *text,
+                      size_t text_len, uint16_t *bytes);
 
 #endif

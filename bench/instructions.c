@@ -2,22 +2,32 @@
  * Makes one call of the library or of the C engine so many times, for bench/instructions.sh, which
  * counts the instructions that it takes.
  *
- *   instructions SIDE CARD CALL TIMES    0 to 9 each: 0 ours, 1 the engine's; 0 stripe, 1 typical
+ *   instructions SIDE CARD CALL TIMES    0 ours, 1 the engine's; 0 stripe, 1 typical; a call of the
+ *                                        enum below; 0 to 9 times
+ *
+ * With the stripe card its text is read and node 4 printed, with the typical card a full text and a
+ * node that prints 255.
  */
+#include <stdlib.h>
+
 #include "../include/rigtemple.h"
 #include "../tests/cards.h"
+#include "../tests/texts.h"
 #include "engine.h"
 
-enum { CHECK, LOAD, GRADE, LIST, TAKE, REFUSED, RUN_1, RUN_9, SAVE, RESTORE };
+enum { CHECK, LOAD, GRADE, LIST, TAKE, REFUSED, RUN_1, RUN_9, SAVE, RESTORE, TEXT, PRINT };
 enum { BEFORE = 3 };
 
 /* A revision of the stripe card whose condition is false then. */
 enum { CLOSED = 514 };
 
-static struct card_bytes card;
+static struct card_bytes card, printed;
+static struct text_bytes text;
 static struct rigtemple_configuration middle, c;
 static uint8_t place[RIGTEMPLE_MOST_PLACE_BYTES], verdict, offender, ending;
-static uint16_t list[RIGTEMPLE_MOST_LIST_ENTRIES], place_len, number, moves, node;
+static uint16_t list[RIGTEMPLE_MOST_LIST_ENTRIES], place_len, number, moves, node, of_printed;
+static uint8_t made[RIGTEMPLE_MOST_CARD_BYTES];
+static size_t wrong;
 
 #define CARD card.bytes, card.len
 #define PARTS c.beliefs, c.goals, c.plan, &c.length, &c.phase
@@ -35,7 +45,10 @@ static uint16_t list[RIGTEMPLE_MOST_LIST_ENTRIES], place_len, number, moves, nod
     case RUN_1: return of##run##parts(CARD, PARTS, 1, &moves, &ending);                       \
     case RUN_9: return of##run##parts(CARD, PARTS, 9, &moves, &ending);                       \
     case SAVE: return of##save##parts(CARD, PARTS_READ, place, sizeof place, &number);        \
-    default: return of##restore##parts(CARD, place, place_len, PARTS);                        \
+    case RESTORE: return of##restore##parts(CARD, place, place_len, PARTS);                   \
+    case TEXT: return of##text##parts(text.bytes, text.len, made, sizeof made, &number, &wrong); \
+    default:                                                                                  \
+        return of##print##parts(printed.bytes, printed.len, of_printed, made, sizeof made, &number); \
     }
 
 static uint16_t ours(int call)
@@ -48,13 +61,21 @@ static uint16_t engines(int call)
     CALL(engine_, )
 }
 
-/* The configuration after three moves, its place, and the first of its choices. */
+/* The configuration after three moves, its place, and the first of its choices; what is read and
+ * printed. */
 static int begin(int which)
 {
-    if (which == 0)
+    if (which == 0) {
         endless_stripe_card(&card);
-    else
+        stripe_as_text(&text);
+        stripe_card(&printed);
+        of_printed = 4;
+    } else {
         typical_card(&card);
+        full_text(&text);
+        printed_list_card(&printed);
+        of_printed = 254;
+    }
     if (rigtemple_load(CARD, &c) || rigtemple_run(CARD, &c, BEFORE, &moves, &ending) ||
         rigtemple_save(CARD, &c, place, sizeof place, &place_len))
         return 1;
@@ -67,9 +88,10 @@ int main(int count, char **words)
     unsigned answers = 0;
     if (count != 5 || begin(words[2][0] - '0'))
         return 2;
+    int call = (int)strtoul(words[3], NULL, 10);
     for (int i = 0; i < words[4][0] - '0'; i++) {
         c = middle;
-        answers |= words[1][0] == '0' ? ours(words[3][0] - '0') : engines(words[3][0] - '0');
+        answers |= words[1][0] == '0' ? ours(call) : engines(call);
     }
     return answers == 0 ? 0 : 1;
 }

@@ -4,7 +4,7 @@
 Loads a card and runs it for 1,000 moves at most; saves the place, restores it and says whether it is the same configuration. A refusal
 ends the program with status 1. HOW-TO-LINK.txt of the library's folder makes the shared object from the archive.
 
-The symbols of the library are the eight functions `rigtemple_..._parts`, over the parts of a configuration: what rigtemple.h calls
+The symbols of the library are the ten functions `rigtemple_..._parts`, over the parts of a configuration: what rigtemple.h calls
 `rigtemple_load` and so on is made of them in the header. Declare all their types: an undeclared length would be passed as 32 bits.
 """
 
@@ -26,6 +26,8 @@ CALLS = {
     "run": (*CARD, *LENT, c_uint16, POINTER(c_uint16), POINTER(c_uint8)),
     "save": (*CARD, *READ, POINTER(c_uint8), c_size_t, POINTER(c_uint16)),
     "restore": (*CARD, POINTER(c_uint8), c_size_t, *LENT),
+    "text": (c_char_p, c_size_t, POINTER(c_uint8), c_size_t, POINTER(c_uint16), POINTER(c_size_t)),
+    "print": (*CARD, c_uint16, POINTER(c_uint8), c_size_t, POINTER(c_uint16)),
 }
 
 
@@ -47,7 +49,7 @@ class Configuration:
 
 
 class Guide:
-    """The eight calls on one card; a refusal is an exception."""
+    """The calls on one card; a refusal is an exception."""
 
     def __init__(self, library, card):
         self.library, self.card = ctypes.CDLL(library), card

@@ -4,15 +4,17 @@
  * A card is a pattern: the bytes of a file, which the guide only reads. A configuration
  * is where a weaver stands in it: what is believed of the warp, which goals are open, the
  * plan of actions still to be done, and the phase. A place is a configuration as bytes to
- * keep. The eight calls below check and grade a card, make the first configuration, list
- * the moves that are possible, take one, run by themselves, and save and restore a place.
+ * keep. The ten calls below check and grade a card, make the first configuration, list the
+ * moves that are possible, take one, run by themselves, save and restore a place, make a card
+ * from a designer's text, and print a condition of a card as such text.
  *
  * What holds for every call:
  *
  *  - It ends, on all bytes and all numbers, and answers a number: 0 for done, another for a
  *    refusal. Where more than one refusal would fit, the card's come first (1 to 9 in that
  *    order), then the place's (1, 2, 3, 4, 8, 9) or the configuration's (13), then 14, 15,
- *    16, 11 and 12. No call answers 10.
+ *    16, 11 and 12. A text is refused with 17, 18, 25, then with what the card that it would
+ *    make is refused with, then with 12. No call answers 10.
  *  - Every buffer is the caller's. The library keeps no memory, no pointer and no state
  *    between calls, and allocates nothing.
  *  - No pointer may be null, not even beside a length of 0, and no two that are given to
@@ -23,10 +25,12 @@
  *
  * Memory to lend: the card (RIGTEMPLE_MOST_CARD_BYTES), a configuration (1,060 bytes), a list
  * of RIGTEMPLE_MOST_LIST_ENTRIES (1,536 bytes) and a place of RIGTEMPLE_MOST_PLACE_BYTES are
- * always enough: 27,792 bytes together.
+ * always enough: 27,792 bytes together. To print takes RIGTEMPLE_MOST_PRINTED_BYTES; a text to be
+ * read has no limit.
  *
  * Bytes of stack, as tests/stack.sh measures them on x86-64: check 808, load 936, grade 3,000,
- * list 2,824, take 1,544, run 1,656, save 936, restore 1,016.
+ * list 2,824, take 1,544, run 1,656, save 936, restore 1,016, text 40,400 (25,224 where nothing
+ * nests, and 474 for each bracket), print 2,408.
  *
  * Save before you show. The weaver acts on what the screen tells; a move that is shown and
  * not kept is lost when the view is torn down, and a band is woven twice. And where a place
@@ -45,9 +49,9 @@ extern "C" {
 
 /* The version of this header's interface. The first number rises with a change that an app has
  * to follow, and the second is then 0; the second rises with what is only added. */
-#define RIGTEMPLE_VERSION "2.0"
+#define RIGTEMPLE_VERSION "2.1"
 #define RIGTEMPLE_VERSION_FIRST 2
-#define RIGTEMPLE_VERSION_SECOND 0
+#define RIGTEMPLE_VERSION_SECOND 1
 
 /* Marks an answer that must not be ignored, for the compilers that know it. */
 #if defined(__cplusplus) && __cplusplus >= 201703L
@@ -66,6 +70,7 @@ extern "C" {
 #define RIGTEMPLE_MOST_PLAN_ACTIONS 1024
 #define RIGTEMPLE_MOST_PLACE_BYTES 1068 /* the largest place: 44 and the longest plan */
 #define RIGTEMPLE_MOST_LIST_ENTRIES 768 /* choices that there are codes for: no list is longer */
+#define RIGTEMPLE_MOST_PRINTED_BYTES 894 /* the longest condition that is printed */
 
 /* Answers; rigtemple_answer_name and rigtemple_answer_sentence say them in words. */
 #define RIGTEMPLE_ANSWER_DONE 0
@@ -84,6 +89,9 @@ extern "C" {
 #define RIGTEMPLE_ANSWER_NO_RULE 14
 #define RIGTEMPLE_ANSWER_FRONT 15
 #define RIGTEMPLE_ANSWER_CONDITION 16
+#define RIGTEMPLE_ANSWER_TEXT 17
+#define RIGTEMPLE_ANSWER_NESTED 18
+#define RIGTEMPLE_ANSWER_LARGE 25
 
 /* The name of an answer, for a log: "plan full" for 11. */
 static inline const char *rigtemple_answer_name(uint16_t answer)
@@ -91,9 +99,12 @@ static inline const char *rigtemple_answer_name(uint16_t answer)
     static const char *const names[] = {
         "done",    "short",         "mark",        "count", "offsets",   "weight",
         "node",    "rule",          "action byte", "atom",  "given up",  "plan full",
-        "no room", "configuration", "no rule",     "front", "condition",
+        "no room", "configuration", "no rule",     "front", "condition", "text",
+        "nested",
     };
-    return answer <= RIGTEMPLE_ANSWER_CONDITION ? names[answer] : "no answer of the guide";
+    if (answer == RIGTEMPLE_ANSWER_LARGE)
+        return "large";
+    return answer <= RIGTEMPLE_ANSWER_NESTED ? names[answer] : "no answer of the guide";
 }
 
 /* What an answer says was refused. */
@@ -112,7 +123,7 @@ static inline const char *rigtemple_answer_sentence(uint16_t answer)
         "should be zero",
         "a specification, a rule or the initial plan has an unknown action or node, a condition "
         "of the wrong kind, a plan outside the pool, a length out of range, or a field that "
-        "should be zero",
+        "should be zero; or the node to be printed is unknown",
         "a byte of the pool, or of a place's plan, is not below the number of actions",
         "a set has an atom at or above the number of atoms",
         "no call answers this: 14, 15 and 16 stand in its place",
@@ -124,9 +135,15 @@ static inline const char *rigtemple_answer_sentence(uint16_t answer)
         "the plan's front does not fit: it is empty, or not empty, or has another first action or "
         "another head",
         "a condition of the choice is false; the node that settled it is told with it",
+        "the text is not of the grammar; the place of the first byte that no continuation could "
+        "make right is told with it",
+        "brackets and ! nest more than 32 deep in a condition",
     };
-    return answer <= RIGTEMPLE_ANSWER_CONDITION ? sentences[answer]
-                                                : "the guide gives no such answer";
+    if (answer == RIGTEMPLE_ANSWER_LARGE)
+        return "a number is too large for its field, or there are more entries, nodes or pool "
+               "bytes than a card can have; or a printed condition has more than 256 nodes";
+    return answer <= RIGTEMPLE_ANSWER_NESTED ? sentences[answer]
+                                             : "the guide gives no such answer";
 }
 
 /* Kinds of moves. */
@@ -174,7 +191,7 @@ struct rigtemple_configuration {
     uint8_t phase;
 };
 
-/* ---- the functions of the library: the eight calls over the parts of a configuration.
+/* ---- the functions of the library: the ten calls over the parts of a configuration.
  * `beliefs` and `goals` are 16 bytes each, `plan` is 1,024 bytes. ---- */
 
 RIGTEMPLE_LOOK_AT_ANSWER
@@ -215,7 +232,15 @@ uint16_t rigtemple_restore_parts(const uint8_t *card, size_t card_len, const uin
                                  size_t place_len, uint8_t *beliefs, uint8_t *goals,
                                  uint8_t *plan, uint16_t *length, uint8_t *phase);
 
-/* ---- the eight calls ---- */
+RIGTEMPLE_LOOK_AT_ANSWER
+uint16_t rigtemple_text_parts(const uint8_t *text, size_t text_len, uint8_t *card,
+                              size_t room_in_bytes, uint16_t *bytes, size_t *place);
+
+RIGTEMPLE_LOOK_AT_ANSWER
+uint16_t rigtemple_print_parts(const uint8_t *card, size_t card_len, uint16_t node, uint8_t *text,
+                               size_t room_in_bytes, uint16_t *bytes);
+
+/* ---- the ten calls ---- */
 
 /* Judges a card.
  * Answers 0 if it is good, and 1 to 9 if it is not. Nothing is written. */
@@ -329,6 +354,37 @@ static inline uint16_t rigtemple_restore(const uint8_t *card, size_t card_len,
 {
     return rigtemple_restore_parts(card, card_len, place, place_len, c->beliefs, c->goals, c->plan,
                                    &c->length, &c->phase);
+}
+
+/* Makes a card from a text, as docs/TEXT.md has its grammar. `room_in_bytes` is how many bytes
+ * `card` has; RIGTEMPLE_MOST_CARD_BYTES are always enough. The card is written to the front of
+ * `card`, no bytes after it, and its length to `bytes`; rigtemple_check answers 0 for it.
+ * Answers 0; or 17 if the text is not of the grammar, 18 if brackets and ! nest more than 32 deep,
+ * 25 if a number, or how many lines, nodes or actions there are, is too large for a card; or 3 or
+ * 5 to 9 as rigtemple_check would for the card; or 12 if the room is too short. A refusal writes
+ * nothing to `card`, and 0 to `bytes`.
+ * `place` is written in each case: with 17 it becomes the place, from 0, of the first byte that no
+ * continuation could make right, or `text_len` if the text just ends too soon, and else 0. */
+RIGTEMPLE_LOOK_AT_ANSWER
+static inline uint16_t rigtemple_text(const uint8_t *text, size_t text_len, uint8_t *card,
+                                      size_t room_in_bytes, uint16_t *bytes, size_t *place)
+{
+    return rigtemple_text_parts(text, text_len, card, room_in_bytes, bytes, place);
+}
+
+/* Prints the condition that a node of a card stands for, as a text of it, with brackets only where
+ * it must have them: "B1&!B3". `room_in_bytes` is how many bytes `text` has;
+ * RIGTEMPLE_MOST_PRINTED_BYTES are always enough. The text is written to the front of `text`, no
+ * zero behind it, and its length to `bytes`.
+ * Answers 0; or 1 to 9 for the card, or 7 if it has no such node (ask rigtemple_check which of the
+ * two it was); or 18 if the text would nest more than 32 deep, 25 if it would have more than 256
+ * nodes, a shared one counted each time, or 12 if the room is too short. A refusal writes nothing
+ * to `text`, and 0 to `bytes`. */
+RIGTEMPLE_LOOK_AT_ANSWER
+static inline uint16_t rigtemple_print(const uint8_t *card, size_t card_len, uint16_t node,
+                                       uint8_t *text, size_t room_in_bytes, uint16_t *bytes)
+{
+    return rigtemple_print_parts(card, card_len, node, text, room_in_bytes, bytes);
 }
 
 #ifdef __cplusplus

@@ -14,16 +14,23 @@ import cards
 import damage
 import drill
 import guide
+import prints
+import text
+import texts
 
 REQUEST_LIMIT = 50
-CALL_NAMES = ("check", "load", "grade", "list", "take", "run", "save", "restore")
-ANSWER_NUMBERS = range(17)
+
+# The longest card that a request 0 can hold.
+CARD_BYTES_LIMIT = 65535
+
+CALL_NAMES = ("check", "load", "grade", "list", "take", "run", "save", "restore", "text", "print")
+ANSWER_NUMBERS = (*range(19), 25)
 CALLS_ON_CONFIGURATIONS = (drill.LIST, drill.TAKE, drill.RUN, drill.SAVE)
 
 
 class Case(NamedTuple):
     """A case: its name (which clause or shape), a card, and requests about it
-    (kinds 1 to 8 of the drill)."""
+    (kinds 1 to 10 of the drill). A text is read whatever the card is."""
 
     name: str
     card: bytes
@@ -64,6 +71,22 @@ def read_about(request):
 def request_restore(place):
     """8 restore: length n (2), n bytes."""
     return bytes([drill.RESTORE]) + drill.two(len(place)) + place
+
+
+def request_text(held, room):
+    """9 text: length n (4), n bytes of text, room (2)."""
+    return bytes([drill.TEXT]) + drill.four(len(held)) + held + drill.two(room)
+
+
+def read_text(request):
+    """The text and the room of a request 9."""
+    reader = drill.Reader(request[1:])
+    return reader.next_bytes(reader.number(drill.TEXT_LIMIT, 4)), reader.number()
+
+
+def request_print(node, room):
+    """10 print: node (2), room (2)."""
+    return bytes([drill.PRINT]) + drill.two(node) + drill.two(room)
 
 
 def stream(cases):
@@ -400,13 +423,72 @@ def generate(seed, cards, largest=24128):
             yield good_case(random, largest)
 
 
+# --- cases of texts and prints ----------------------------------------------
+
+
+def text_room(random, held):
+    """A room around the one that a text's card needs; any, where none is built;
+    seldom the most that a request can lend."""
+    _, _, card = text.read(held, drill.CARD_ROOM_LIMIT)
+    if random.random() < 0.01:
+        return drill.CARD_ROOM_LIMIT
+    if card is None:
+        return random.choice((0, 1, 20, 64, 300))
+    return random.choice(damage.rooms_around(len(card), len(card) + 6))
+
+
+def text_requests(random, largest, count):
+    """So many texts, good ones and refused ones, none of more than `largest`
+    bytes."""
+    held = [texts.sample_within(random, largest).text for _ in range(count)]
+    return [request_text(one, text_room(random, one)) for one in held]
+
+
+def print_requests(random, card, count):
+    """So many prints about a card; about a refused one, of any nodes."""
+    _, accepted = guide.judge(card)
+    if accepted is None:
+        asked = [(random.choice((0, 1, 255, 256, 65535)), random.choice((0, 9, 40))) for _ in range(count)]
+    else:
+        asked = prints.prints(random, card, accepted.nodes.entries, count)
+    return [request_print(node, room) for node, room in asked]
+
+
+def print_card(random, items, largest):
+    """A card for the printer: mostly one of its own, now and then any good one or a
+    damaged one."""
+    style = random.random()
+    if style < 0.65:
+        return prints.some_card(random, largest)
+    if style < 0.75:
+        return cards.card(cards.good_card(random, largest))
+    return next_damaged_case(random, items, largest).card
+
+
+def text_case(random, items, largest):
+    """A case of prints about a card and of texts, which leave the card of the
+    requests that follow as it is."""
+    card = print_card(random, items, min(largest, CARD_BYTES_LIMIT))
+    made = print_requests(random, card, 5) + text_requests(random, largest, 6)
+    random.shuffle(made)
+    return Case("texts and prints", card, made + [request_plain(drill.CHECK)])
+
+
+def generate_texts(seed, count, largest=24128):
+    """So many cases of texts and prints, by seed: no card and no text of more than
+    `largest` bytes."""
+    items = itertools.cycle(damage_order(seed))
+    for index in range(count):
+        yield text_case(Random("%s text %d" % (seed, index)), items, largest)
+
+
 # --- the command ------------------------------------------------------------
 
 
 def count_answers(cases, requests, answers):
     """Writes requests and answers; how often each number was met for each call,
     and how many requests there were."""
-    met = [[0] * len(ANSWER_NUMBERS) for _ in CALL_NAMES]
+    met = [[0] * (max(ANSWER_NUMBERS) + 1) for _ in CALL_NAMES]
     for case in cases:
         requests.write(request_card(case.card))
         for request in case.requests:
@@ -433,11 +515,15 @@ def main():
     parser = argparse.ArgumentParser(description="cases by seed, with the oracle's answers")
     parser.add_argument("--seed", required=True)
     parser.add_argument("--cards", type=int, required=True)
+    parser.add_argument("--texts", type=int, default=0)
     parser.add_argument("--largest", type=int, default=24128)
     parser.add_argument("--requests", required=True)
     parser.add_argument("--answers", required=True)
     asked = parser.parse_args()
-    cases = generate(asked.seed, asked.cards, asked.largest)
+    cases = itertools.chain(
+        generate(asked.seed, asked.cards, min(asked.largest, CARD_BYTES_LIMIT)),
+        generate_texts(asked.seed, asked.texts, asked.largest),
+    )
     with open(asked.requests, "wb") as requests, open(asked.answers, "wb") as answers:
         met = count_answers(cases, requests, answers)
     sys.stdout.write(table(met) + "\n")

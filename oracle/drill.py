@@ -1,20 +1,24 @@
 """The drill: requests on standard input, an answer for each on standard output.
 
-The requests and answers are those of drill.md, with what request 1 adds to them;
-numbers of two bytes are low byte first.
+The requests and answers are those of drill.md, with what the requests 1 and 2 add to
+them; numbers of two or four bytes are low byte first.
 """
 
 import struct
 import sys
 
 import guide
+import text
 
-CARD, CHECK, LOAD, GRADE, LIST, TAKE, RUN, SAVE, RESTORE = range(9)
+CARD, CHECK, LOAD, GRADE, LIST, TAKE, RUN, SAVE, RESTORE, TEXT, PRINT = range(11)
 
 IMAGE_LIMIT = 1024
 LIST_LIMIT = 1024
 SAVE_LIMIT = 2048
 PLACE_LIMIT = 4096
+TEXT_LIMIT = 65536
+CARD_ROOM_LIMIT = 24200
+PRINT_ROOM_LIMIT = 2048
 
 # "It is lent filled with EEEE hex", "lent filled with EE hex".
 LENT = 0xEE
@@ -46,9 +50,9 @@ class Reader:
         """The next byte."""
         return self.next_bytes(1)[0]
 
-    def number(self, most=65535):
-        """The next number of two bytes, `most` at most."""
-        value = guide.number(self.next_bytes(2), 0)
+    def number(self, most=65535, size=2):
+        """The next number of two bytes, or of four, `most` at most."""
+        value = int.from_bytes(self.next_bytes(size), "little")
         if value > most:
             raise BrokenRequest("%d is more than %d" % (value, most))
         return value
@@ -66,6 +70,11 @@ class Reader:
 def two(value):
     """A number as two bytes, low byte first."""
     return struct.pack("<H", value)
+
+
+def four(value):
+    """A number as four bytes, low byte first."""
+    return struct.pack("<I", value)
 
 
 def image(configuration, m=0):
@@ -130,6 +139,23 @@ def answer_restore(card, reader):
     return two(number) + image(configuration)
 
 
+def answer_text(card, reader):
+    """9 text: number (2), "place (4: with 17 the place of the byte, else 0), the
+    card's length (2), then the whole lent buffer"."""
+    held = reader.next_bytes(reader.number(TEXT_LIMIT, 4))
+    room = reader.number(CARD_ROOM_LIMIT)
+    number, place, built = text.read(held, room)
+    built = built or b""
+    return two(number) + four(place) + two(len(built)) + lent(built, room)
+
+
+def answer_print(card, reader):
+    """10 print: number (2), "the text's length (2), then the whole lent buffer"."""
+    node, room = reader.number(), reader.number(PRINT_ROOM_LIMIT)
+    number, printed = text.print_node(card, node, room)
+    return two(number) + two(len(printed)) + lent(printed, room)
+
+
 def lent(written, size):
     """A lent buffer of `size` bytes afterwards: "what lies after them stays"."""
     return written + bytes([LENT]) * (size - len(written))
@@ -144,6 +170,8 @@ ANSWERS = {
     RUN: answer_run,
     SAVE: answer_save,
     RESTORE: answer_restore,
+    TEXT: answer_text,
+    PRINT: answer_print,
 }
 
 

@@ -6,8 +6,8 @@ writes against the second.
     python3 oracle/stored.py --check    # says whether the files are just that
 
 Both files follow from a fixed seed and hold every clause of document 01's refusal
-table and of request 1's, every range just inside, and the edges of plans, rooms and
-budgets.
+table and of those of the requests 1 and 2, every range just inside, and the edges of
+plans, rooms and budgets.
 """
 
 import argparse
@@ -23,6 +23,10 @@ import closed
 import damage
 import drill
 import guide
+import prints
+import slips
+import text
+import texts
 from cases import Case
 
 SEED = "stored"
@@ -369,6 +373,166 @@ def verdict_cases():
         yield Case(name, tempered_card(random_of(name), temper), cases.plain_requests())
 
 
+# --- texts ------------------------------------------------------------------
+
+# A longer text by hand is left out: each has its like among the clauses and ranges.
+LONG_TEXT = 1000
+
+# Clauses and ranges of thousands of bytes that are left out, as they have their like,
+# too.
+LEFT_OUT = (
+    "text: 257 select lines",
+    "text: 257 revise lines",
+    "text: 1,025 actions in a head",
+    "text: 1,025 actions in a body",
+    "text range: 128 select lines",
+    "text range: 256 revise lines",
+    "text range: 8,191 actions in all plans",
+    "text range: 1023 actions in a select plan",
+    "text range: 1023 actions in a head",
+    "text range: 1023 actions in a body",
+    "text range: 1023 actions in the start's plan",
+    "text range: 1024 actions in a select plan",
+    "text range: 1024 actions in a head",
+    "text range: 1024 actions in the start's plan",
+)
+
+# Rooms that are lent for a refused text.
+REFUSED_ROOMS = (0, 1, 7, 20)
+
+
+def text_case(name, held, spare=0):
+    """A text, with just the room for its card and some spare; with any room where
+    none is built."""
+    _, _, card = text.read(held, drill.CARD_ROOM_LIMIT)
+    room = random_of(name, "room").choice(REFUSED_ROOMS) if card is None else max(0, len(card) + spare)
+    return Case(name, b"", [cases.request_text(held, room)])
+
+
+def texts_by_hand():
+    """Slips with their places, the other refusals, and one card in many spellings."""
+    for one in slips.SLIPS + slips.NUMBERED:
+        if len(one.text) <= LONG_TEXT:
+            yield text_case(one.name, one.text)
+    for at, held in enumerate(slips.SPELLINGS):
+        yield text_case("spelling %d" % at, held)
+
+
+def shortest(name, make, count=12):
+    """The shortest of so many texts by seed."""
+    return min((make(random_of(name, index)) for index in range(count)), key=lambda sample: len(sample.text))
+
+
+def clause_case(one):
+    """A text with one clause broken, or with a limit just kept."""
+    make = texts.clause_sample if one.number else texts.range_sample
+    return text_case(one.name, shortest(one.name, lambda random: make(random, one)).text)
+
+
+def text_pair_cases():
+    """Every two refusals of a text at once: "each is judged on the whole text before
+    the next is looked at"."""
+    for low, high in texts.TEXT_PAIRS:
+        name = "text %d and %d" % (low, high)
+        yield text_case(name, shortest(name, lambda random: texts.pair_sample(random, low, high)).text)
+    for number in texts.ORDER:
+        name = "text 17 and %d" % number
+        damages = [one for one in texts.TEXT_DAMAGES if one.number == number]
+        one = random_of(name).choice(damages)
+        held = shortest(name, lambda random: texts.clause_sample(random, one)).text
+        yield text_case(name, texts.slip_sample(random_of(name, "slip"), held, name).text)
+
+
+def stripe_text_case():
+    """The stripe card's text with the room for its card, one byte less, one more,
+    none, and some more; the card of the case stays."""
+    rooms = damage.rooms_around(283, 300)
+    made = [cases.request_text(slips.STRIPE_TEXT, room) for room in rooms]
+    return Case("the stripe card's text", STRIPE, made + cases.plain_requests())
+
+
+def long_text(deep):
+    """A text whose condition nests so deep, half of it by "!" and half by brackets."""
+    word = b"!" * (deep // 2) + slips.in_brackets(deep // 2, b"T")
+    return slips.with_condition(word)
+
+
+def long_text_cases():
+    """A condition that nests thousands deep, a slip in the middle of it, and one that
+    never closes its brackets."""
+    held = long_text(4000)
+    at = held.index(b"T)")
+    yield text_case("4,000 deep", held)
+    yield text_case("a slip behind 4,000 brackets and signs", held[:at] + b"&" + held[at:])
+    yield text_case("4,000 brackets and signs and no more", held[:at])
+
+
+def seeded_text_cases():
+    """Good texts and texts with damages to their bytes, by seed."""
+    for index in range(36):
+        name = "good text %d" % index
+        random = random_of(name)
+        held = texts.written(random, texts.small_writing(random), random.choice(texts.SPELLINGS))
+        yield text_case(name, held, random.choice((0, 0, 1, 5, -1, -1, -60)))
+    for index in range(140):
+        name = "damaged text %d" % index
+        yield text_case(name, shortest(name, texts.damaged_sample, 3).text)
+
+
+def text_cases():
+    """Texts by hand; each clause of their refusals, each limit just kept, every two
+    refusals at once; long ones; others by seed."""
+    yield stripe_text_case()
+    yield from texts_by_hand()
+    for one in texts.TEXT_DAMAGES + texts.TEXT_RANGES:
+        if one.name not in LEFT_OUT:
+            yield clause_case(one)
+    yield from text_pair_cases()
+    yield from long_text_cases()
+    yield from seeded_text_cases()
+
+
+# --- prints -----------------------------------------------------------------
+
+
+def print_case(name, card, nodes):
+    """Some nodes printed, with just the room for the text, and for every third one
+    with one byte less; where nothing is printed, with any room."""
+    made = []
+    for turn, node in enumerate(nodes):
+        number, printed = text.print_node(card, node, drill.PRINT_ROOM_LIMIT)
+        rooms = [len(printed), len(printed) - 1][:1 + (turn % 3 == 0)]
+        rooms = rooms if number == guide.DONE else [random_of(name, node).choice(REFUSED_ROOMS)]
+        made += [cases.request_print(node, room) for room in rooms]
+    return Case(name, card, made)
+
+
+def printed_by_hand_case():
+    """The conditions by hand, all of them on one card."""
+    nodes = []
+    roots = [slips.tree_nodes(tree, nodes) for tree, _ in slips.PRINTED]
+    card = cards.card(cards.Description(atoms=128, weights=[1], nodes=nodes))
+    return print_case("prints by hand", card, roots)
+
+
+def print_cases():
+    """Conditions by hand; nodes around 32 deep and around 256 printed nodes; cards of
+    each refusal; others by seed."""
+    yield printed_by_hand_case()
+    yield print_case("prints of the stripe card", STRIPE, [0, 1, 3, 4, 5, 6, 7, 255, 256, 65535])
+    yield print_case("prints of shared nodes", closed.SHARED, [0, 1, 2, 6, 7, 8, 9, 32, 33, 34, 254, 255, 256])
+    yield print_case("prints of a wide card", prints.WIDE, [126, 127, 128, 129])
+    yield print_case("prints of a tall card", closed.TALL, [0, 1, 31, 32, 33, 34, 254, 255, 256, 257])
+    for number in range(1, 10):
+        for one in damage.damages_of(number)[:2]:
+            yield print_case("print and " + one.name, damaged_case(one.name, (one,)).card, [0, 65535])
+    yield Case("the longest buffer for a print", STRIPE, [cases.request_print(4, drill.PRINT_ROOM_LIMIT)])
+    for index in range(32):
+        random = random_of("prints", index)
+        card = prints.some_card(random, SIZES[1])
+        yield Case("prints %d" % index, card, cases.print_requests(random, card, 6))
+
+
 # --- all --------------------------------------------------------------------
 
 
@@ -404,6 +568,8 @@ def all_cases():
         budget_cases(),
         verdict_cases(),
         seeded_cases(),
+        text_cases(),
+        print_cases(),
     )
 
 

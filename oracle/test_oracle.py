@@ -1,6 +1,7 @@
 """Tests of the oracle: document 01's cases P1 to P13, its program's lines, the
 damages' numbers, the closed moves of request 1, the drill's bytes, that a seed
-gives the same bytes, and what the stored requests hold."""
+gives the same bytes, and what the stored requests hold. Those of request 2 are in
+`test_text.py` and run with these."""
 
 import time
 from collections import Counter
@@ -14,7 +15,11 @@ import damage
 import drill
 import guide
 import program
+import slips
 import stored
+import test_text
+import text
+import texts
 from cards import AND, BELIEVES, HAS_GOAL, NOT, OR, TRUE
 from closed import configuration
 
@@ -504,6 +509,8 @@ class Stored(unittest.TestCase):
         "run": set(range(10)) | {13},
         "save": set(range(10)) | {12, 13},
         "restore": set(range(10)),
+        "text": {0, 3, 5, 6, 7, 8, 9, 12, 17, 18, 25},
+        "print": set(range(10)) | {12, 18, 25},
     }
 
     @classmethod
@@ -680,6 +687,74 @@ class Stored(unittest.TestCase):
         self.assertEqual(first[:4], b"\x10\0\x02\0")
 
 
+    def test_counts_of_texts_and_prints(self):
+        """About 700 texts and 300 prints, each answer several times."""
+        for name, least in (("text", 650), ("print", 280)):
+            column = self.met[cases.CALL_NAMES.index(name)]
+            self.assertGreaterEqual(sum(column), least)
+            self.assertGreaterEqual(min(column[number] for number in self.POSSIBLE[name]), 4, name)
+
+    def test_texts_by_hand(self):
+        """Each slip by hand is a case with its place, and so are the other texts by
+        hand but for the long ones, and the card in each spelling."""
+        for one in slips.SLIPS + slips.NUMBERED:
+            if len(one.text) <= stored.LONG_TEXT:
+                case = self.named[one.name]
+                answer = drill.answer(case.card, *case.requests)
+                self.assertEqual(answer[:6], drill.two(one.number) + drill.four(one.place), one.name)
+        for at in range(len(slips.SPELLINGS)):
+            self.assertEqual(self.numbers(self.named["spelling %d" % at]), [0])
+
+    def test_every_clause_of_a_text(self):
+        """Each clause of a text's refusals is a case, each limit just kept, and every
+        two refusals, but for those left out, of which there are others alike."""
+        for one in texts.TEXT_DAMAGES + texts.TEXT_RANGES:
+            if one.name not in stored.LEFT_OUT:
+                self.assertEqual(self.numbers(self.named[one.name]), [one.number], one.name)
+        for low, high in texts.TEXT_PAIRS + [(17, number) for number in texts.ORDER]:
+            self.assertEqual(self.numbers(self.named["text %d and %d" % (low, high)]), [low])
+        names = {one.name for one in texts.TEXT_DAMAGES + texts.TEXT_RANGES}
+        self.assertLessEqual(set(stored.LEFT_OUT), names)
+
+    def test_the_stripe_cards_text(self):
+        """With just the room, one byte less, none, one byte more and some more; the
+        card of the case is the one that is checked after it."""
+        case = self.named["the stripe card's text"]
+        self.assertEqual(self.numbers(case), [0, 12, 12, 0, 0, 0, 0, 0])
+        self.assertEqual(drill.answer(case.card, case.requests[0])[8:], test_text.STRIPE_CARD)
+
+    def test_deep_texts(self):
+        """Texts that nest 4,000 deep: 18, and 17 with the place of the slip."""
+        for name, number in (
+            ("4,000 deep", 18),
+            ("a slip behind 4,000 brackets and signs", 17),
+            ("4,000 brackets and signs and no more", 17),
+        ):
+            case = self.named[name]
+            held, _ = cases.read_text(case.requests[0])
+            place = text.slip_of(held) or 0
+            answer = drill.answer(case.card, *case.requests)
+            self.assertEqual(answer[:6], drill.two(number) + drill.four(place))
+            self.assertEqual(place > 4000, number == 17)
+
+    def test_edges_of_prints(self):
+        """Nodes that nest 32 and 33 deep, and that print 255, 256 and 257 nodes; rooms
+        of just the text's length and one byte less."""
+        deep, sizes, spare = set(), set(), set()
+        for card, asked, answer in self.each(drill.PRINT):
+            node, room = guide.number(asked, 1), guide.number(asked, 3)
+            nodes = guide.judge(card)[1].nodes.entries
+            if node < len(nodes):
+                found = text.measures(nodes)[node]
+                number, printed = text.print_node(card, node, drill.PRINT_ROOM_LIMIT)
+                deep.add((found.depth, number))
+                sizes.add((found.size, number))
+                spare.add(room - len(printed) if number == 0 else None)
+        self.assertLessEqual({(32, 0), (33, 18)}, deep)
+        self.assertLessEqual({(255, 0), (256, 0), (257, 25)}, sizes)
+        self.assertLessEqual({-1, 0, 1}, spare)
+
+
 class DrillBytes(unittest.TestCase):
     """The drill's requests and answers, written out by hand."""
 
@@ -767,6 +842,12 @@ class DrillBytes(unittest.TestCase):
         for size in range(1, len(whole)):
             self.assertEqual(self.answers(b"\x01", whole[:size]), b"\0\0")
         self.assertEqual(self.answers(b"\x01", b"\x00\x05\x00abcd"), b"\0\0")
+
+
+def load_tests(loader, tests, pattern):
+    """The tests of this file, and those of request 2."""
+    tests.addTests(loader.loadTestsFromModule(test_text))
+    return tests
 
 
 if __name__ == "__main__":

@@ -47,11 +47,11 @@ try() { # COMMAND...
 documents=../shared/documents
 try python3 tests/tidy.py
 if [ -d "$documents" ]; then try python3 tests/promises.py --documents "$documents"; else try python3 tests/promises.py; fi
-try python3 cards/test_make.py
-try python3 cards/make.py --check
 try python3 -B oracle/test_oracle.py
+try python3 -B oracle/test_text.py
 try python3 -B oracle/stored.py --check
 try tests/script.sh
+try python3 tests/cards.py
 try tests/c.sh --seed "$seed"
 try tests/c.sh --seed "$seed" --engine
 try tests/library.sh
@@ -59,6 +59,7 @@ try tests/example.sh
 try tests/languages.sh
 try tests/room.sh
 try python3 tests/definitions.py --seed "$seed" --cards 100
-try python3 tests/compare.py --seed "$seed" --cases "$cases"
+try python3 tests/compare.py --seed "$seed" --cases "$cases" --texts $((cases / 20))
+try python3 tests/every_place.py
 printf '%d passed, %d failed\n' "$passed" "$failed"
 [ "$failed" -eq 0 ]

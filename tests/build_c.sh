@@ -4,8 +4,8 @@
 #   tests/build_c.sh PROGRAM FILE...
 #
 # A FILE that ends in .c is compiled at -O3; all others (objects, archives) are linked as they
-# are. CFLAGS are given to the compiler too. Where PROGRAM ends in .o, its one FILE is compiled
-# and not linked. The kit has no C headers, and tests/libc/ stands in for them. tests/run_c.sh runs
+# are. CFLAGS are given to the compiler too. Where PROGRAM ends in .o, the files become one
+# object. The kit has no C headers, and tests/libc/ stands in for them. tests/run_c.sh runs
 # the program.
 set -eu
 
@@ -28,13 +28,6 @@ compile() { # FILE OBJECT
 program=$1
 shift
 mkdir -p "$(dirname "$program")"
-case $program in *.o)
-    [ $# -eq 1 ] || die "one file makes one object"
-    compile "$1" "$program"
-    exit 0
-    ;;
-esac
-
 count=$#
 for file in "$@"; do
     case $file in *.c)
@@ -46,6 +39,7 @@ for file in "$@"; do
     esac
 done
 shift "$count"
+case $program in *.o) exec "$own/ld.lld" -r -o "$program" "$@" ;; esac
 
 # -z now: no call looks a function up at its first use, so that a stack measured is the call's own.
 "$own/ld.lld" -pie -z now -dynamic-linker /lib64/ld-linux-x86-64.so.2 -o "$program" \

@@ -1,10 +1,10 @@
 #!/bin/sh
 # The library as C sees it: include/rigtemple.h as C and as C++, its words for the answers, the
-# eight calls with a turned screen, and the drill over the header against the oracle, byte for
-# byte: on the stored requests of crates/drill, and on requests by seed. The last line is
-# 'N passed, M failed'.
+# eight calls with a turned screen, the two over text, and the drill over the header against the
+# oracle, byte for byte: on the stored requests of crates/drill, and on requests by seed. The last
+# line is 'N passed, M failed'.
 #
-#   tests/c.sh [--engine] [--seed N] [--cards N] [--largest BYTES]
+#   tests/c.sh [--engine] [--seed N] [--cards N] [--texts N] [--largest BYTES]
 #
 # --engine puts the C engine of bench/ in the library's place, and so holds that one against the
 # oracle the same way.
@@ -15,14 +15,16 @@ die() { printf 'c.sh: %s\n' "$*" >&2; exit 2; }
 engine=
 seed=1
 cards=400
+texts=400
 largest=24128
 while [ $# -gt 0 ]; do
     case $1 in
     --engine) engine=--engine ;;
     --seed) seed=${2:?--seed takes a number}; shift ;;
     --cards) cards=${2:?--cards takes a number}; shift ;;
+    --texts) texts=${2:?--texts takes a number}; shift ;;
     --largest) largest=${2:?--largest takes a number}; shift ;;
-    *) die "usage: c.sh [--engine] [--seed N] [--cards N] [--largest BYTES]" ;;
+    *) die "usage: c.sh [--engine] [--seed N] [--cards N] [--texts N] [--largest BYTES]" ;;
     esac
     shift
 done
@@ -69,30 +71,36 @@ done
 
 # The names and the sentences of the answers are those of docs/API.md's table.
 same_words() {
-    sed -n 's/^| \([0-9]*\) | \([a-z ]*\) | \([^|]*\) |.*/\1|\2|\3/p' "$root/docs/API.md" |
-        tr -d '`' | sort -n >"$work/words.wanted"
-    echo '17|no answer of the guide|the guide gives no such answer' >>"$work/words.wanted"
+    {
+        sed -n 's/^| \([0-9]*\) | \([a-z ]*\) | \([^|]*\) |.*/\1|\2|\3/p' "$root/docs/API.md" |
+            tr -d '`'
+        for number in 19 20 21 22 23 24 26; do
+            echo "$number|no answer of the guide|the guide gives no such answer"
+        done
+    } | sort -n >"$work/words.wanted"
     "$tests/run_c.sh" "$work/answer_words" | diff "$work/words.wanted" -
 }
 "$tests/build_c.sh" "$work/answer_words" "$tests/answer_words.c"
 expect "the words of the answers are docs/API.md's" same_words
 
-# The eight calls, with the screen turned in the middle of a run.
-"$tests/build_c.sh" "$work/eight_calls" "$tests/eight_calls.c" "$tests/cards.c" "$archive"
-"$tests/run_c.sh" "$work/eight_calls" >"$work/eight_calls.out" || true
-cat "$work/eight_calls.out"
-last=$(tail -n 1 "$work/eight_calls.out")
-case $last in
-*' passed, '*' failed')
-    passed=$((passed + ${last%% passed*}))
-    counted=${last##*passed, }
-    failed=$((failed + ${counted% failed}))
-    ;;
-*)
-    printf 'failed: eight_calls did not end\n'
-    failed=$((failed + 1))
-    ;;
-esac
+# The eight calls, with the screen turned in the middle of a run, and the two over text.
+for program in eight_calls text_calls; do
+    "$tests/build_c.sh" "$work/$program" "$tests/$program.c" "$tests/cards.c" "$archive"
+    "$tests/run_c.sh" "$work/$program" >"$work/$program.out" || true
+    cat "$work/$program.out"
+    last=$(tail -n 1 "$work/$program.out")
+    case $last in
+    *' passed, '*' failed')
+        passed=$((passed + ${last%% passed*}))
+        counted=${last##*passed, }
+        failed=$((failed + ${counted% failed}))
+        ;;
+    *)
+        printf 'failed: %s did not end\n' "$program"
+        failed=$((failed + 1))
+        ;;
+    esac
+done
 
 # The drill over the header, and the oracle's answers: a check for each request. The table that the
 # oracle prints ends with their number.
@@ -115,9 +123,9 @@ stored=$root/crates/drill
 python3 -B "$root/oracle/stored.py" --check >"$work/stored.out" ||
     die "the stored requests are others"
 held 'the stored requests' "$work/stored.out" "$stored/stdin" "$stored/stdout"
-python3 -B "$root/oracle/cases.py" --seed "$seed" --cards "$cards" --largest "$largest" \
-    --requests "$work/requests" --answers "$work/answers" >"$work/cases.out"
-held "seed $seed, $cards cards" "$work/cases.out" "$work/requests" "$work/answers"
+python3 -B "$root/oracle/cases.py" --seed "$seed" --cards "$cards" --texts "$texts" \
+    --largest "$largest" --requests "$work/requests" --answers "$work/answers" >"$work/cases.out"
+held "seed $seed, $cards cards, $texts texts" "$work/cases.out" "$work/requests" "$work/answers"
 
 printf '%s passed, %s failed\n' "$passed" "$failed"
 [ "$failed" -eq 0 ]

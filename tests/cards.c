@@ -153,6 +153,22 @@ void stripe_card(struct card_bytes *card)
     put_atom(initial_goals(card), BAND);
 }
 
+const char stripe_text[] = "# the stripe card: 0 threaded, 1 bobbin, 2 band, 3 broken\n"
+                           "atoms 4\n"
+                           "action 1 # 0 weave\n"
+                           "action 1 # 1 wind\n"
+                           "action 1 # 2 repair\n"
+                           "action 3 # 3 pick\n"
+                           "action 5 # 4 stripe\n"
+                           "do 0 if B1&!B3 add 2 del 1\n"
+                           "do 1 if T add 1 del\n"
+                           "do 2 if B3 add del 3\n"
+                           "select if T goal G2 plan 4\n"
+                           "revise 4 if T to 1 3\n"
+                           "revise 3 if B3 to 2 0\n"
+                           "revise 3 if !B3 to 0\n"
+                           "begin beliefs 0 3 goals 2 plan\n";
+
 void endless_stripe_card(struct card_bytes *card)
 {
     stripe_card(card);

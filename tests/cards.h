@@ -51,6 +51,9 @@ uint8_t *initial_goals(struct card_bytes *card);
 /* "The stripe card": 255 bytes. */
 void stripe_card(struct card_bytes *card);
 
+/* A text that makes the stripe card, but for its nodes, of which none is shared: 283 bytes. */
+extern const char stripe_text[];
+
 /* The stripe card made endless: its selection rule asks for no goal, so that a stripe that is
  * woven is woven again. */
 void endless_stripe_card(struct card_bytes *card);

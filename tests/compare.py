@@ -1,9 +1,10 @@
 #!/usr/bin/env python3
 """Holds the proved programs against the independent one, on fresh cases by seed.
 
-    python3 tests/compare.py --seed 1 --cases 200000
+    python3 tests/compare.py --seed 1 --cases 200000 --texts 20000
 
-A case is a request of drill.md about a card. The cases and the answers to them come from oracle/ by the seed. Each request goes
+A case is a request of drill.md about a card. With --texts so many cases of texts to be read and nodes to be printed are added, six texts
+and five nodes each. The cases and the answers to them come from oracle/ by the seed. Each request goes
 through target/bin/drill, and the answer is compared byte for byte; each card that the program of document 01 can read whole goes
 through target/bin/rigtemple too, and the lines are compared with those of oracle/program.py. The first disagreement is told in
 words. The last line is 'N passed, M failed': requests and runs of the program on which both agree.
@@ -31,14 +32,17 @@ import program  # noqa: E402
 
 PROCESSES = 2
 REQUESTS_PER_CHUNK = 5000
+CASES_PER_CHUNK = 250
 SHOWN = 40
 
 
 class Job(NamedTuple):
-    """A chunk: its seed, how many requests, the largest card, and whether the oracle is spoiled."""
+    """A chunk: its seed, how many requests or how many cases of texts, the largest card or text, and whether the oracle is
+    spoiled."""
 
     seed: str
     requests: int
+    texts: int
     largest: int
     spoil: bool
 
@@ -85,7 +89,10 @@ def output(name, data):
 
 
 def cases_of(job):
-    """Cases with just as many requests; the last case is cut."""
+    """Cases with just as many requests, of which the last is cut; or cases of texts."""
+    if job.texts:
+        yield from cases.generate_texts(job.seed, job.texts, job.largest)
+        return
     left = job.requests
     for case in cases.generate(job.seed, job.requests, job.largest):
         yield case._replace(requests=case.requests[:left])
@@ -94,9 +101,14 @@ def cases_of(job):
             return
 
 
+def nothing_met():
+    """How often each number was met for each call: not yet."""
+    return [[0] * (max(cases.ANSWER_NUMBERS) + 1) for _ in cases.CALL_NAMES]
+
+
 def answered(job):
     """The cases, each with the oracle's answers, and the table of these."""
-    met, found = [[0] * len(cases.ANSWER_NUMBERS) for _ in cases.CALL_NAMES], []
+    met, found = nothing_met(), []
     for case in cases_of(job):
         answers = [drill.answer(case.card, request) for request in case.requests]
         for request, answer in zip(case.requests, answers):
@@ -145,8 +157,9 @@ def hold_requests(job, found):
 
 
 def hold_program(job, found):
-    """The disagreements of the program, and how many cards it was run on: those "of at most 24,129 bytes"."""
-    read = [case for case, _ in found if len(case.card) <= program.INPUT_LIMIT]
+    """The disagreements of the program, and how many cards it was run on: those "of at most 24,129 bytes" in cases that are not of
+    texts."""
+    read = [case for case, _ in found if len(case.card) <= program.INPUT_LIMIT and not job.texts]
     differing = []
     for number, case in enumerate(read):
         expected = "".join(line + "\n" for line in program.lines(case.card)).encode()
@@ -180,7 +193,8 @@ def arguments():
     parser = argparse.ArgumentParser(description=__doc__.split("\n")[0])
     parser.add_argument("--seed", default="1")
     parser.add_argument("--cases", type=int, default=200000, help="how many requests")
-    parser.add_argument("--largest", type=int, default=65535, help="bytes of the largest card")
+    parser.add_argument("--texts", type=int, default=0, help="how many cases of texts and printed nodes")
+    parser.add_argument("--largest", type=int, default=65535, help="bytes of the largest card and text")
     parser.add_argument("--spoil", action="store_true", help="change one answer and one line of the oracle's")
     options = parser.parse_args()
     if options.cases < 1:
@@ -192,14 +206,17 @@ def jobs(options):
     """The chunks, each with a seed of its own."""
     for number, begin in enumerate(range(0, options.cases, REQUESTS_PER_CHUNK)):
         count = min(REQUESTS_PER_CHUNK, options.cases - begin)
-        yield Job(f"{options.seed}.{number}", count, options.largest, options.spoil and number == 0)
+        yield Job(f"{options.seed}.{number}", count, 0, options.largest, options.spoil and number == 0)
+    for number, begin in enumerate(range(0, options.texts, CASES_PER_CHUNK)):
+        count = min(CASES_PER_CHUNK, options.texts - begin)
+        yield Job(f"{options.seed}.text.{number}", 0, count, options.largest, False)
 
 
 def main():
     """Compares all chunks, and prints the table and the counts."""
     options = arguments()
     build(("drill", "rigtemple"))
-    met = [[0] * len(cases.ANSWER_NUMBERS) for _ in cases.CALL_NAMES]
+    met = nothing_met()
     cards = runs = failed = 0
     with multiprocessing.Pool(PROCESSES) as pool:
         for held in pool.imap(hold, jobs(options)):
@@ -208,8 +225,9 @@ def main():
                 print("the first disagreement: " + held.first, flush=True)
             cards, runs, failed = cards + held.cards, runs + held.runs, failed + held.failed
     print(cases.table(met))
-    print(f"{options.cases} requests about {cards} cards and {runs} runs of the program, by seed {options.seed}")
-    print(f"{options.cases + runs - failed} passed, {failed} failed")
+    requests = sum(sum(column) for column in met)
+    print(f"{requests} requests about {cards} cards and {runs} runs of the program, by seed {options.seed}")
+    print(f"{requests + runs - failed} passed, {failed} failed")
     sys.exit(1 if failed else 0)
 
 

@@ -1,12 +1,16 @@
 #!/usr/bin/env python3
 """Has the checker compute the definitions and compares them with the independent program.
 
-    python3 tests/definitions.py --seed 1 --cards 500
+    python3 tests/definitions.py --seed 1 --cards 500 --texts 50
 
 Cards, places, configurations and choices come from oracle/ by the seed; the answers to them from oracle/ too. Each request
 becomes one equation, "what the definition answers is what the oracle answers", in a temporary crate over the project's own
 definitions, and the checker computes both sides. The last line is 'N passed, M failed': N requests on which both agree.
 Nothing is written into the repository.
+
+A case of --texts has six texts to be read, a card, and five of its nodes to be printed; --stored has those of the gate too. The
+grammar is a relation, which does not compute: what reading a text answers is computed as crates/notation/proofs/Computing.antt
+does it, where it is proved that this is so by the relation `Reads`.
 """
 
 import argparse
@@ -24,13 +28,19 @@ sys.dont_write_bytecode = True
 
 import cases  # noqa: E402
 import drill  # noqa: E402
+import guide  # noqa: E402
+import stored  # noqa: E402
+import text  # noqa: E402
 
-DEFINITIONS = ("paper", "runs", "meaning")
-CALLS = ("check", "load", "grade", "list", "take", "run", "save", "restore")
-# The numbers that the guide may answer.
-ANSWERS = (*range(10), *range(11, 17))
+DEFINITIONS = ("paper", "runs", "meaning", "notation")
+CALLS = ("check", "load", "grade", "list", "take", "run", "save", "restore", "text", "print")
+# The numbers that the guide may answer; the last of them are those of a text or a print alone.
+ANSWERS = (*range(10), *range(11, 19), 25)
+OF_TEXTS = (17, 18, 25)
 # The checker computes a run step by step, so longer budgets are cut to this.
 LONGEST_RUN = 200
+# The checker computes the whole tree of a node, each occurrence of a shared one, so nodes of larger trees are left out.
+LARGEST_TREE = 5000
 PER_CRATE = 50
 
 HEAD = """use mathlib.Core.Path.{_≡_, refl}
@@ -40,13 +50,16 @@ use lib.ListN.{replicate}
 use Rattle.meaning.specs.declared.Configuration.{Configuration}
 use Rattle.meaning.specs.Configurations.{padded}
 use Rattle.meaning.proofs.Computing.{computing}
+use Rattle.notation.proofs.Computing as Text
 use Rattle.CRATE.specs.Drill.{image, checkBytes, loadBytes, gradeBytes, listBytes, takeBytes, runBytes, saveBytes, restoreBytes, all-shown}
+use Rattle.CRATE.specs.Drill.{textBytes, printBytes}
 
 """
 
-DRILL = """-- The answers of the eight calls as the drill writes them.
+DRILL = """-- The answers of the eight calls, of reading a text and of printing a node, as the drill writes them.
 use mathlib.Core.List.{List, [], _∷_, _++_, map, flatten}
-use Prim.Native.Nat.{ℕ, zero, suc}
+use mathlib.Core.Option.{Option, none, some}
+use Prim.Native.Nat.{ℕ, zero, suc, _/_}
 use lib.ListN.{length, replicate}
 use Rattle.runs.specs.declared.Ending.{Ending}
 use Rattle.runs.specs.declared.Offender.{Offender}
@@ -61,8 +74,11 @@ use Rattle.meaning.specs.declared.Written.{Written}
 use Rattle.meaning.specs.declared.Ran.{Ran}
 use Rattle.meaning.specs.Card.{Bytes}
 use Rattle.meaning.specs.Place.{twoBytes}
-use Rattle.meaning.specs.Refusals.{numberOf, answerNumber, answerNode}
+use Rattle.meaning.specs.Refusals.{numberOf, answerNumber, answerCarried}
 use Rattle.meaning.specs.Calls.{checks, loads, grades, lists, listLeaves, takes, runs, saves, saveLeaves, restores}
+use Rattle.meaning.specs.Refusals.{carried}
+use Rattle.notation.specs.Printing.{printAnswer, printCount, printLeaves}
+use Rattle.notation.proofs.Computing.{Answered, textAnswered}
 
 -- a byte before what is left of the bytes after it, once zeros at the end are left off
 abbrev before : ℕ → Bytes → Bytes
@@ -97,7 +113,7 @@ unfoldable pub loadBytes : Bytes → Bytes
 loadBytes b = replyBytes (loads b)
 
 abbrev takenBytes : Reply → Bytes
-takenBytes r = number (r .answer) ++ (twoBytes (answerNode (r .answer)) ++ image (r .configuration))
+takenBytes r = number (r .answer) ++ (twoBytes (answerCarried (r .answer)) ++ image (r .configuration))
 
 unfoldable pub takeBytes : Bytes → Configuration → ℕ → Bytes
 takeBytes b c k = takenBytes (takes b c k)
@@ -138,8 +154,26 @@ ranBytes r = number (r .answer) ++ (image (r .configuration) ++ (twoBytes (r .co
 unfoldable pub runBytes : Bytes → Configuration → ℕ → Bytes
 runBytes b c budget = ranBytes (runs b c budget)
 
+abbrev place : Answer → ℕ
+place Done = 0
+place (Refused r) = carried r
+
+abbrev answeredBytes : Option Answered → Bytes
+answeredBytes none = []
+answeredBytes (some a) =
+    let p = place (a .answer) in
+    number (a .answer) ++ (twoBytes p ++ (twoBytes (p / 65536) ++ (twoBytes (a .count) ++ a .leaves)))
+
+unfoldable pub textBytes : Bytes → ℕ → Bytes
+textBytes t room = answeredBytes (textAnswered t (replicate room 0xEE))
+
+unfoldable pub printBytes : Bytes → ℕ → ℕ → Bytes
+printBytes b n room =
+    let out : Bytes = replicate room 0xEE in
+    number (printAnswer b n out) ++ (twoBytes (printCount b n out) ++ printLeaves b n out)
+
 unfoldable pub all-shown : Unit {0}
-unfolding flatten image checkBytes loadBytes gradeBytes listBytes takeBytes runBytes saveBytes restoreBytes
+unfolding flatten image checkBytes loadBytes gradeBytes listBytes takeBytes runBytes saveBytes restoreBytes textBytes printBytes
 all-shown = tt
 """
 
@@ -189,6 +223,11 @@ def term(card, request):
         return f"{call}Bytes {card}"
     if call == "restore":
         return f"restoreBytes {card} {literal(request[3:])}"
+    if call == "text":
+        held, room = cases.read_text(request)
+        return f"textBytes {literal(held)} {room}"
+    if call == "print":
+        return f"printBytes {card} {two(request, 1)} {two(request, 3)}"
     configuration, at = image_term(request)
     return f"{call}Bytes {card} {configuration} {two(request, at)}"
 
@@ -196,7 +235,7 @@ def term(card, request):
 def theorem(name, card, request, answer):
     return (
         f"pub {name} : {term(card, request)} ≡ {literal(answer)}\n"
-        f"unfolding computing all-shown {card}\n{name} = refl\n\n"
+        f"unfolding computing Text.computing all-shown {card}\n{name} = refl\n\n"
     )
 
 
@@ -258,7 +297,9 @@ def arguments():
     parser = argparse.ArgumentParser(description=__doc__.split("\n")[0])
     parser.add_argument("--seed", type=int, default=1)
     parser.add_argument("--cards", type=int, default=500)
-    parser.add_argument("--largest", type=int, default=700, help="bytes of the largest card")
+    parser.add_argument("--texts", type=int, default=50, help="cases of texts and prints")
+    parser.add_argument("--stored", action="store_true", help="the texts and prints on which the gate runs the drill, too")
+    parser.add_argument("--largest", type=int, default=700, help="bytes of the largest card and text")
     parser.add_argument("--requests", type=int, default=8, help="the most requests of a card")
     parser.add_argument("--spoil", action="store_true", help="change a byte of one answer, which must then be refused")
     parser.add_argument("--keep", help="a folder for the temporary crates, kept afterwards")
@@ -272,17 +313,44 @@ def chosen(random, requests, most):
     return [requests[i] for i in sorted(random.sample(range(len(requests)), most))]
 
 
-def gather(options):
-    """The cases, each with its requests and the oracle's answers; and how often each answer was met for each call."""
-    met, gathered, random = Counter(), [], Random(options.seed)
+def asked(options):
+    """The cases, each with those of its requests that are asked."""
+    random = Random(options.seed)
     for case in cases.generate(options.seed, options.cards, largest=options.largest):
+        yield case, chosen(random, case.requests, options.requests)
+    made = enumerate(cases.generate_texts(options.seed, options.texts, options.largest))
+    texts = [case._replace(name=f"texts and prints {index}") for index, case in made]
+    if options.stored:
+        texts += [*stored.text_cases(), *stored.print_cases()]
+    for case in texts:
+        yield case, [request for request in case.requests if request[0] in (drill.TEXT, drill.PRINT)]
+
+
+def is_left_out(card, request, largest):
+    """Whether a request has a longer text than the largest, or prints a node of a larger tree than LARGEST_TREE."""
+    if request[0] == drill.TEXT:
+        return len(cases.read_text(request)[0]) > largest
+    _, accepted = guide.judge(card) if request[0] == drill.PRINT else (0, None)
+    if accepted is None or two(request, 1) >= len(accepted.nodes.entries):
+        return False
+    return text.measures(accepted.nodes.entries)[two(request, 1)].size > LARGEST_TREE
+
+
+def gather(options):
+    """The cases, each with its requests and the oracle's answers; how often each answer was met for each call; and how many
+    texts and prints were left out."""
+    met, gathered, left = Counter(), [], 0
+    for case, requests in asked(options):
         answered = []
-        for request in map(cut_budget, chosen(random, case.requests, options.requests)):
+        for request in map(cut_budget, requests):
+            if is_left_out(case.card, request, options.largest):
+                left += 1
+                continue
             answer = drill.answer(case.card, request)
             met[CALLS[request[0] - 1], two(answer, 0)] += 1
             answered.append((request, answer))
         gathered.append((case, answered))
-    return gathered, met
+    return gathered, met, left
 
 
 def table(met):
@@ -322,7 +390,7 @@ def spoil(gathered):
 
 def main():
     options = arguments()
-    gathered, met = gather(options)
+    gathered, met, left = gather(options)
     print(table(met), flush=True)
     if options.spoil:
         spoil(gathered)
@@ -330,22 +398,26 @@ def main():
     prepare(root)
     chunks = [gathered[i : i + PER_CRATE] for i in range(0, len(gathered), PER_CRATE)]
     names = [write_crate(root, i, chunk) for i, chunk in enumerate(chunks)]
-    listed = ["paper:", "runs: paper", "meaning: paper runs"]
-    listed += [f"{name}: paper runs meaning" for name in names]
+    listed = ["paper:", "runs: paper", "meaning: paper runs", "notation: paper runs meaning"]
+    listed += [f"{name}: paper runs meaning notation" for name in names]
     write(os.path.join(root, "crates.txt"), "\n".join(listed) + "\n")
     refused, trouble = hold(root, chunks)
     if not options.keep:
         shutil.rmtree(root)
+    if left:
+        print(f"{left} left out: texts of more than {options.largest} bytes and prints of more than {LARGEST_TREE} nodes")
     report(options, met, sum(len(answered) for _, answered in gathered), refused, trouble)
 
 
 def report(options, met, total, refused, trouble):
     print("\n".join(refused) + trouble)
-    rare = [n for n in ANSWERS if sum(met[call, n] for call in CALLS) < 10]
+    expected = [n for n in ANSWERS if options.texts or options.stored or n not in OF_TEXTS]
+    rare = [n for n in expected if sum(met[call, n] for call in CALLS) < 10]
     if rare:
         print("answers met fewer than ten times:", *rare)
     failed = total if trouble else len(refused)
-    print(f"{options.cards} cards of at most {options.largest} bytes, {total} requests, by seed {options.seed}")
+    texts = f" and {options.texts} cases of texts and prints" if options.texts else ""
+    print(f"{options.cards} cards{texts} of at most {options.largest} bytes, {total} requests, by seed {options.seed}")
     print(f"{total - failed} passed, {failed} failed")
     sys.exit(1 if failed else 0)
 

@@ -68,7 +68,7 @@ choices() {
     expect 'another reason has no node' 0 'refused: front: ' "$card" "$place" '512\n'
     holds 'no node was told' not grep -qF '(node ' "$room/said"
     rm -f "$place"
-    expect 'a plan that would get too long' 0 'full: ' "$root/cards/growing.card" "$place" \
+    expect 'a plan that would get too long' 0 'full: ' "$room/growing.card" "$place" \
         "$(printf '%0999d' 0 | sed 's/0/\\n/g')"
 }
 
@@ -123,6 +123,8 @@ try_all() { # COMMAND...
 }
 
 "$root/library" "$room/handed" 2>/dev/null || die './library failed'
+"$root/rigtemple" card "$root/cards/growing.text" >"$room/growing.card" 2>/dev/null ||
+    die './rigtemple card failed'
 folder=$room/handed
 CFLAGS="-I $folder" "$tests/build_c.sh" "$room/kit" "$folder/turned_screen.c" \
     "$folder/librigtemple.a"

@@ -12,12 +12,15 @@
  *   6 run      image, budget (2)        number (2), image, count (2), ending (1)
  *   7 save     image, room (2)          number (2), the lent place (room bytes)
  *   8 restore  length (2), bytes        number (2), image
+ *   9 text     length (4), bytes, room (2)
+ *                                       number (2), place (4), length (2), the lent card (room)
+ *  10 print    node (2), room (2)       number (2), length (2), the lent text (room bytes)
  *
  * An image: beliefs (16), goals (16), plan length (2), phase (1), m (2), m bytes of the plan's
  * array; the rest of it is zero. In an answer m is the least that serves. The node of a take is
- * with 16 the one that settled the condition, else 0. Lent buffers are lent filled with EE hex.
- * What a refused grading says beside its number is written as 0. A request that breaks these rules
- * ends the program.
+ * with 16 the one that settled the condition, else 0; the place of a text with 17 that of the first
+ * wrong byte, else 0. Lent buffers are lent filled with EE hex. What a refused grading says beside
+ * its number is written as 0. A request that breaks these rules ends the program.
  */
 #include <stdlib.h>
 #include <string.h>
@@ -25,8 +28,9 @@
 
 #include "../include/rigtemple.h"
 
-enum { CARD, CHECK, LOAD, GRADE, LIST, TAKE, RUN, SAVE, RESTORE };
+enum { CARD, CHECK, LOAD, GRADE, LIST, TAKE, RUN, SAVE, RESTORE, TEXT, PRINT };
 enum { LIST_LIMIT = 1024, SAVE_LIMIT = 2048, PLACE_LIMIT = 4096, LENT = 0xEE };
+enum { TEXT_LIMIT = 65536, CARD_ROOM_LIMIT = 24200, PRINT_LIMIT = 2048 };
 
 static uint8_t card[65535];
 static size_t card_len;
@@ -87,6 +91,15 @@ static uint16_t get_number(unsigned most)
     if (value > most)
         end(1);
     return (uint16_t)value;
+}
+
+/* A length of four bytes, `most` at most. */
+static size_t get_length(size_t most)
+{
+    size_t low = get_number(65535), value = low + 65536 * (size_t)get_number(65535);
+    if (value > most)
+        end(1);
+    return value;
 }
 
 static void put_byte(uint8_t byte)
@@ -217,6 +230,32 @@ static void answer_restore(void)
     put_image(&c);
 }
 
+static void answer_text(void)
+{
+    static uint8_t text[TEXT_LIMIT], made[CARD_ROOM_LIMIT];
+    uint16_t count = LENT;
+    size_t place = LENT, text_len = get_length(TEXT_LIMIT);
+    get_bytes(text, text_len);
+    size_t room = get_number(CARD_ROOM_LIMIT);
+    memset(made, LENT, sizeof made);
+    put_number(rigtemple_text(text, text_len, made, room, &count, &place));
+    put_number((uint16_t)place);
+    put_number((uint16_t)(place >> 16));
+    put_number(count);
+    put_bytes(made, room);
+}
+
+static void answer_print(void)
+{
+    uint8_t text[PRINT_LIMIT];
+    uint16_t count = LENT, node = get_number(65535);
+    size_t room = get_number(PRINT_LIMIT);
+    memset(text, LENT, sizeof text);
+    put_number(rigtemple_print(card, card_len, node, text, room, &count));
+    put_number(count);
+    put_bytes(text, room);
+}
+
 static void answer(uint8_t request)
 {
     switch (request) {
@@ -247,6 +286,12 @@ static void answer(uint8_t request)
         break;
     case RESTORE:
         answer_restore();
+        break;
+    case TEXT:
+        answer_text();
+        break;
+    case PRINT:
+        answer_print();
         break;
     default:
         end(1);

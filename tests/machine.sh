@@ -14,7 +14,9 @@ x86_64-*linux*) linked=${folder:?} what='the library' ;;
     mkdir -p "$linked"
     # shellcheck disable=SC2086,SC2154  # names are words, which tests/engine.sh sets
     cc -O2 -fPIC $names -c "$root/bench/engine.c" -o "$linked/engine.o"
+    # shellcheck disable=SC2086
+    cc -O2 -fPIC $names -c "$root/bench/engine_text.c" -o "$linked/engine_text.o"
     rm -f "$linked/librigtemple.a"
-    ar rcs "$linked/librigtemple.a" "$linked/engine.o"
+    ar rcs "$linked/librigtemple.a" "$linked/engine.o" "$linked/engine_text.o"
     ;;
 esac

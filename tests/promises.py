@@ -33,9 +33,12 @@ READING = (
     ("what is proved of the definitions", ("paper/specs/Theorems.antt", "runs/specs/Theorems.antt", "meaning/specs/Theorems.antt")),
     ("the letter's demands", ("demands/specs/Contracts.antt", "demands/specs/Demands.antt", "demands/specs/TestOrder.antt",
                               "demands/specs/Closed.antt", "demands/specs/Shown.antt")),
-    ("the cases", ("paper/specs/Cases.antt", "meaning/specs/Stripe.antt", "meaning/specs/Cases.antt")),
+    ("cards as text", ("notation/specs/Words.antt", "notation/specs/Conditions.antt", "notation/specs/Lines.antt", "meaning/specs/Assembled.antt",
+                       "notation/specs/Built.antt", "notation/specs/Reading.antt", "notation/specs/Printing.antt")),
+    ("what is proved of texts", ("notation/specs/Theorems.antt",)),
+    ("the cases", ("paper/specs/Cases.antt", "meaning/specs/Stripe.antt", "meaning/specs/Cases.antt", "notation/specs/Cases.antt")),
 )
-READ_CRATES = ("paper", "runs", "meaning", "demands")
+READ_CRATES = ("paper", "runs", "meaning", "demands", "notation")
 
 
 class Piece(NamedTuple):
@@ -256,10 +259,10 @@ def remarks(path):
 
 
 def check_remarks(folder, tally):
-    """Every quotation in a comment stands in a document (drill.md lies beside their folder), in docs/DECISIONS.md or in the header. Those with a formula of
-    document 004 are left out: its text has the formulas in another notation."""
+    """Every quotation in a comment stands in a document (drill.md lies beside their folder), in docs/DECISIONS.md, in docs/TEXT.md or in
+    the header. Those with a formula of document 004 are left out: its text has the formulas in another notation."""
     sources = sorted(glob.glob(os.path.join(folder, "*")) + glob.glob(os.path.join(folder, "..", "drill.md")))
-    sources += [os.path.join(TOP, name) for name in ("docs/DECISIONS.md", "include/rigtemple.h")]
+    sources += [os.path.join(TOP, name) for name in ("docs/DECISIONS.md", "docs/TEXT.md", "include/rigtemple.h")]
     texts = [re.sub(r"\s+", " ", re.sub(r"[*`]", "", read(path))) for path in sources]
     for pattern in ("*/src/*.rt", "*/specs/*.antt", "*/must-fail/*.edit"):
         for path in sorted(glob.glob(os.path.join(TOP, "crates", pattern))):

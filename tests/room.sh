@@ -1,7 +1,7 @@
 #!/usr/bin/env bash
 # Measures the room that the guide needs: the deepest stack of each call through the header (tests/stack.sh), what an app lends with
-# the largest card, and the stack of the program. The last line is 'N passed, M failed': each call within 8,192 bytes, and all
-# together, and the program, within 65,536.
+# the largest card, and the stack of the program. The last line is 'N passed, M failed': each call within 8,192 bytes, reading a text
+# within 40,960, and all together, and the program, within 65,536.
 #
 #   tests/room.sh
 set -eu
@@ -22,8 +22,12 @@ within() { # WHAT BYTES BOUND
 
 calls=$("$root/tests/stack.sh" | grep ' bytes of stack') || die "tests/stack.sh failed"
 deepest=0
+reading=0
 while read -r call bytes _; do
-    within "the stack of $call" "$bytes" 8192
+    bound=8192
+    [ "$call" != text ] || bound=40960
+    within "the stack of $call" "$bytes" $bound
+    [ "$call" != text ] || { reading=$bytes; continue; }
     [ "$bytes" -le "$deepest" ] || deepest=$bytes
 done <<END
 $calls
@@ -37,6 +41,8 @@ place=$((44 + 1024))
 printf '%-42s %6d bytes\n' 'the largest card' "$card" 'a configuration' "$configuration" 'a list of 768 choices' "$list" \
     'the largest place' "$place"
 within 'all of it with the deepest stack' $((card + configuration + list + place + deepest)) "$most"
+# To read a text an app lends the text, of any length, and room for a card.
+within 'the largest card with the stack of text' $((card + reading)) "$most"
 
 # The program: the least limit of its stack, by 4,096 bytes, under which it runs the largest card to its end. What the system and
 # the C library put on the stack before the program begins is in it.

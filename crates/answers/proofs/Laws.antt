@@ -1,5 +1,5 @@
 -- An offender's number fits in the 16 bits that it is written in: a card has at most 256 rules of a kind. A refusal other than 16
--- carries no node.
+-- and 17 carries no number.
 use mathlib.Core.Path.{_≡_, refl, sym, subst}
 use mathlib.Core.Bool.{Bool, true, false}
 use mathlib.Core.List.{List, [], _∷_}
@@ -22,6 +22,7 @@ use Rattle.meaning.specs.Refusals.{carried, cardAnswer}
 use Rattle.meaning.specs.Calls.{grades}
 use Rattle.meaning.proofs.Calls.{grades-good, grades-refused}
 use Rattle.meaning.proofs.Accepted.{length-entries}
+use Rattle.meaning.proofs.Carrying.{Carries, nothing, a-node, a-place, carries}
 use Rattle.card.proofs.GoodCard.{good-card}
 use Rattle.meaning.specs.Numbers.{offenderRule, verdictRule}
 
@@ -54,22 +55,15 @@ grades-narrow b = go (cardAnswer b) refl
         subst (λ (x : Graded). verdictRule (x .verdict) < 65536) (sym (grades-good b e)) v
     go (Refused r) e = subst (λ (x : Graded). verdictRule (x .verdict) < 65536) (sym (grades-refused b r e)) (omega arith)
 
--- ---- the variants but that of 16, by their tags
+-- ---- the variants but those of 16 and 17, by their tags
 
-pub no-node : (r : Refusal) → OneOf (0 ∷ 1 ∷ 2 ∷ 3 ∷ 4 ∷ 5 ∷ 6 ∷ 7 ∷ 8 ∷ 9 ∷ 10 ∷ 11 ∷ 13 ∷ 14 ∷ []) (tagOf the-type r) → carried r ≡ 0
-unfolding carried
-no-node (Refusal.Condition n) h = absurd (miss (0 ∷ 1 ∷ 2 ∷ 3 ∷ 4 ∷ 5 ∷ 6 ∷ 7 ∷ 8 ∷ 9 ∷ 10 ∷ 11 ∷ 13 ∷ 14 ∷ []) 12 tt h)
-no-node Refusal.Short h = refl
-no-node Refusal.Mark h = refl
-no-node Refusal.Count h = refl
-no-node Refusal.Offsets h = refl
-no-node Refusal.Weight h = refl
-no-node Refusal.Node h = refl
-no-node Refusal.Rule h = refl
-no-node Refusal.ActionByte h = refl
-no-node Refusal.Atom h = refl
-no-node Refusal.Configuration h = refl
-no-node Refusal.NoRule h = refl
-no-node Refusal.Front h = refl
-no-node Refusal.PlanFull h = refl
-no-node Refusal.NoRoom h = refl
+abbrev others : List ℕ
+others = 0 ∷ 1 ∷ 2 ∷ 3 ∷ 4 ∷ 5 ∷ 6 ∷ 7 ∷ 8 ∷ 9 ∷ 10 ∷ 11 ∷ 13 ∷ 14 ∷ 16 ∷ 17 ∷ []
+
+pub carries-nothing : (r : Refusal) → OneOf others (tagOf the-type r) → carried r ≡ 0
+carries-nothing r = go (carries r)
+  where
+    go : {r : Refusal} → Carries r → OneOf others (tagOf the-type r) → carried r ≡ 0
+    go (nothing e) h = e
+    go a-node h = absurd (miss others 12 tt h)
+    go a-place h = absurd (miss others 15 tt h)

@@ -1,7 +1,7 @@
 // The numbers in which what the guide answers is told to others: the header, the drill and the program.
 ghost use mathlib.Core.Path.{_≡_};
 ghost use Prim.Native.Nat.{_<_};
-ghost use Rattle.meaning.specs.Refusals.{numberOf, answerNumber, carried, answerNode};
+ghost use Rattle.meaning.specs.Refusals.{numberOf, answerNumber, carried, answerCarried};
 ghost use Rattle.meaning.specs.Numbers.{endingNumber, verdictNumber, offenderNumber, offenderRule, verdictOffender, verdictRule};
 use meaning::Answer;
 use meaning::Refusal;
@@ -29,6 +29,9 @@ pub fn refusal_number(r: Refusal) -> u16
         Refusal::Condition(_) => 16,
         Refusal::PlanFull => 11,
         Refusal::NoRoom => 12,
+        Refusal::Text(_) => 17,
+        Refusal::Nested => 18,
+        Refusal::Large => 25,
     }
 }
 
@@ -42,25 +45,25 @@ pub fn answer_number(a: Answer) -> u16
     }
 }
 
-// The node that a refusal carries: 02, Wish 1: "16 a condition is false, with the node". 0 where it carries none.
-fn refusal_node(r: Refusal) -> u16
-    requires { ⌜ carried r < 65536 ⌝ }
+// The number that a refusal carries: 02, Wish 1: "16 a condition is false, with the node"; Wish 2: "17 text, with the place". 0
+// where it carries none.
+fn refusal_carried(r: Refusal) -> usize
     ensures { λ n. ⌜ n ≡ carried r ⌝ }
 {
-    let Refusal::Condition(node) = r else {
-        return 0;
-    };
-    node as u16
+    match r {
+        Refusal::Condition(node) => node,
+        Refusal::Text(place) => place,
+        _ => 0,
+    }
 }
 
-// The node that an answer shows, 0 where it shows none.
-pub fn answer_node(a: Answer) -> u16
-    requires { ⌜ answerNode a < 65536 ⌝ }
-    ensures { λ n. ⌜ n ≡ answerNode a ⌝ }
+// The number that an answer carries, 0 where it carries none.
+pub fn answer_carried(a: Answer) -> usize
+    ensures { λ n. ⌜ n ≡ answerCarried a ⌝ }
 {
     match a {
         Answer::Done => 0,
-        Answer::Refused(r) => refusal_node(r),
+        Answer::Refused(r) => refusal_carried(r),
     }
 }
 

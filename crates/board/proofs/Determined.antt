@@ -1,6 +1,8 @@
--- A contract for C leaves one answer: two that meet it are both what its definition says.
-use mathlib.Core.Path.{ap}
+-- A contract for C leaves one answer: two that meet it are both what its definition says, and a text has one answer.
+use mathlib.Core.Path.{ap, sym, _∙_}
 use Rattle.meaning.specs.declared.Configuration.{Configuration}
+use Rattle.meaning.specs.Refusals.{answerNumber, answerCarried}
+use Rattle.notation.proofs.Laws.{read-determined}
 use Rattle.demands.proofs.Demands.{same}
 use Rattle.board.specs.Determined.{DeterminedParts}
 
@@ -15,6 +17,14 @@ determined =
       run = λ card d budget n n′ c c′ k k′ a a′ e f. (same (e .0) (f .0), same (e .1) (f .1), same (e .2) (f .2), same (e .3) (f .3));
       save = λ card d place left left′ n n′ k k′ e f. (same (e .0) (f .0), same (e .2) (f .2), same (e .1) (f .1));
       restore = λ card place n n′ c c′ e f. (same (e .0) (f .0), same (e .1) (f .1));
+      text = λ text card left left′ n n′ k k′ p p′ e f.
+          let (a, m, l) = read-determined .read text card (e .0) (f .0) k k′ left left′ (e .1) (f .1) in (
+            e .2 .0 ∙ ap answerNumber a ∙ sym (f .2 .0),
+            l,
+            m,
+            e .2 .1 ∙ ap answerCarried a ∙ sym (f .2 .1),
+          );
+      print = λ card node text left left′ n n′ k k′ e f. (same (e .0) (f .0), same (e .2) (f .2), same (e .1) (f .1));
       parts = λ b b′ g g′ p p′ n n′ f f′ e. (
         ap (λ (c : Configuration). c .mind .beliefs) e,
         ap (λ (c : Configuration). c .mind .goals) e,

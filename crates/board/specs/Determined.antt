@@ -1,14 +1,18 @@
--- The contract of each of the eight functions for C, by the one name that its `ensures` cites, and that it leaves one answer
+-- The contract of each of the ten functions for C, by the one name that its `ensures` cites, and that it leaves one answer
 -- (proved in proofs/). n is the return value. What is lent to be written is named as it is left: c for a configuration's five
--- parts, left for a list or a place, the others as in include/rigtemple.h. What is lent to be read stays as it is.
+-- parts, left for a list, a place, a card or a text, the others as in include/rigtemple.h. What is lent to be read stays as it is.
 use mathlib.Core.Path.{_≡_}
 use mathlib.Core.List.{List}
 use Prim.Native.Nat.{ℕ}
+use Rattle.meaning.specs.declared.Answer.{Answer}
 use Rattle.meaning.specs.declared.Configuration.{Configuration}
 use Rattle.meaning.specs.Card.{Bytes}
 use Rattle.meaning.specs.Calls.{checks, loads, grades, lists, listLeaves, takes, runs, saves, saveLeaves, restores}
+use Rattle.meaning.specs.Refusals.{answerNumber}
 use Rattle.meaning.specs.Numbers.{checkedNumber}
-use Rattle.board.specs.Header.{whole, replied, took, gradedAs, wrote, ranTo}
+use Rattle.notation.specs.Reading.{Reads}
+use Rattle.notation.specs.Printing.{printAnswer, printCount, printLeaves}
+use Rattle.board.specs.Header.{whole, replied, took, gradedAs, wrote, readAs, ranTo}
 
 -- ---- the contracts
 
@@ -47,6 +51,17 @@ Saves card d place n left count = wrote (saves card d place) (saveLeaves card d 
 abbrev pub Restores : Bytes → Bytes → ℕ → Configuration → Type 0
 Restores card place n c = replied (restores card place) n c
 
+-- 02, Wish 2: "The reader accepts exactly this grammar and builds an edition 1 card", into a lent card. "17 text, with the place of
+-- the first byte that no continuation could make right"
+abbrev pub ReadsText : Bytes → Bytes → ℕ → Bytes → ℕ → ℕ → Type 0
+ReadsText text card n left count place = (x : Answer) × Reads text card x count left × readAs x n place
+
+-- 02, Wish 2: "a printer writes any condition of at most 256 printed nodes nested within the limit back as text": of a node, into a
+-- lent text.
+abbrev pub Prints : Bytes → ℕ → Bytes → ℕ → Bytes → ℕ → Type 0
+Prints card node text n left count =
+    (n ≡ answerNumber (printAnswer card node text)) × (count ≡ printCount card node text) × (left ≡ printLeaves card node text)
+
 -- ---- one answer
 
 -- 01, "What the contracts settle": "For each public function and each input, refusals too, the contract determines the answer
@@ -68,6 +83,11 @@ pub record DeterminedParts : Type 0 where
       → Saves card d place n left count → Saves card d place n′ left′ count′ → (n ≡ n′) × (left ≡ left′) × (count ≡ count′)
   pub restore : (card place : Bytes) (n n′ : ℕ) (c c′ : Configuration)
       → Restores card place n c → Restores card place n′ c′ → (n ≡ n′) × (c ≡ c′)
+  pub text : (text card left left′ : Bytes) (n n′ count count′ place place′ : ℕ)
+      → ReadsText text card n left count place → ReadsText text card n′ left′ count′ place′
+      → (n ≡ n′) × (left ≡ left′) × (count ≡ count′) × (place ≡ place′)
+  pub print : (card : Bytes) (node : ℕ) (text left left′ : Bytes) (n n′ count count′ : ℕ)
+      → Prints card node text n left count → Prints card node text n′ left′ count′ → (n ≡ n′) × (left ≡ left′) × (count ≡ count′)
   -- the same sentence, "every byte and number in lent buffers": equal configurations are equal in each of the five lent parts.
   pub parts : (beliefs beliefs′ goals goals′ plan plan′ : Bytes) (length length′ phase phase′ : ℕ)
       → whole beliefs goals plan length phase ≡ whole beliefs′ goals′ plan′ length′ phase′

@@ -2,13 +2,14 @@
 use mathlib.Core.Path.{_≡_}
 use mathlib.Core.List.{List}
 use Prim.Native.Nat.{ℕ}
+use Rattle.meaning.specs.declared.Answer.{Answer}
 use Rattle.meaning.specs.declared.Configuration.{Configuration}
 use Rattle.meaning.specs.declared.Reply.{Reply}
 use Rattle.meaning.specs.declared.Graded.{Graded}
 use Rattle.meaning.specs.declared.Written.{Written}
 use Rattle.meaning.specs.declared.Ran.{Ran}
 use Rattle.meaning.specs.Card.{Bytes}
-use Rattle.meaning.specs.Refusals.{answerNumber, answerNode}
+use Rattle.meaning.specs.Refusals.{answerNumber, answerCarried}
 use Rattle.meaning.specs.Numbers.{endingNumber, verdictNumber, verdictOffender, verdictRule}
 
 -- A configuration from its parts: "`beliefs` and `goals` are 16 bytes each, `plan` is 1,024 bytes."
@@ -23,7 +24,7 @@ replied x n c = (n ≡ answerNumber (x .answer)) × (c ≡ x .configuration)
 
 -- of `take`: with 16 the node that settled the condition, else 0
 abbrev pub took : Reply → ℕ → Configuration → ℕ → Type 0
-took x n c node = (n ≡ answerNumber (x .answer)) × (c ≡ x .configuration) × (node ≡ answerNode (x .answer))
+took x n c node = (n ≡ answerNumber (x .answer)) × (c ≡ x .configuration) × (node ≡ answerCarried (x .answer))
 
 -- of `grade`: the verdict, the offender's kind and its number
 abbrev pub gradedAs : Graded → ℕ → ℕ → ℕ → ℕ → Type 0
@@ -36,6 +37,10 @@ gradedAs x n verdict offender rule =
 -- of `list` and `save`: how many were written, and what the lent buffer then holds
 abbrev pub wrote : Written → List ℕ → ℕ → ℕ → List ℕ → Type 0
 wrote x leaves n count out = (n ≡ answerNumber (x .answer)) × (count ≡ x .count) × (out ≡ leaves)
+
+-- of `text`: with 17 the place of the first wrong byte, else 0
+abbrev pub readAs : Answer → ℕ → ℕ → Type 0
+readAs x n place = (n ≡ answerNumber x) × (place ≡ answerCarried x)
 
 -- of `run`: how many moves, and why it ended
 abbrev pub ranTo : Ran → ℕ → Configuration → ℕ → ℕ → Type 0

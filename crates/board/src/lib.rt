@@ -1,9 +1,9 @@
-// The board: the guide's eight calls for C, as include/rigtemple.h declares them. A configuration is lent in its five parts;
+// The board: the guide's ten calls for C, as include/rigtemple.h declares them. A configuration is lent in its five parts;
 // the return value is the answer's number.
 ghost use mathlib.Core.Path.{_≡_};
 ghost use Rattle.board.specs.Header.{whole};
-ghost use Rattle.board.specs.Determined.{Checks, Loads, Grades, Lists, Takes, Runs, Saves, Restores};
-use answers::answer_node;
+ghost use Rattle.board.specs.Determined.{Checks, Loads, Grades, Lists, Takes, Runs, Saves, Restores, ReadsText, Prints};
+use answers::answer_carried;
 use answers::answer_number;
 use answers::ending_number;
 use answers::refusal_number;
@@ -91,7 +91,7 @@ pub extern "C" fn rigtemple_take_parts(
     let m = taken.mind;
     put(m, beliefs, goals, length, phase);
     let a = taken.answer;
-    *node = answer_node(a);
+    *node = answer_carried(a) as u16;
     answer_number(a)
 }
 
@@ -204,5 +204,38 @@ pub extern "C" fn rigtemple_grade_parts(
     *offender = verdict_offender(v);
     *number = verdict_rule(v);
     let a = graded.answer;
+    answer_number(a)
+}
+
+// The card that a text stands for, into a lent buffer, and how many bytes it has; with 17 the place of the first wrong byte.
+#[no_mangle]
+pub extern "C" fn rigtemple_text_parts(
+    text: &[u8],
+    card: &mut [u8],
+    count: &mut u16,
+    place: &mut usize,
+) -> u16
+    ensures { λ r. ⌜ ReadsText (now (text .entry)) (now (card .entry)) r (now (card .exit)) (now (count .exit)) (now (place .exit)) ⌝ }
+{
+    let read = reader::read::read(text, card);
+    *count = read.count;
+    let a = read.answer;
+    *place = answer_carried(a);
+    answer_number(a)
+}
+
+// A condition of a card as text, into a lent buffer, and how many bytes were written.
+#[no_mangle]
+pub extern "C" fn rigtemple_print_parts(
+    card: &[u8],
+    node: u16,
+    text: &mut [u8],
+    count: &mut u16,
+) -> u16
+    ensures { λ r. ⌜ Prints (now (card .entry)) node (now (text .entry)) r (now (text .exit)) (now (count .exit)) ⌝ }
+{
+    let printed = printer::print::print(card, node as usize, text);
+    *count = printed.count;
+    let a = printed.answer;
     answer_number(a)
 }

@@ -1,7 +1,7 @@
 -- 16 is answered with the node that settles a false condition of the choice.
 use mathlib.Core.Path.{_≡_, refl, ap, sym, _∙_}
 use mathlib.Core.Bool.{Bool, true, false, _&&_}
-use mathlib.Core.List.{[], _∷_, _++_}
+use mathlib.Core.List.{[], _∷_, _++_, List·Memᴰ}
 use mathlib.Core.Option.{Option, none, some}
 use Prim.Native.Nat.{ℕ, _<_}
 use native.Mathlib.Omega.{arith}
@@ -22,7 +22,7 @@ use Rattle.meaning.specs.declared.Reply.{Reply}
 use Rattle.meaning.specs.Card.{Bytes, layout, conditions, plan, specificationAt, selectionAt, revisionAt, specificationOf, selectionOf, revisionOf, agent}
 use Rattle.meaning.specs.Card as Card
 use Rattle.meaning.specs.Configurations.{stateOf}
-use Rattle.meaning.specs.Refusals.{numberOf, answerNumber, carried, answerNode, configurationAnswer, nodesGood, containing, conditionGood, specificationGood, selectionGood, revisionGood}
+use Rattle.meaning.specs.Refusals.{numberOf, answerNumber, carried, answerCarried, nodesGood, containing, conditionGood, specificationGood, selectionGood, revisionGood}
 use Rattle.meaning.specs.Why.{settler, falseOf, frontFirst, ruleFirst, why, whyClosed}
 use Rattle.meaning.specs.Calls.{choice}
 use Rattle.meaning.specs.Theorems.{StandsIn, is-it, in-first, in-second}
@@ -30,6 +30,7 @@ use Rattle.meaning.proofs.Accepted.{accepted, counts}
 use Rattle.meaning.proofs.Nodes.{node-rule}
 use Rattle.meaning.proofs.Settling.{settler-law}
 use Rattle.meaning.proofs.Tables.{done≢refused}
+use Rattle.meaning.proofs.Carrying.{Carries, nothing, a-node, a-place, carries}
 use Rattle.meaning.proofs.Entries.{GoodEntries, good-entries}
 use Rattle.meaning.proofs.AgentEntries.{selectionFor, specificationFor, revisionFor, selection-entry, specification-entry, revision-entry}
 use Rattle.demands.specs.Contracts.{Takes}
@@ -189,24 +190,15 @@ lower l b good is-it h = h
 lower l b good (in-first {i} k x) h = lower l b good x (let f = node-rule l b good i h .first k in omega arith)
 lower l b good (in-second {i} k x) h = lower l b good x (let s = node-rule l b good i h .second k in omega arith)
 
--- only 16 carries a number
-no-node : (q : Refusal) → (numberOf q ≡ 16 → ⊥) → carried q ≡ 0
-unfolding numberOf carried
-no-node (Refusal.Condition n) h = absurd (h refl)
-no-node Refusal.Short h = refl
-no-node Refusal.Mark h = refl
-no-node Refusal.Count h = refl
-no-node Refusal.Offsets h = refl
-no-node Refusal.Weight h = refl
-no-node Refusal.Node h = refl
-no-node Refusal.Rule h = refl
-no-node Refusal.ActionByte h = refl
-no-node Refusal.Atom h = refl
-no-node Refusal.Configuration h = refl
-no-node Refusal.NoRule h = refl
-no-node Refusal.Front h = refl
-no-node Refusal.PlanFull h = refl
-no-node Refusal.NoRoom h = refl
+-- only 16 and 17 carry a number
+carries-nothing : (q : Refusal) → List·Memᴰ (numberOf q) (doneOrCard ++ (13 ∷ [])) → carried q ≡ 0
+unfolding numberOf doneOrCard
+carries-nothing q = go (carries q)
+  where
+    go : {q : Refusal} → Carries q → List·Memᴰ (numberOf q) (doneOrCard ++ (13 ∷ [])) → carried q ≡ 0
+    go (nothing e) i = e
+    go a-node i = absurd (outside (doneOrCard ++ (13 ∷ [])) 16 refl i)
+    go a-place i = absurd (outside (doneOrCard ++ (13 ∷ [])) 17 refl i)
 
 module _ (b : Bytes) (c : Configuration) (n : ℕ) where
   node-known : OnAccepted b c → (node : ℕ) → Shown b c n node → node < layout b .nodes .count
@@ -215,16 +207,12 @@ module _ (b : Bytes) (c : Configuration) (n : ℕ) where
       let own = settler-law b card (s .letter) (stateOf c .mental) (s .root) (s .known) .own in
       rw (s .settled) (lower (layout b) b (accepted b card .nodes) own (s .known))
 
-  not-16-yet : {q : Refusal} → configurationAnswer b c ≡ Refused q → numberOf q ≡ 16 → ⊥
-  unfolding doneOrCard answerNumber
-  not-16-yet h e = outside (doneOrCard ++ (13 ∷ [])) 16 refl (rw (h, answerNumber, e) at (configuration-among b c))
-
-  pub node-narrow : (r : Reply) → Takes b c n r → answerNode (r .answer) < 65536
-  unfolding answerNode carried
+  pub node-narrow : (r : Reply) → Takes b c n r → answerCarried (r .answer) < 65536
+  unfolding answerNumber answerCarried carried
   node-narrow r e = go r (taking b c n r e)
     where
-      go : (r : Reply) → Taking b c n r → answerNode (r .answer) < 65536
-      go r (refused {q} h) = let e = no-node q (not-16-yet h) in omega arith
+      go : (r : Reply) → Taking b c n r → answerCarried (r .answer) < 65536
+      go r (refused {q} h) = let e = carries-nothing q (rw (h, answerNumber) at (configuration-among b c)) in omega arith
       go r (is-closed h w no-rule x) = omega arith
       go r (is-closed h w front x) = omega arith
       go r (is-closed h w (Demands.condition {node}) x) =

@@ -1,10 +1,10 @@
 // The drill: requests on standard input, an answer for each on standard output, so that any other program can be compared with the
-// eight calls byte for byte. Numbers of two bytes are low byte first. "A request that breaks these rules, or is not there yet, ends
-// the program."
+// ten calls byte for byte. Numbers of two or four bytes are low byte first. "A request that breaks these rules, or is not there
+// yet, ends the program."
 ghost use mathlib.Core.Path.{_≡_};
 ghost use Prim.Native.Nat.{_≤_};
 ghost use lib.ListN.{length};
-use answers::answer_node;
+use answers::answer_carried;
 use answers::answer_number;
 use answers::ending_number;
 use answers::refusal_number;
@@ -26,6 +26,12 @@ enum Byte {
 // A number of two bytes.
 enum Number {
     Is(u16),
+    Ended,
+}
+
+// A length of four bytes.
+enum Length {
+    Is(usize),
     Ended,
 }
 
@@ -66,6 +72,16 @@ fn next_number() -> Number {
         return Number::Ended;
     }
     Number::Is(joined(two[0], two[1]))
+}
+
+// The next length of the input.
+fn next_length() -> Length {
+    let mut four = [0u8; 4];
+    let got = io::read_full(0, &mut four);
+    if got < 4 {
+        return Length::Ended;
+    }
+    Length::Is(joined(four[0], four[1]) as usize + 65536 * (joined(four[2], four[3]) as usize))
 }
 
 // Every byte of a slice; whether there were so many.
@@ -281,8 +297,9 @@ fn take(card: &[u8]) -> bool {
     let r = guide::take(card, c, choice);
     let a = r.answer;
     let next = r.configuration;
+    let node = answer_carried(a) as u16;
     tell(answer_number(a));
-    tell(answer_node(a));
+    tell(node);
     tell_image(next);
     true
 }
@@ -370,6 +387,93 @@ fn restore(card: &[u8]) -> bool {
     restore_from(card, &mut place[..n as usize])
 }
 
+// "place (4: with 17 the place of the byte, else 0)"
+fn tell_place(place: usize) {
+    tell((place % 65536) as u16);
+    tell((place / 65536 % 65536) as u16);
+}
+
+// The call, and then the whole lent buffer.
+fn text_into(text: &[u8], out: &mut [u8]) {
+    let w = reader::read::read(text, out);
+    let a = w.answer;
+    tell(answer_number(a));
+    tell_place(answer_carried(a));
+    tell(w.count);
+    io::write_all(1, out);
+}
+
+// "room bytes, lent filled with EE hex", "room (2, at most 24,200)"
+fn lent_card() -> [u8; 24200]
+    ensures { λ r. ⌜ 24200 ≡ length r ⌝ }
+{
+    [0xEEu8; 24200]
+}
+
+// The text's bytes are read, and then what its card has for room.
+fn text_from(text: &mut [u8]) -> bool {
+    if !fill(text) {
+        return false;
+    }
+    let size = next_number();
+    let Number::Is(room) = size else {
+        return false;
+    };
+    if 24200 < room {
+        return false;
+    }
+    let mut out = lent_card();
+    text_into(text, &mut out[..room as usize]);
+    true
+}
+
+// Room for every text that a request can hand in.
+fn text_room() -> [u8; 65536]
+    ensures { λ r. ⌜ 65536 ≡ length r ⌝ }
+{
+    [0u8; 65536]
+}
+
+// Request 9: "length n (4, at most 65,536), n bytes of text"
+fn text() -> bool {
+    let size = next_length();
+    let Length::Is(n) = size else {
+        return false;
+    };
+    if 65536 < n {
+        return false;
+    }
+    let mut bytes = text_room();
+    text_from(&mut bytes[..n])
+}
+
+// The call, and then the whole lent buffer.
+fn print_into(card: &[u8], node: u16, out: &mut [u8]) {
+    let w = printer::print::print(card, node as usize, out);
+    let a = w.answer;
+    tell(answer_number(a));
+    tell(w.count);
+    io::write_all(1, out);
+}
+
+// Request 10: "node (2), room (2, at most 2,048)"
+fn print(card: &[u8]) -> bool {
+    let asked = next_number();
+    let Number::Is(node) = asked else {
+        return false;
+    };
+    let size = next_number();
+    let Number::Is(room) = size else {
+        return false;
+    };
+    if 2048 < room {
+        return false;
+    }
+    let mut out = lent_bytes();
+    print_into(card, node, &mut out[..room as usize]);
+    true
+}
+
 // ---- the requests
 
 // Request 0: "it is the card of the requests that follow".
@@ -398,6 +502,8 @@ fn answer(card: &[u8], request: u8) -> bool {
         6 => run(card),
         7 => save(card),
         8 => restore(card),
+        9 => text(),
+        10 => print(card),
         _ => false,
     }
 }

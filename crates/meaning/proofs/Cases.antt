@@ -1,7 +1,8 @@
 -- The P cases of document 01, computed.
 use mathlib.Core.Path.{refl}
 use mathlib.Core.List.{flatten}
-use Rattle.meaning.specs.Stripe.{assembled, set, specification, selection, revision, stripeWith, stripe, stripe-P4, stripe-P5, stripe-P9, stripe-P10, stripe-P13}
+use Rattle.meaning.specs.Assembled.{assembled}
+use Rattle.meaning.specs.Stripe.{set, specification, selection, revision, stripeWith, stripe, stripe-P4, stripe-P5, stripe-P9, stripe-P10, stripe-P13}
 use Rattle.meaning.specs.Numbers.{checkedNumber, endingNumber, verdictNumber, verdictOffender, verdictRule, offenderNumber, offenderRule}
 use Rattle.meaning.specs.Cases.{shown, shownCheck, shownReply, shownTake, shownGrade, shownWritten, shownRun, configuration, loaded, afterSteps, guideCode, stepLine, takenInTurn, placeP7, resting, PCases, ClosedCases}
 use Rattle.meaning.proofs.Computing.{computing}

@@ -10,6 +10,7 @@ pub mod Pass
 pub mod Nodes
 pub mod Places
 pub mod Entries
+pub mod Carrying
 pub mod AgentEntries
 pub mod AtomKinds
 pub mod Settling

@@ -17,7 +17,7 @@ use Rattle.meaning.specs.declared.Written.{Written}
 use Rattle.meaning.specs.declared.Ran.{Ran}
 use Rattle.meaning.specs.Card.{Bytes, weight, agent}
 use Rattle.meaning.specs.Configurations.{stateOf, configurationOf}
-use Rattle.meaning.specs.Refusals.{answerNumber, answerNode}
+use Rattle.meaning.specs.Refusals.{answerNumber, answerCarried}
 use Rattle.meaning.specs.Numbers.{checkedNumber, endingNumber, verdictNumber, verdictOffender, verdictRule}
 use Rattle.meaning.specs.Calls.{checks, loads, grades, lists, listLeaves, takes, runs, saves, saveLeaves, restores}
 use Rattle.meaning.specs.Stripe.{set, stripe, stripe-P4, stripe-P5, stripe-P9, stripe-P10, stripe-P13}
@@ -39,7 +39,7 @@ shownReply r = answerNumber (r .answer) ∷ shown (r .configuration)
 
 -- What take answers: the number, the node that is shown, then the configuration.
 unfoldable pub shownTake : Reply → List ℕ
-shownTake r = answerNumber (r .answer) ∷ answerNode (r .answer) ∷ shown (r .configuration)
+shownTake r = answerNumber (r .answer) ∷ answerCarried (r .answer) ∷ shown (r .configuration)
 
 -- What grading answers in numbers: 01, "Numbers the guide may answer": "no."; then the verdict, its
 -- offender's kind and number. Serves PCases.

@@ -6,5 +6,6 @@ pub mod Why
 pub mod Calls
 pub mod Numbers
 pub mod Theorems
+pub mod Assembled
 pub mod Stripe
 pub mod Cases

@@ -21,7 +21,7 @@ use Rattle.meaning.specs.declared.RevisionEntry.{RevisionEntry}
 use Rattle.meaning.specs.Card.{Bytes, byte, numberAt, part, layout, weightAt, nodeAt, nodes, pass, specificationAt, selectionAt, revisionAt, initialBeliefs, initialGoals}
 
 -- 01, "Numbers the guide may answer": the columns "no." and "name"; 02, Wish 1: "10 gives way to three in its place", 14, 15 and
--- 16.
+-- 16; 02, Wish 2: "17 text", "18 nested too deep", "25 a number too large for its field, or more entries or pool bytes".
 unfoldable pub numberOf : Refusal → ℕ
 numberOf Refusal.Short = 1
 numberOf Refusal.Mark = 2
@@ -38,14 +38,17 @@ numberOf Refusal.Front = 15
 numberOf (Refusal.Condition n) = 16
 numberOf Refusal.PlanFull = 11
 numberOf Refusal.NoRoom = 12
+numberOf (Refusal.Text p) = 17
+numberOf Refusal.Nested = 18
+numberOf Refusal.Large = 25
 
 -- 01, "Numbers the guide may answer", row 0: "done", "none below holds".
 unfoldable pub answerNumber : Answer → ℕ
 answerNumber Done = 0
 answerNumber (Refused r) = numberOf r
 
--- 02, Wish 1: "16 a condition is false, with the node": the number that a refusal carries, and 0 where it carries none
--- (docs/DECISIONS.md, "Numbers in refusals").
+-- 02, Wish 1: "16 a condition is false, with the node", Wish 2: "17 text, with the place": the number that a refusal carries, and
+-- 0 where it carries none (docs/DECISIONS.md, "Numbers in refusals").
 unfoldable pub carried : Refusal → ℕ
 carried (Refusal.Condition n) = n
 carried Refusal.Short = 0
@@ -62,11 +65,14 @@ carried Refusal.NoRule = 0
 carried Refusal.Front = 0
 carried Refusal.PlanFull = 0
 carried Refusal.NoRoom = 0
+carried (Refusal.Text p) = p
+carried Refusal.Nested = 0
+carried Refusal.Large = 0
 
--- 02, Wish 1: "only a refused choice shows it": the node that an answer shows, and 0 where it shows none.
-unfoldable pub answerNode : Answer → ℕ
-answerNode Done = 0
-answerNode (Refused r) = carried r
+-- The number that an answer carries, and 0 where it carries none: 02, Wish 1: "only a refused choice shows it".
+unfoldable pub answerCarried : Answer → ℕ
+answerCarried Done = 0
+answerCarried (Refused r) = carried r
 
 -- 01, "Numbers the guide may answer": a row of the table.
 pub record Row (X : Type 0) : Type 0 where

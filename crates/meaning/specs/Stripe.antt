@@ -1,32 +1,10 @@
 -- The stripe card (01, "The stripe card"), put together from its parts, and the cards that its P cases vary.
-use mathlib.Core.List.{List, [], _∷_, _++_, map, flatten}
-use Prim.Native.Nat.{ℕ, _+_, _*_}
-use lib.ListN.{length, replicate}
+use mathlib.Core.List.{[], _∷_, _++_}
+use Prim.Native.Nat.{ℕ}
+use lib.ListN.{replicate}
 use Rattle.meaning.specs.Card.{Bytes}
 use Rattle.meaning.specs.Place.{twoBytes}
-
--- A card of 4 atoms with no initial plan, from its weights, its entries as their bytes, its pool and its initial sets: 01, "The
--- card, edition 1": "counts and offsets in a header", "The sections follow the weights in the header's order with no gap; the
--- card ends with the pool." 01, "The stripe card": "Atoms: 0 threaded, 1 bobbin, 2 band, 3 broken.", "no initial plan".
-unfoldable pub assembled : List ℕ → List Bytes → List Bytes → List Bytes → List Bytes → Bytes → Bytes → Bytes → Bytes
-assembled weights nodes specifications selections revisions pool beliefs goals =
-    let nodesAt : ℕ = 64 + 2 * length weights in
-    let specificationsAt : ℕ = nodesAt + 4 * length nodes in
-    let selectionsAt : ℕ = specificationsAt + 36 * length specifications in
-    let revisionsAt : ℕ = selectionsAt + 8 * length selections in
-    let poolAt : ℕ = revisionsAt + 12 * length revisions in
-    0x33 ∷ 0x41
-    ∷ (flatten (map twoBytes (
-    1 ∷ 4 ∷ length weights
-    ∷ length nodes ∷ nodesAt
-    ∷ length specifications ∷ specificationsAt
-    ∷ length selections ∷ selectionsAt
-    ∷ length revisions ∷ revisionsAt
-    ∷ length pool ∷ poolAt
-    ∷ 0 ∷ 0 ∷ []))
-    ++ (beliefs ++ (goals ++ (flatten (map twoBytes weights)
-    ++ (flatten nodes ++ (flatten specifications
-    ++ (flatten selections ++ (flatten revisions ++ pool))))))))
+use Rattle.meaning.specs.Assembled.{assembled}
 
 -- 01, "The card, edition 1": "A set of atoms is 16 bytes": one whose atoms are below 8, by its first byte.
 unfoldable pub set : ℕ → Bytes
@@ -49,6 +27,8 @@ revision node headStart headLen bodyStart bodyLen =
 -- 01, "The stripe card", but for what the cases vary: the weight of weave, node 0, the Del of weave, revision 1 and the pool.
 unfoldable pub stripeWith : ℕ → Bytes → ℕ → Bytes → Bytes → Bytes
 stripeWith weave node0 del revision1 pool = assembled
+    -- 01, "The stripe card": "Atoms: 0 threaded, 1 bobbin, 2 band, 3 broken."
+    4
     -- 01, "The stripe card": "Actions: 0 weave, 1 wind, 2 repair, 3 pick, 4 stripe; weights 1, 1, 1, 3, 5."
     (weave ∷ 1 ∷ 1 ∷ 3 ∷ 5 ∷ [])
     -- 01, "The stripe card": "Nodes: 0 true; 1 believes 1; 2 believes 3; 3 not 2; 4 1 and 3; 5 has goal 2."
@@ -60,8 +40,8 @@ stripeWith weave node0 del revision1 pool = assembled
     (selection 0 5 0 1 ∷ [])
     -- 01, "The stripe card": "Revisions: 0: 4, true, becomes 1 3; 1: 3, node 2, becomes 2 0; 2: 3, node 3, becomes 0."
     (revision 0 0 1 1 2 ∷ revision1 ∷ revision 3 2 1 4 1 ∷ [])
-    -- 01, "The stripe card": "Pool 4 1 3 2 0." or what a case has; "Beliefs {0, 3}, goals {2}"
-    pool (set 9) (set 4)
+    -- 01, "The stripe card": "Pool 4 1 3 2 0." or what a case has; "Beliefs {0, 3}, goals {2}, no initial plan"
+    pool (set 9) (set 4) 0 0
 
 -- 01, "The stripe card": "Nodes: 0 true"
 abbrev true-node : Bytes

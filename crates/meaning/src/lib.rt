@@ -5,6 +5,7 @@ use runs::Verdict;
 
 // 01, "Numbers the guide may answer": the rows of the table but the first, by their names, in its order; in the place of "not
 // enabled" the three of 02, Wish 1: no such rule or specification, the plan's front, a condition with the node that settled it.
+// Then those of 02, Wish 2: a text with the place of the wrong byte, nested too deep, too large.
 pub enum Refusal {
     Short,
     Mark,
@@ -21,6 +22,9 @@ pub enum Refusal {
     Condition(usize),
     PlanFull,
     NoRoom,
+    Text(usize),
+    Nested,
+    Large,
 }
 
 // 01, "Numbers the guide may answer": "done", row 0, or one of the others.

@@ -1,4 +1,4 @@
-//! The eight calls of the weaving guide for Rust. What each does is said in rigtemple.h.
+//! The ten calls of the weaving guide for Rust. What each does is said in rigtemple.h.
 //!
 //! SAFETY of every call below: the pointers come from references and slices, so that none is null,
 //! all are aligned, the lengths are true, and what is written overlaps nothing.
@@ -6,7 +6,7 @@
 mod parts;
 mod words;
 
-use words::{done, done_or_closed};
+use words::{done, done_with};
 pub use words::{Choice, Ending, Offender, Refusal, Verdict};
 
 pub const SET_BYTES: usize = 16;
@@ -14,6 +14,7 @@ pub const MOST_CARD_BYTES: usize = 24128;
 pub const MOST_PLAN_ACTIONS: usize = 1024;
 pub const MOST_PLACE_BYTES: usize = 1068;
 pub const MOST_LIST_ENTRIES: usize = 768;
+pub const MOST_PRINTED_BYTES: usize = 894;
 
 /// Where a weaver stands in a card; the plan is the first `length` bytes of `plan`.
 #[derive(Clone, Debug, PartialEq, Eq)]
@@ -116,7 +117,7 @@ pub fn take(card: &[u8], c: &mut Configuration, choice: u16) -> Result<(), Refus
             &mut node,
         )
     };
-    done_or_closed(answer, node)
+    done_with(answer, usize::from(node))
 }
 
 /// Runs by itself, for `budget` moves at most.
@@ -179,4 +180,37 @@ pub fn restore(card: &[u8], place: &[u8]) -> Result<Configuration, Refusal> {
         )
     })?;
     Ok(c)
+}
+
+/// Makes the card that a text stands for at the front of a card; how many bytes it has.
+pub fn text(text: &[u8], card: &mut [u8]) -> Result<usize, Refusal> {
+    let (mut bytes, mut place) = (0, 0);
+    let answer = unsafe {
+        parts::rigtemple_text_parts(
+            text.as_ptr(),
+            text.len(),
+            card.as_mut_ptr(),
+            card.len(),
+            &mut bytes,
+            &mut place,
+        )
+    };
+    done_with(answer, place)?;
+    Ok(usize::from(bytes))
+}
+
+/// Prints the condition of a node to the front of a text; how many bytes it has.
+pub fn print(card: &[u8], node: u16, text: &mut [u8]) -> Result<usize, Refusal> {
+    let mut bytes = 0;
+    done(unsafe {
+        parts::rigtemple_print_parts(
+            card.as_ptr(),
+            card.len(),
+            node,
+            text.as_mut_ptr(),
+            text.len(),
+            &mut bytes,
+        )
+    })?;
+    Ok(usize::from(bytes))
 }

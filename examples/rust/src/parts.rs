@@ -1,4 +1,4 @@
-//! The functions of the archive, as rigtemple.h declares them: the eight calls over the parts of a
+//! The functions of the archive, as rigtemple.h declares them: the ten calls over the parts of a
 //! configuration. `beliefs` and `goals` point to 16 bytes each, `plan` to 1,024.
 
 extern "C" {
@@ -83,5 +83,23 @@ extern "C" {
         plan: *mut u8,
         length: *mut u16,
         phase: *mut u8,
+    ) -> u16;
+
+    pub fn rigtemple_text_parts(
+        text: *const u8,
+        text_len: usize,
+        card: *mut u8,
+        room_in_bytes: usize,
+        bytes: *mut u16,
+        place: *mut usize,
+    ) -> u16;
+
+    pub fn rigtemple_print_parts(
+        card: *const u8,
+        card_len: usize,
+        node: u16,
+        text: *mut u8,
+        room_in_bytes: usize,
+        bytes: *mut u16,
     ) -> u16;
 }

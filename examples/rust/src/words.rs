@@ -21,6 +21,10 @@ pub enum Refusal {
     Front,
     /// A condition is false; the number of the node that settled it.
     Condition(u16),
+    /// The text is not of the grammar; the place of the first wrong byte.
+    Text(usize),
+    Nested,
+    Large,
 }
 
 impl Refusal {
@@ -47,11 +51,14 @@ impl Refusal {
             Refusal::NoRule => (14, "no rule"),
             Refusal::Front => (15, "front"),
             Refusal::Condition(_) => (16, "condition"),
+            Refusal::Text(_) => (17, "text"),
+            Refusal::Nested => (18, "nested"),
+            Refusal::Large => (25, "large"),
         }
     }
 
-    /// The refusal of a number, with the node that is answered beside it.
-    fn of(number: u16, node: u16) -> Refusal {
+    /// The refusal of a number, with the node or the place that is answered beside it.
+    fn of(number: u16, carried: usize) -> Refusal {
         match number {
             1 => Refusal::Short,
             2 => Refusal::Mark,
@@ -67,7 +74,10 @@ impl Refusal {
             13 => Refusal::Configuration,
             14 => Refusal::NoRule,
             15 => Refusal::Front,
-            16 => Refusal::Condition(node),
+            16 => Refusal::Condition(carried as u16),
+            17 => Refusal::Text(carried),
+            18 => Refusal::Nested,
+            25 => Refusal::Large,
             other => panic!("no refusal has the number {other}"),
         }
     }
@@ -78,6 +88,7 @@ impl fmt::Display for Refusal {
         out.write_str(self.told().1)?;
         match self {
             Refusal::Condition(node) => write!(out, " (node {node})"),
+            Refusal::Text(place) => write!(out, " (place {place})"),
             _ => Ok(()),
         }
     }
@@ -87,14 +98,14 @@ impl std::error::Error for Refusal {}
 
 /// Takes an answer's number apart. A number that no table has is a fault, and stops the program.
 pub fn done(answer: u16) -> Result<(), Refusal> {
-    done_or_closed(answer, 0)
+    done_with(answer, 0)
 }
 
-/// The same of a chosen move, which answers a node beside its number.
-pub fn done_or_closed(answer: u16, node: u16) -> Result<(), Refusal> {
+/// The same of a call that answers a node or a place beside its number.
+pub fn done_with(answer: u16, carried: usize) -> Result<(), Refusal> {
     match answer {
         0 => Ok(()),
-        number => Err(Refusal::of(number, node)),
+        number => Err(Refusal::of(number, carried)),
     }
 }
 

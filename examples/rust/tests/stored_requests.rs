@@ -25,6 +25,10 @@ impl<'a> Requests<'a> {
         u16::from_le_bytes([self.byte(), self.byte()])
     }
 
+    fn long_number(&mut self) -> u32 {
+        u32::from_le_bytes([self.byte(), self.byte(), self.byte(), self.byte()])
+    }
+
     /// A length and as many bytes.
     fn counted(&mut self) -> &'a [u8] {
         let count = self.number();
@@ -136,6 +140,34 @@ fn save(card: &[u8], requests: &mut Requests, answers: &mut Answers) {
     answers.0.extend(lent);
 }
 
+/// Answers what was written to a lent buffer: how much, and all of the buffer.
+fn written(answer: Result<usize, Refusal>, lent: Vec<u8>, answers: &mut Answers) {
+    answers.number(answer.unwrap_or(0) as u16);
+    answers.0.extend(lent);
+}
+
+fn text(requests: &mut Requests, answers: &mut Answers) {
+    let count = requests.long_number();
+    let text = requests.bytes(count as usize);
+    let mut lent = vec![LENT_BYTE; usize::from(requests.number())];
+    let answer = rigtemple::text(text, &mut lent);
+    answers.answer(&answer);
+    let place = match answer {
+        Err(Refusal::Text(place)) => place,
+        _ => 0,
+    };
+    answers.0.extend((place as u32).to_le_bytes());
+    written(answer, lent, answers);
+}
+
+fn print(card: &[u8], requests: &mut Requests, answers: &mut Answers) {
+    let node = requests.number();
+    let mut lent = vec![LENT_BYTE; usize::from(requests.number())];
+    let answer = rigtemple::print(card, node, &mut lent);
+    answers.answer(&answer);
+    written(answer, lent, answers);
+}
+
 /// Loads and restores: a refusal answers the empty configuration.
 fn begun(answer: Result<Configuration, Refusal>, answers: &mut Answers) {
     answers.answer(&answer);
@@ -158,6 +190,8 @@ fn answer<'a>(card: &mut &'a [u8], requests: &mut Requests<'a>, answers: &mut An
         6 => run(card, requests, answers),
         7 => save(card, requests, answers),
         8 => begun(rigtemple::restore(card, requests.counted()), answers),
+        9 => text(requests, answers),
+        10 => print(card, requests, answers),
         other => panic!("there is no request {other}"),
     }
 }

@@ -11,6 +11,9 @@ fn refusals_have_their_numbers_and_names() {
     assert_eq!(Refusal::Configuration.number(), 13);
     assert_eq!(Refusal::Condition(2).number(), 16);
     assert_eq!(Refusal::Condition(2).to_string(), "condition (node 2)");
+    assert_eq!(Refusal::Text(70000).number(), 17);
+    assert_eq!(Refusal::Text(70000).to_string(), "text (place 70000)");
+    assert_eq!(Refusal::Large.number(), 25);
 }
 
 #[test]

@@ -48,6 +48,15 @@ enum-told-14 c = search needs
 enum-told-15 : tie.Need-enum-told-15
 enum-told-15 c = search needs
 
+enum-told-16 : tie.Need-enum-told-16
+enum-told-16 c = search needs
+
+enum-told-17 : tie.Need-enum-told-17
+enum-told-17 c = search needs
+
+enum-told-18 : tie.Need-enum-told-18
+enum-told-18 c = search needs
+
 returns : tie.Need-returns
 unfolding numberOf
 returns c = rw (c .enum-told .given .1)
@@ -108,6 +117,18 @@ returns-15 : tie.Need-returns-15
 unfolding numberOf
 returns-15 c = rw (c .enum-told15 .given .1)
 
+returns-16 : tie.Need-returns-16
+unfolding numberOf
+returns-16 c = rw (c .enum-told16 .given .1)
+
+returns-17 : tie.Need-returns-17
+unfolding numberOf
+returns-17 c = rw (c .enum-told17 .given .1)
+
+returns-18 : tie.Need-returns-18
+unfolding numberOf
+returns-18 c = rw (c .enum-told18 .given .1)
+
 pub refusal-number-spec : {M : Type 1} → statement M
 refusal-number-spec =
     tie.close
@@ -127,6 +148,9 @@ refusal-number-spec =
     enum-told-13
     enum-told-14
     enum-told-15
+    enum-told-16
+    enum-told-17
+    enum-told-18
     returns
     returns-2
     returns-3
@@ -141,4 +165,7 @@ refusal-number-spec =
     returns-12
     returns-13
     returns-14
-    returns-15)
+    returns-15
+    returns-16
+    returns-17
+    returns-18)

@@ -1,11 +1,12 @@
 use Rattle.board.specs.Header.{whole}
 use Rattle.layout.specs.PlaceParts.{lent}
-use Rattle.meaning.specs.Refusals.{answerNumber, answerNode}
+use Rattle.meaning.specs.Refusals.{answerNumber, answerCarried}
 use Rattle.demands.proofs.Showing.{node-narrow}
 use Rattle.meaning.specs.declared.Reply.{Reply}
 use Rattle.meaning.specs.declared.Mind.{Mind}
 use Rattle.meaning.specs.Calls.{takes}
 use mathlib.Core.Path.{ap, _∙_}
+use native.Mathlib.Omega.{arith}
 use borrow.Author.Needs.{needs}
 use denote.Ref.{now}
 use lib.ListN.{take}
@@ -21,11 +22,15 @@ take-requires c κs = search needs
 put-requires : tie.Need-put-requires
 put-requires c κs = search needs
 
-answer-node-requires : tie.Need-answer-node-requires
-answer-node-requires c κs =
-    let a = c .before .before .before .before .before .before .before .before .before .before .before .before .before .before .args in
-    let e = c .before .before .before .before .before .before .take .ensures ∙ ap (λ (x : Mind). takes (now (a .card)) (lent x (now (a .plan))) (a .choice)) (c .before .before .before .before .before .before .before .before .mind .ensures) in
-    node-narrow (now (a .card)) _ (a .choice) _ e
+answer-carried-requires : tie.Need-answer-carried-requires
+answer-carried-requires c κs = search needs
+
+cast-node : tie.Need-cast-node
+cast-node c =
+    let a = c .before .before .before .before .before .before .before .before .before .before .before .before .before .before .before .args in
+    let e = c .before .before .before .before .before .before .before .take .ensures ∙ ap (λ (x : Mind). takes (now (a .card)) (lent x (now (a .plan))) (a .choice)) (c .before .before .before .before .before .before .before .before .before .mind .ensures) in
+    let h = node-narrow (now (a .card)) _ (a .choice) _ e in
+    omega (arith, c .answer-carried .ensures)
 
 answer-number-requires : tie.Need-answer-number-requires
 answer-number-requires c κs = search needs
@@ -38,7 +43,7 @@ returns c =
     let e = t .ensures ∙ ap (λ (x : Mind). takes (now (a .card)) (lent x (now (a .plan))) (a .choice)) (c .before .before .before .before .before .before .before .before .before .before .mind .ensures) in (
       c .answer-number .ensures ∙ ap (λ (x : Reply). answerNumber (x .answer)) e,
       (λ i. whole (u .0 i) (u .1 i) (t .last .1 .1 .0) (u .2 i) (u .3 i)) ∙ ap (λ (x : Reply). x .configuration) e,
-      c .before .answer-node .ensures ∙ ap (λ (x : Reply). answerNode (x .answer)) e,
+      c .before .answer-carried .ensures ∙ ap (λ (x : Reply). answerCarried (x .answer)) e,
     )
 
 pub rigtemple-take-parts-spec : {M : Type 1} → statement M
@@ -48,6 +53,7 @@ rigtemple-take-parts-spec =
     mind-requires
     take-requires
     put-requires
-    answer-node-requires
+    answer-carried-requires
+    cast-node
     answer-number-requires
     returns)

@@ -1,4 +1,5 @@
 use Rattle.demands.proofs.Showing.{node-narrow}
+use native.Mathlib.Omega.{arith}
 use borrow.Author.Needs.{needs}
 use denote.Ref.{now}
 use Rattle.drill.proofs.take.Statement.{statement}
@@ -25,15 +26,19 @@ returns-2 c = search needs
 take-requires : tie.Need-take-requires
 take-requires c κs = search needs
 
+answer-carried-requires : tie.Need-answer-carried-requires
+answer-carried-requires c κs = search needs
+
+cast-node : tie.Need-cast-node
+cast-node c =
+    let h = node-narrow (now (c .before .before .before .before .before .before .before .before .before .before .before .before .args .card)) (c .before .before .before .before .before .before .before .before .before .before .next-image .result .configuration) (c .before .before .before .before .code .given .0 .0) (c .before .before .take .result) (c .before .before .take .ensures .0) in
+    omega (arith, c .answer-carried .ensures)
+
 answer-number-requires : tie.Need-answer-number-requires
 answer-number-requires c κs = search needs
 
 tell-requires : tie.Need-tell-requires
 tell-requires c κs = search needs
-
-answer-node-requires : tie.Need-answer-node-requires
-answer-node-requires c κs =
-    node-narrow (now (c .before .before .before .before .before .before .before .before .before .before .before .before .before .args .card)) (c .before .before .before .before .before .before .before .before .before .before .before .next-image .result .configuration) (c .before .before .before .before .before .code .given .0 .0) (c .before .before .before .take .result) (c .before .before .before .take .ensures .0)
 
 tell-requires-2 : tie.Need-tell-requires-2
 tell-requires-2 c κs = search needs
@@ -55,9 +60,10 @@ take-spec =
     enum-told
     returns-2
     take-requires
+    answer-carried-requires
+    cast-node
     answer-number-requires
     tell-requires
-    answer-node-requires
     tell-requires-2
     tell-image-requires
     returns-3)

@@ -1,0 +1,26 @@
+use Rattle.answers.proofs.Laws.{carries-nothing}
+use Rattle.meaning.specs.Refusals.{carried}
+use mathlib.Core.Path.{sym}
+use borrow.Author.Needs.{needs}
+use Rattle.answers.proofs.refusal_carried.Statement.{statement}
+use Rattle.answers.proofs.refusal_carried.Tie as tie
+
+enum-known-r : tie.Need-enum-known-r
+enum-known-r c = search needs
+
+enum-known-r-2 : tie.Need-enum-known-r-2
+enum-known-r-2 c = search needs
+
+returns : tie.Need-returns
+unfolding carried
+returns c = rw (c .before .r .given .1)
+
+returns-2 : tie.Need-returns-2
+unfolding carried
+returns-2 c = rw (c .before .r2 .given .1)
+
+returns-3 : tie.Need-returns-3
+returns-3 c = sym (carries-nothing (c .before .args .r) (c .match .keys3))
+
+pub refusal-carried-spec : {M : Type 1} → statement M
+refusal-carried-spec = tie.close (tie.spec enum-known-r enum-known-r-2 returns returns-2 returns-3)

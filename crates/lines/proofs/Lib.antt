@@ -1,0 +1,10 @@
+pub mod Pasting
+pub mod Sections
+pub mod Entries
+pub mod Numbered
+pub mod Filling
+pub mod Placing
+pub mod Stepping
+pub mod Telling
+pub mod Saying
+pub mod Whole

@@ -1,0 +1,126 @@
+-- What printing a condition answers (02, Wish 2; docs/TEXT.md, "The printer"), and what the lent buffer then holds.
+use mathlib.Core.Bool.{Bool, not}
+use mathlib.Core.List.{List, [], _∷_, _++_}
+use Prim.Native.Nat.{ℕ, zero, suc, max, _+_, _/_, _%_}
+use Prim.Native.Char.{code}
+use lib.Dec.{leb, ltb}
+use lib.ListN.{length, getD}
+use Rattle.meaning.specs.declared.Refusal.{Refusal}
+use Rattle.meaning.specs.declared.Answer.{Answer}
+use Rattle.meaning.specs.declared.Answer.the-variants.{Done, Refused}
+use Rattle.meaning.specs.declared.Layout.{Layout}
+use Rattle.meaning.specs.Card.{Bytes, layout, nodes, pass}
+use Rattle.meaning.specs.Refusals.{Row, _given-when_, firstGiven, andThen, cardAnswer}
+use Rattle.meaning.specs.Calls.{over, roomFor}
+use Rattle.notation.specs.Words.{word}
+use Rattle.notation.specs.Conditions.{Tree, true, believes, goal, and, or}
+use Rattle.notation.specs.Conditions as Conditions
+use Rattle.notation.specs.Built.{size}
+
+-- ---- the tree of a node
+
+-- 01, "The card, edition 1": "Kind 0 true …; 1 believes a; 2 has goal a …; 3 not a …; 4 a and b; 5 a or b.", by the trees of the
+-- lower nodes. What is no such node is "true" (docs/DECISIONS.md, "An unknown node or kind in the definitions").
+abbrev pub treeOf : ℕ → ℕ → ℕ → (ℕ → Tree) → Tree
+treeOf zero a b tree = true
+treeOf (suc zero) a b tree = believes a
+treeOf (suc (suc zero)) a b tree = goal a
+treeOf (suc (suc (suc zero))) a b tree = Conditions.not (tree a)
+treeOf (suc (suc (suc (suc zero)))) a b tree = and (tree a) (tree b)
+treeOf (suc (suc (suc (suc (suc zero))))) a b tree = or (tree a) (tree b)
+treeOf (suc (suc (suc (suc (suc (suc k)))))) a b tree = true
+
+-- 02, Wish 2: "the same tree": what each node stands for, in one pass.
+unfoldable pub trees : Layout → Bytes → List Tree
+trees l b = pass (λ i n tree. treeOf (n .kind) (n .a) (n .b) tree) true (nodes l b)
+
+-- The tree of a node, by its number.
+abbrev pub treeAt : Layout → Bytes → ℕ → Tree
+treeAt l b n = getD (trees l b) n true
+
+-- ---- its text
+
+-- docs/TEXT.md: "Numbers have no zeros in front.": a number of at most so many digits.
+unfoldable pub decimalIn : ℕ → ℕ → Bytes
+decimalIn zero n = []
+decimalIn (suc k) n =
+    elim (ltb n 10) [ Bool.true ↦ (code "0" + n) ∷ [] | Bool.false ↦ decimalIn k (n / 10) ++ ((code "0" + n % 10) ∷ []) ]
+
+-- A number: n has at most n + 1 digits.
+unfoldable pub decimal : ℕ → Bytes
+decimal n = decimalIn (suc n) n
+
+-- 02, Wish 2: "or a bracketed or-list"
+abbrev pub bracketsIf : Bool → Bytes → Bytes
+bracketsIf Bool.true u = word "(" ++ (u ++ word ")")
+bracketsIf Bool.false u = u
+
+-- docs/TEXT.md: "with brackets only where it must have them: a `!` stands before a unit; the left of `&` is an and-list and its
+-- right a unit; the left of `|` is an or-list and its right an and-list". What is wanted of a tree is 0 an or-list, 1 an and-list
+-- or 2 a unit: an "and" is bracketed where more than an and-list is wanted, an "or" where more than an or-list is.
+unfoldable pub textAs : ℕ → Tree → Bytes
+textAs wanted true = word "T"
+textAs wanted (believes n) = word "B" ++ decimal n
+textAs wanted (goal n) = word "G" ++ decimal n
+textAs wanted (Conditions.not t) = word "!" ++ textAs 2 t
+textAs wanted (and l r) = bracketsIf (ltb 1 wanted) (textAs 1 l ++ (word "&" ++ textAs 2 r))
+textAs wanted (or l r) = bracketsIf (ltb 0 wanted) (textAs 0 l ++ (word "|" ++ textAs 1 r))
+
+-- docs/TEXT.md: "condition = or-list": the text of a whole tree.
+abbrev pub textOf : Tree → Bytes
+textOf t = textAs 0 t
+
+-- ---- its depth
+
+-- One deeper in brackets.
+abbrev pub deeperIf : Bool → ℕ → ℕ
+deeperIf Bool.true n = suc n
+deeperIf Bool.false n = n
+
+-- docs/TEXT.md: "brackets and `!` together nest", in the text of a tree of which so much is wanted.
+unfoldable pub depthAs : ℕ → Tree → ℕ
+depthAs wanted true = 0
+depthAs wanted (believes n) = 0
+depthAs wanted (goal n) = 0
+depthAs wanted (Conditions.not t) = suc (depthAs 2 t)
+depthAs wanted (and l r) = deeperIf (ltb 1 wanted) (max (depthAs 1 l) (depthAs 2 r))
+depthAs wanted (or l r) = deeperIf (ltb 0 wanted) (max (depthAs 0 l) (depthAs 1 r))
+
+abbrev pub depthOf : Tree → ℕ
+depthOf t = depthAs 0 t
+
+-- ---- the answer
+
+-- 02, Wish 2: "refuses: 7 no such node, 18, 25 over 256 nodes". docs/TEXT.md: "18 if the text nests more than 32 deep; 25 if it
+-- has more than 256 nodes, a shared one counted each time it is printed".
+unfoldable pub printTable : Layout → Bytes → List (Row ℕ)
+printTable l b =
+    (Refusal.Rule given-when (λ n. not (ltb n (l .nodes .count))))
+    ∷ (Refusal.Nested given-when (λ n. not (leb (depthOf (treeAt l b n)) 32)))
+    ∷ (Refusal.Large given-when (λ n. not (leb (size (treeAt l b n)) 256)))
+    ∷ []
+
+-- The text of a node of a card.
+unfoldable pub printed : Bytes → ℕ → Bytes
+printed b n = textOf (treeAt (layout b) b n)
+
+-- docs/TEXT.md: "It refuses: the card with 1 to 9; 7 …; 18 …; 25 …; 12 if the lent buffer is shorter than the text."
+unfoldable pub printAnswer : Bytes → ℕ → Bytes → Answer
+printAnswer b n out = andThen (cardAnswer b) (andThen (firstGiven (printTable (layout b) b) n) (roomFor (printed b n) out))
+
+-- 01, "Numbers the guide may answer": "Any count in a refusal is 0.": how many bytes are written of a text.
+abbrev pub countBy : Answer → Bytes → ℕ
+countBy Done text = length text
+countBy (Refused r) text = 0
+
+-- 01, "Numbers the guide may answer": "No lent buffer is written" by a refusal.
+abbrev pub leavesBy : Answer → Bytes → Bytes → Bytes
+leavesBy Done text out = over text out
+leavesBy (Refused r) text out = out
+
+-- What printing answers beside the number, and what the lent buffer then holds.
+unfoldable pub printCount : Bytes → ℕ → Bytes → ℕ
+printCount b n out = countBy (printAnswer b n out) (printed b n)
+
+unfoldable pub printLeaves : Bytes → ℕ → Bytes → Bytes
+printLeaves b n out = leavesBy (printAnswer b n out) (printed b n) out

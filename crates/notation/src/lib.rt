@@ -1,0 +1,1 @@
+// The notation of a text card, in definitions; no code.

@@ -1,0 +1,102 @@
+-- The measures of a node's text, by its kind.
+use mathlib.Core.Path.{_≡_, refl, ap, _∙_}
+use mathlib.Core.Bool.{Bool, true, false}
+use mathlib.Core.List.{[], _∷_}
+use Prim.Native.Nat.{ℕ, zero, suc, _+_, _/_, _%_, _≤_, _<_}
+use Prim.Native.Char.{code}
+use native.Mathlib.Omega.{arith}
+use borrow.Author.Tests.{ltb-true, ltb-false}
+use lib.Dec.{ltb}
+use lib.ListN.{length, length-append}
+use Rattle.notation.specs.Printing.{decimal}
+use Rattle.notation.proofs.Decimals.{decimal-one, decimal-more}
+use Rattle.printer.specs.Measures.{lower, sizeBy, depthBy, lengthBy}
+
+-- ---- by kinds that are not told one by one
+
+pub not-lower : (w k : ℕ) → (k ≡ 4 → ⊥) → (k ≡ 5 → ⊥) → lower w k ≡ false
+not-lower w zero a b = refl
+not-lower w (suc zero) a b = refl
+not-lower w (suc (suc zero)) a b = refl
+not-lower w (suc (suc (suc zero))) a b = refl
+not-lower w (suc (suc (suc (suc zero)))) a b = absurd (a refl)
+not-lower w (suc (suc (suc (suc (suc zero))))) a b = absurd (b refl)
+not-lower w (suc (suc (suc (suc (suc (suc k)))))) a b = refl
+
+-- what is none of the kinds with children
+pub is-leaf : (k : ℕ) → k ≤ 5 → (k ≡ 3 → ⊥) → (k ≡ 4 → ⊥) → (k ≡ 5 → ⊥) → k < 3
+is-leaf k h a b c = omega arith
+
+pub is-some : (k : ℕ) → (k ≡ 0 → ⊥) → 1 ≤ k
+is-some k h = omega arith
+
+module _ (k : ℕ) where
+  pub size-leaf : (a b : ℕ) → k < 3 → sizeBy k a b ≡ 1
+  size-leaf a b = go k
+    where
+      go : (k : ℕ) → k < 3 → sizeBy k a b ≡ 1
+      go zero h = refl
+      go (suc zero) h = refl
+      go (suc (suc zero)) h = refl
+      go (suc (suc (suc k))) h = absurd (omega arith)
+
+  pub size-two : (a b : ℕ) → 4 ≤ k → sizeBy k a b ≡ a + b + 1
+  size-two a b = go k
+    where
+      go : (k : ℕ) → 4 ≤ k → sizeBy k a b ≡ a + b + 1
+      go zero h = absurd (omega arith)
+      go (suc zero) h = absurd (omega arith)
+      go (suc (suc zero)) h = absurd (omega arith)
+      go (suc (suc (suc zero))) h = absurd (omega arith)
+      go (suc (suc (suc (suc k)))) h = refl
+
+  pub depth-leaf : (p q : ℕ → ℕ) (a b : ℕ) → k < 3 → depthBy k p q a b ≡ 0
+  depth-leaf p q a b = go k
+    where
+      go : (k : ℕ) → k < 3 → depthBy k p q a b ≡ 0
+      go zero h = refl
+      go (suc zero) h = refl
+      go (suc (suc zero)) h = refl
+      go (suc (suc (suc k))) h = absurd (omega arith)
+
+  pub length-atom : (n : ℕ) (p q : ℕ → ℕ) (a b : ℕ) → 1 ≤ k → k < 3 → lengthBy k n p q a b ≡ 1 + length (decimal n)
+  length-atom n p q a b = go k
+    where
+      go : (k : ℕ) → 1 ≤ k → k < 3 → lengthBy k n p q a b ≡ 1 + length (decimal n)
+      go zero g h = absurd (omega arith)
+      go (suc zero) g h = refl
+      go (suc (suc zero)) g h = refl
+      go (suc (suc (suc k))) g h = absurd (omega arith)
+
+-- ---- how many digits
+
+module _ (n : ℕ) where
+  pub one-digit : n < 10 → length (decimal n) ≡ 1
+  one-digit h = ap length (decimal-one n h)
+
+  pub more-digits : 10 ≤ n → length (decimal n) ≡ length (decimal (n / 10)) + 1
+  more-digits h = ap length (decimal-more n h) ∙ length-append (decimal (n / 10)) ((code "0" + n % 10) ∷ [])
+
+pub two-digits : (n : ℕ) → 10 ≤ n → n < 100 → length (decimal n) ≡ 2
+two-digits n h k = let e = more-digits n h in let f = one-digit (n / 10) (omega arith) in omega arith
+
+pub three-digits : (n : ℕ) → 100 ≤ n → n < 1000 → length (decimal n) ≡ 3
+three-digits n h k = let e = more-digits n (omega arith) in let f = two-digits (n / 10) (omega arith) (omega arith) in omega arith
+
+pub few-digits : (n : ℕ) → n < 1000 → length (decimal n) ≤ 3
+few-digits n h = go (ltb n 10) refl
+  where
+    then : (s : Bool) → ltb n 100 ≡ s → 10 ≤ n → length (decimal n) ≤ 3
+    then true e g = let d = two-digits n g (ltb-true n 100 e) in omega arith
+    then false e g = let d = three-digits n (ltb-false n 100 e) h in omega arith
+
+    go : (s : Bool) → ltb n 10 ≡ s → length (decimal n) ≤ 3
+    go true e = let d = one-digit n (ltb-true n 10 e) in omega arith
+    go false e = then (ltb n 100) refl (ltb-false n 10 e)
+
+pub some-digit : (n : ℕ) → 1 ≤ length (decimal n)
+some-digit n = go (ltb n 10) refl
+  where
+    go : (s : Bool) → ltb n 10 ≡ s → 1 ≤ length (decimal n)
+    go true e = let d = one-digit n (ltb-true n 10 e) in omega arith
+    go false e = let d = more-digits n (ltb-false n 10 e) in omega arith

@@ -1,0 +1,97 @@
+-- The pass that measures: what stands in the three arrays below a node's number.
+use mathlib.Core.Path.{_≡_, sym, ap, _∙_}
+use mathlib.Core.Bool.{true}
+use mathlib.Core.List.{List}
+use Prim.Native.Nat.{ℕ, min, _+_, _*_, _≤_, _<_}
+use native.Mathlib.Omega.{arith}
+use lib.ListN.{length, getD, set, replicate, length-set, length-replicate}
+use Rattle.meaning.specs.declared.Layout.{Layout}
+use Rattle.meaning.specs.declared.Node.{Node}
+use Rattle.meaning.specs.Card.{Bytes, nodeAt}
+use Rattle.meaning.specs.Refusals.{nodesGood}
+use Rattle.meaning.proofs.Nodes.{node-rule}
+use Rattle.sets.proofs.Loops.{below-turn}
+use Rattle.notation.specs.Built.{size}
+use Rattle.notation.specs.Printing.{textAs, depthAs, textOf, depthOf, treeOf, treeAt}
+use Rattle.printer.specs.Measures.{around, sizeBy, depthBy, lengthBy, Right, MeasuredTo}
+use Rattle.printer.proofs.Trees.{tree-at, depth-around, length-around, size-capped, depth-capped, length-capped}
+
+pub measured-none : (l : Layout) (b : Bytes) (sizes depths lengths : List ℕ) → sizes ≡ replicate 256 0 → depths ≡ replicate 256 0 → lengths ≡ replicate 256 0 → MeasuredTo l b sizes depths lengths 0
+measured-none l b sizes depths lengths e f g =
+    record {
+      sizes-room = ap length e ∙ length-replicate {A = ℕ} 256 0;
+      depths-room = ap length f ∙ length-replicate {A = ℕ} 256 0;
+      lengths-room = ap length g ∙ length-replicate {A = ℕ} 256 0;
+      right = λ j h. absurd (omega arith);
+    }
+
+module _ (l : Layout) (b : Bytes) (good : nodesGood l b ≡ true) where
+  -- brackets around the text of a node
+  module _ (j : ℕ) (h : j < l .nodes .count) (w : ℕ) where
+    abbrev y : Node
+    y = nodeAt l b j
+
+    node-depth : depthAs w (treeAt l b j) ≡ depthAs 0 (treeAt l b j) + around (y .kind) w
+    node-depth = rw (tree-at l b good j h) (depth-around (y .a) (y .b) (treeAt l b) w (y .kind))
+
+    node-length : length (textAs w (treeAt l b j)) ≡ length (textAs 0 (treeAt l b j)) + 2 * around (y .kind) w
+    node-length = rw (tree-at l b good j h) (length-around (y .a) (y .b) (treeAt l b) w (y .kind))
+
+  module _ (i : ℕ) (h : i < l .nodes .count) (x : Node) (so : x ≡ nodeAt l b i) (p q : ℕ)
+      (kp : x .a < l .nodes .count → p ≡ nodeAt l b (x .a) .kind) (kq : x .b < l .nodes .count → q ≡ nodeAt l b (x .b) .kind)
+      (sizes depths lengths : List ℕ) (m : MeasuredTo l b sizes depths lengths i) where
+    kinds : x .kind ≤ 5
+    kinds = rw so (node-rule l b good i h .kinds)
+
+    first : 3 ≤ x .kind → x .a < i
+    first = rw so (node-rule l b good i h .first)
+
+    second : 4 ≤ x .kind → x .b < i
+    second = rw so (node-rule l b good i h .second)
+
+    here : treeOf (x .kind) (x .a) (x .b) (treeAt l b) ≡ treeAt l b i
+    here = rw so (sym (tree-at l b good i h))
+
+    pub measured-here : (s d n : ℕ)
+        → s ≡ min (sizeBy (x .kind) (getD sizes (x .a) 0) (getD sizes (x .b) 0)) 257
+        → d ≡ min (depthBy (x .kind) (around p) (around q) (getD depths (x .a) 0) (getD depths (x .b) 0)) 33
+        → n ≡ min (lengthBy (x .kind) (x .a) (around p) (around q) (getD lengths (x .a) 0) (getD lengths (x .b) 0)) 1025
+        → Right (treeAt l b i) s d n
+    measured-here s d n es ed en =
+        let pa : 3 ≤ x .kind → (w : ℕ) → depthAs w (treeAt l b (x .a)) ≡ depthAs 0 (treeAt l b (x .a)) + around p w =
+        λ t w. (let lt = first t in node-depth (x .a) (omega arith) w ∙ ap (λ (z : ℕ). depthAs 0 (treeAt l b (x .a)) + around z w) (sym (kp (omega arith)))) in
+        let pb : 4 ≤ x .kind → (w : ℕ) → depthAs w (treeAt l b (x .b)) ≡ depthAs 0 (treeAt l b (x .b)) + around q w =
+        λ t w. (let lt = second t in node-depth (x .b) (omega arith) w ∙ ap (λ (z : ℕ). depthAs 0 (treeAt l b (x .b)) + around z w) (sym (kq (omega arith)))) in
+        let la : 3 ≤ x .kind → (w : ℕ) → length (textAs w (treeAt l b (x .a))) ≡ length (textAs 0 (treeAt l b (x .a))) + 2 * around p w =
+        λ t w. (let lt = first t in node-length (x .a) (omega arith) w ∙ ap (λ (z : ℕ). length (textAs 0 (treeAt l b (x .a))) + 2 * around z w) (sym (kp (omega arith)))) in
+        let lb : 4 ≤ x .kind → (w : ℕ) → length (textAs w (treeAt l b (x .b))) ≡ length (textAs 0 (treeAt l b (x .b))) + 2 * around q w =
+        λ t w. (let lt = second t in node-length (x .b) (omega arith) w ∙ ap (λ (z : ℕ). length (textAs 0 (treeAt l b (x .b))) + 2 * around z w) (sym (kq (omega arith)))) in
+        let gs = size-capped (x .a) (x .b) (treeAt l b) (getD sizes (x .a) 0) (getD sizes (x .b) 0) (x .kind) kinds
+        (λ t. m .right (x .a) (first t) .size) (λ t. m .right (x .b) (second t) .size) in
+        let gd = depth-capped (x .a) (x .b) (treeAt l b) (getD depths (x .a) 0) (getD depths (x .b) 0) (around p) (around q) (x .kind) kinds
+        (λ t. m .right (x .a) (first t) .depth) (λ t. m .right (x .b) (second t) .depth) pa pb in
+        let gn = length-capped (x .a) (x .b) (treeAt l b) (getD lengths (x .a) 0) (getD lengths (x .b) 0) (around p) (around q) (x .kind) kinds
+        (λ t. m .right (x .a) (first t) .length) (λ t. m .right (x .b) (second t) .length) la lb in
+        record {
+          size = es ∙ gs ∙ ap (λ t. min (size t) 257) here;
+          depth = ed ∙ gd ∙ ap (λ t. min (depthOf t) 33) here;
+          length = en ∙ gn ∙ ap (λ t. min (length (textOf t)) 1025) here;
+        }
+
+-- a turn of the pass
+module _ (l : Layout) (b : Bytes) (sizes depths lengths : List ℕ) (i : ℕ) (m : MeasuredTo l b sizes depths lengths i) where
+  pub measured-turn : (s d n : ℕ) → i < 256 → Right (treeAt l b i) s d n → MeasuredTo l b (set sizes i s) (set depths i d) (set lengths i n) (i + 1)
+  measured-turn s d n k r =
+      let rs = m .sizes-room in
+      let rd = m .depths-room in
+      let rn = m .lengths-room in
+      record {
+        sizes-room = length-set sizes i s ∙ rs;
+        depths-room = length-set depths i d ∙ rd;
+        lengths-room = length-set lengths i n ∙ rn;
+        right = λ j h. record {
+          size = below-turn (λ j. min (size (treeAt l b j)) 257) sizes i s 0 (omega arith) (λ j h. m .right j h .size) (r .size) j h;
+          depth = below-turn (λ j. min (depthOf (treeAt l b j)) 33) depths i d 0 (omega arith) (λ j h. m .right j h .depth) (r .depth) j h;
+          length = below-turn (λ j. min (length (textOf (treeAt l b j))) 1025) lengths i n 0 (omega arith) (λ j h. m .right j h .length) (r .length) j h;
+        };
+      }

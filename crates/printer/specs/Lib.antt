@@ -1,0 +1,3 @@
+pub mod Measures
+pub mod Tasks
+pub mod Answers

@@ -1,0 +1,71 @@
+-- How many nodes, how deep and how long the text of a node is, by its kind and by its children: numbers that are made node by node.
+use mathlib.Core.Path.{_≡_}
+use mathlib.Core.Bool.{Bool, true, false}
+use mathlib.Core.List.{List}
+use Prim.Native.Nat.{ℕ, zero, suc, min, max, _+_, _*_, _<_}
+use lib.Dec.{ltb}
+use lib.ListN.{length, getD}
+use Rattle.meaning.specs.declared.Layout.{Layout}
+use Rattle.meaning.specs.Card.{Bytes}
+use Rattle.notation.specs.Conditions.{Tree}
+use Rattle.notation.specs.Built.{size}
+use Rattle.notation.specs.Printing.{decimal, textOf, depthOf, treeAt}
+
+-- "with brackets only where it must have them": whether a node of a kind is lower than what is wanted, 0 an or-list, 1 an and-list
+-- or 2 a unit.
+abbrev pub lower : ℕ → ℕ → Bool
+lower wanted zero = false
+lower wanted (suc zero) = false
+lower wanted (suc (suc zero)) = false
+lower wanted (suc (suc (suc zero))) = false
+lower wanted (suc (suc (suc (suc zero)))) = ltb 1 wanted
+lower wanted (suc (suc (suc (suc (suc zero))))) = ltb 0 wanted
+lower wanted (suc (suc (suc (suc (suc (suc k)))))) = false
+
+-- how many pairs of brackets that makes
+abbrev pub pairs : Bool → ℕ
+pairs true = 1
+pairs false = 0
+
+-- The nodes of a node's text, by those of its children.
+abbrev pub sizeBy : ℕ → ℕ → ℕ → ℕ
+sizeBy zero a b = 1
+sizeBy (suc zero) a b = 1
+sizeBy (suc (suc zero)) a b = 1
+sizeBy (suc (suc (suc zero))) a b = a + 1
+sizeBy (suc (suc (suc (suc k)))) a b = a + b + 1
+
+-- Its depth, by the children's and by the brackets around them.
+abbrev pub depthBy : ℕ → (ℕ → ℕ) → (ℕ → ℕ) → ℕ → ℕ → ℕ
+depthBy zero p q a b = 0
+depthBy (suc zero) p q a b = 0
+depthBy (suc (suc zero)) p q a b = 0
+depthBy (suc (suc (suc zero))) p q a b = a + p 2 + 1
+depthBy (suc (suc (suc (suc zero)))) p q a b = max (a + p 1) (b + q 2)
+depthBy (suc (suc (suc (suc (suc k))))) p q a b = max (a + p 0) (b + q 1)
+
+-- Its length, the atom's number known.
+abbrev pub lengthBy : ℕ → ℕ → (ℕ → ℕ) → (ℕ → ℕ) → ℕ → ℕ → ℕ
+lengthBy zero n p q a b = 1
+lengthBy (suc zero) n p q a b = 1 + length (decimal n)
+lengthBy (suc (suc zero)) n p q a b = 1 + length (decimal n)
+lengthBy (suc (suc (suc zero))) n p q a b = a + 2 * p 2 + 1
+lengthBy (suc (suc (suc (suc zero)))) n p q a b = a + 2 * p 1 + (b + 2 * q 2) + 1
+lengthBy (suc (suc (suc (suc (suc k))))) n p q a b = a + 2 * p 0 + (b + 2 * q 1) + 1
+
+-- the brackets around a node of a kind, by what is wanted
+abbrev pub around : ℕ → ℕ → ℕ
+around kind wanted = pairs (lower wanted kind)
+
+-- The measures of a tree's text, each up to a cap: 257 nodes and 33 deep are too many, and no text of 256 nodes has 1,025 bytes.
+pub record Right (t : Tree) (s d n : ℕ) : Type 0 where
+  pub size : s ≡ min (size t) 257
+  pub depth : d ≡ min (depthOf t) 33
+  pub length : n ≡ min (length (textOf t)) 1025
+
+-- The nodes below i are measured, in three arrays.
+pub record MeasuredTo (l : Layout) (b : Bytes) (sizes depths lengths : List ℕ) (i : ℕ) : Type 0 where
+  pub sizes-room : length sizes ≡ 256
+  pub depths-room : length depths ≡ 256
+  pub lengths-room : length lengths ≡ 256
+  pub right : (j : ℕ) → j < i → Right (treeAt l b j) (getD sizes j 0) (getD depths j 0) (getD lengths j 0)

@@ -1,0 +1,4 @@
+pub mod Packing
+pub mod Writing
+pub mod Laws
+pub mod Lining

@@ -1,0 +1,3 @@
+pub mod Scanning
+pub mod Conditions
+pub mod Stages

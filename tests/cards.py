@@ -1,0 +1,211 @@
+#!/usr/bin/env python3
+"""Holds cards/ against the oracle. The last line is 'N passed, M failed'.
+
+    python3 tests/cards.py            the cards' bytes; what the gate runs the two programs for texts on; the lines of `./rigtemple`
+                                      for each file of cards/, the card that it writes of each text card, the stripe card as text;
+                                      and that cards/explain.py finds a line in each refused text of the oracle
+    python3 tests/cards.py --bytes    all of it but what needs the programs
+    python3 tests/cards.py --write    writes the cards that no text says, as they are described here
+
+A card that a text can say is kept as that text alone. The others are described here in the oracle's words (oracle/cards.py).
+"""
+
+import glob
+import os
+import re
+import subprocess
+import sys
+from random import Random
+
+sys.dont_write_bytecode = True
+TOP = os.path.dirname(os.path.dirname(os.path.abspath(__file__)))
+FOLDER = os.path.join(TOP, "cards")
+sys.path[:0] = [os.path.join(TOP, "oracle"), FOLDER]
+import cards  # noqa: E402
+import explain  # noqa: E402
+import program  # noqa: E402
+import slips  # noqa: E402
+import text  # noqa: E402
+import texts  # noqa: E402
+from cards import AND, BELIEVES, HAS_GOAL, NOT, OR, TRUE, Description, Node, Revision, Selection, Specification, atoms_set  # noqa: E402
+
+# ---- the cards that no text says
+
+
+def loop():
+    """Node 0 is its own child."""
+    return Description(atoms=1, weights=[1], nodes=[Node(NOT, 0)], selections=[Selection(0, 0, 0, 1)], pool=bytes([0]))
+
+
+def edition():
+    """A good card but for the edition, which the guide does not know."""
+    return Description(
+        atoms=1,
+        weights=[1],
+        nodes=[Node(TRUE), Node(HAS_GOAL, 0)],
+        specifications=[Specification(0, 0, add=atoms_set(0))],
+        selections=[Selection(0, 1, 0, 1)],
+        pool=bytes([0]),
+        goals=atoms_set(0),
+        edition=9,
+    )
+
+
+def shared():
+    """Each node is "the one below, and the one below": written out as a tree, node 255 has 2 to the power of 255 leaves. Whoever looks
+    at each node once is done at once. Every condition is node 255, which has no atom and so is of both kinds."""
+    return Description(
+        atoms=1,
+        weights=[1, 2],
+        nodes=[Node(TRUE)] + [Node(AND, k, k) for k in range(255)],
+        specifications=[Specification(0, 255)],
+        selections=[Selection(255, 255, 0, 1)],
+        revisions=[Revision(255, 0, 1, 1, 1)],
+        pool=bytes([1, 0]),
+    )
+
+
+# The nodes of the largest card: where those of each sort begin.
+WANTS, SEEN, UNSEEN, EDGE, NEAR = 1, 129, 162, 195, 227
+
+
+def maximal_nodes():
+    """Wants fact k; has seen it; has not; stands between k and k + 1; or has seen k + 2."""
+    nodes = [Node(TRUE)] + [Node(HAS_GOAL, k) for k in range(128)]
+    nodes += [Node(BELIEVES, k) for k in range(33)] + [Node(NOT, SEEN + k) for k in range(33)]
+    nodes += [Node(AND, SEEN + k, UNSEEN + k + 1) for k in range(32)]
+    return nodes + [Node(OR, EDGE + k, SEEN + k + 2) for k in range(29)]
+
+
+def maximal():
+    """Every section is as long as it may be. For each of 128 goals there is a figure (action 128 + k), woven by its own action k:
+    figure 5 is begun by selection 5 or 133, made plain by revision 5, shortened by revision 133, and woven by specification 5 or
+    133. Its plan stands at 64 times k in the pool."""
+    each = range(128)
+    return Description(
+        atoms=128,
+        weights=[1] * 128 + [8] * 128,
+        nodes=maximal_nodes(),
+        specifications=[Specification(k, UNSEEN + k % 32, add=atoms_set(k)) for k in each]
+        + [Specification(k, 0, add=atoms_set(k)) for k in each],
+        selections=[Selection(NEAR + k % 29, WANTS + k, 64 * k, 64) for k in each]
+        + [Selection(0, WANTS + k, 64 * k, 64) for k in each],
+        revisions=[Revision(0, 64 * k, 64, 64 * k + 1, 5) for k in each]
+        + [Revision(SEEN + k % 32, 64 * k + 1, 3, 64 * k + 1, 1) for k in each],
+        pool=b"".join(bytes([128 + k] + [k] * 63) for k in each),
+        goals=atoms_set(*each),
+    )
+
+
+# The stripe card's text without its remarks.
+PLAIN_STRIPE = re.sub(rb"(?m)^#.*\n| #.*", b"", slips.STRIPE_TEXT)
+
+MADE = {"stripe": cards.stripe_card, "loop": loop, "edition": edition, "shared": shared, "maximal": maximal}
+
+
+def path_of(name):
+    return os.path.join(FOLDER, name)
+
+
+def read(name):
+    with open(path_of(name), "rb") as file:
+        return file.read()
+
+
+def write():
+    """Writes the cards that no text says."""
+    for name, made in MADE.items():
+        with open(path_of(name + ".card"), "wb") as file:
+            file.write(cards.card(made()))
+
+
+def of_folder(ending):
+    return sorted(os.path.basename(path) for path in glob.glob(path_of("*" + ending)))
+
+
+# ---- what is held
+
+
+def bytes_kept():
+    """The cards are what is described, and each text card is read."""
+    yield "each card of cards/ is described", of_folder(".card") == sorted(name + ".card" for name in MADE)
+    for name, made in MADE.items():
+        yield "the bytes of %s.card" % name, read(name + ".card") == cards.card(made())
+    for name in of_folder(".text"):
+        yield "the oracle reads %s" % name, text.read(read(name), cards.CARD_LIMIT)[0] == 0
+    yield "stripe.text is the text of the documents", read("stripe.text") == slips.STRIPE_TEXT
+
+
+def runs_of_the_gate():
+    """What the gate gives the two programs, and what they must write: the stripe card's text and the card of it; the card of 255
+    bytes, and the text without its remarks."""
+    card = text.read(slips.STRIPE_TEXT, cards.CARD_LIMIT)[2]
+    yield "the stripe card's text makes 283 bytes", len(card) == 283
+    for name, given, written in (
+        ("read_text", slips.STRIPE_TEXT, card),
+        ("print_text", cards.card(cards.stripe_card()), PLAIN_STRIPE),
+    ):
+        yield "crates/%s/stdin" % name, read("../crates/%s/stdin" % name) == given
+        yield "crates/%s/stdout" % name, read("../crates/%s/stdout" % name) == written
+
+
+def refused_texts():
+    """The oracle's refused texts: by hand, each clause broken, every two numbers at once."""
+    yield from (one.text for one in slips.SLIPS + slips.NUMBERED)
+    yield from (texts.clause_sample(Random(one.name), one).text for one in texts.TEXT_DAMAGES)
+    yield from (texts.pair_sample(Random("%d %d" % pair), *pair).text for pair in texts.TEXT_PAIRS)
+
+
+def could_stand(held, place):
+    """The bytes that could stand at a slip's place."""
+    return {byte for byte in range(256) if text.slip_of(held[:place] + bytes([byte])) != place}
+
+
+def explained():
+    """A line is found in each refused text; of a slip the place is marked, and what could stand there is in words."""
+    for held in refused_texts():
+        number, place, _ = text.read(held, cards.CARD_LIMIT)
+        what = "%d explained: %r" % (number, held[:60])
+        if number == text.TEXT:
+            told = list(explain.slip("x", held, place, could_stand(held, place)))
+            yield what, len(told) == 3 and told[2].endswith("^") and not re.search(r"could.* (nothing|byte \d)", told[0])
+        elif number != 0:
+            yield what, re.match(r"x:\d+: ", next(explain.reasons("x", held, number))) is not None
+
+
+def answer(*words):
+    """What `./rigtemple` writes on standard output."""
+    return subprocess.run([os.path.join(TOP, "rigtemple"), *words], capture_output=True, check=False).stdout
+
+
+def programs_kept():
+    """What the programs make of each file of cards/."""
+    for name in of_folder(".text") + of_folder(".card"):
+        is_text = name.endswith(".text")
+        card = text.read(read(name), cards.CARD_LIMIT)[2] if is_text else read(name)
+        lines = "".join(line + "\n" for line in program.lines(card)).encode()
+        yield "the lines of %s" % name, answer(path_of(name)) == lines
+        if is_text:
+            yield "the card of %s" % name, answer("card", path_of(name)) == card
+    yield "stripe.card as text", answer("text", path_of("stripe.card")) == PLAIN_STRIPE
+
+
+def main(words):
+    """Prints what is not so, and how much is."""
+    if words not in ([], ["--bytes"], ["--write"]):
+        print("usage: cards.py [--bytes | --write]", file=sys.stderr)
+        return 2
+    if words == ["--write"]:
+        write()
+    passed = failed = 0
+    for held in (bytes_kept, runs_of_the_gate, explained) + (() if words else (programs_kept,)):
+        for what, so in held():
+            passed, failed = passed + so, failed + (not so)
+            if not so:
+                print("not so: %s" % what)
+    print("%d passed, %d failed" % (passed, failed))
+    return 1 if failed else 0
+
+
+if __name__ == "__main__":
+    sys.exit(main(sys.argv[1:]))
