@@ -30,7 +30,7 @@
  *
  * Bytes of stack, as tests/stack.sh measures them on x86-64: check 808, load 936, grade 3,000,
  * list 2,824, take 1,544, run 1,656, save 936, restore 1,016, text 40,400 (25,224 where nothing
- * nests, and 474 for each bracket), print 2,408.
+ * nests, 296 more for the first bracket and 480 for each further one), print 2,408.
  *
  * Save before you show. The weaver acts on what the screen tells; a move that is shown and
  * not kept is lost when the view is torn down, and a band is woven twice. And where a place
