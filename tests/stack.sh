@@ -12,17 +12,14 @@ die() { printf 'stack.sh: %s\n' "$*" >&2; exit 2; }
 [ $# -eq 0 ] || [ "$*" = --engine ] || die "usage: stack.sh [--engine]"
 tests=$(cd "$(dirname "$0")" && pwd)
 work=$tests/../target/c
+# shellcheck source=tests/stated.sh
+. "$tests/stated.sh"
 archive=$("$tests/archive.sh" "$@")
-"$tests/build_c.sh" "$work/stack" "$tests/stack.c" "$tests/cards.c" "$tests/texts.c" "$archive"
+"$tests/build_c.sh" "$work/stack" "$tests/stack.c" "$tests/calls.c" "$tests/cards.c" "$tests/texts.c" \
+    "$archive"
 "$tests/run_c.sh" "$work/stack" >"$work/stack.out"
 passed=0
 failed=0
-
-# The figure that the header states for a call, without its comma.
-stated() { # CALL
-    sed -n '/Bytes of stack/,/\./p' "$tests/../include/rigtemple.h" |
-        grep -o "$1 [0-9][0-9,]*[0-9]" | tr -cd 0-9
-}
 
 while read -r call bytes; do
     fault=
