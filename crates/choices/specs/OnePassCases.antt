@@ -17,7 +17,7 @@ use Rattle.choices.specs.OnePass.{valueOf, Settles}
 unfoldable pub cardOf : (ℕ → Bytes) → Bytes
 cardOf node = assembled 1 (1 ∷ []) (map node (numbers 0 256)) (specification 0 255 0 0 ∷ []) [] [] [] (set 0) (set 0) 0 0
 
--- 01, "The card, edition 1": "1 believes a" and "4 a and b": node 0 is "believes 0", each other joins the one below with itself.
+-- 01, "The card, edition 1": "1 believes a" and "4 a and b": node 0 believes atom 0, each other joins the one below with itself.
 unfoldable pub sharedNode : ℕ → Bytes
 sharedNode zero = 1 ∷ 0 ∷ 0 ∷ 0 ∷ []
 sharedNode (suc k) = 4 ∷ k ∷ k ∷ 0 ∷ []
@@ -26,7 +26,7 @@ sharedNode (suc k) = 4 ∷ k ∷ k ∷ 0 ∷ []
 unfoldable pub sharedCard : Bytes
 sharedCard = cardOf sharedNode
 
--- 01, "The card, edition 1": "1 believes a" and "3 not a (b = 0)": node 0 is "believes 0", each other "not" of the one below.
+-- 01, "The card, edition 1": "1 believes a" and "3 not a (b = 0)": node 0 believes atom 0, each other is "not" of the one below.
 unfoldable pub deepNode : ℕ → Bytes
 deepNode zero = 1 ∷ 0 ∷ 0 ∷ 0 ∷ []
 deepNode (suc k) = 3 ∷ k ∷ 0 ∷ 0 ∷ []
