@@ -28,9 +28,10 @@
  * always enough: 27,792 bytes together. To print takes RIGTEMPLE_MOST_PRINTED_BYTES; a text to be
  * read has no limit.
  *
- * Bytes of stack, as tests/stack.sh measures them on x86-64: check 808, load 936, grade 3,000,
- * list 2,824, take 1,544, run 1,656, save 936, restore 1,016, text 40,400 (25,224 where nothing
- * nests, 296 more for the first bracket and 480 for each further one), print 2,408.
+ * Bytes of stack, as tests/stack.sh measures them on x86-64: check 560, load 688, grade 2,000,
+ * list 1,168, take 1,296, run 1,408, save 688, restore 768, text 33,536 (24,976 where nothing
+ * nests, 128 more for the first bracket and 272 for each further one), print 1,904. All but text
+ * run on a stack of 2,048.
  *
  * Save before you show. The weaver acts on what the screen tells; a move that is shown and
  * not kept is lost when the view is torn down, and a band is woven twice. And where a place

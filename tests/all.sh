@@ -58,6 +58,7 @@ try tests/library.sh
 try tests/example.sh
 try tests/languages.sh
 try tests/room.sh
+try tests/bound.sh
 try python3 tests/definitions.py --seed "$seed" --cards 100
 try python3 tests/compare.py --seed "$seed" --cases "$cases" --texts $((cases / 20))
 try python3 tests/every_place.py

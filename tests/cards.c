@@ -175,9 +175,12 @@ void endless_stripe_card(struct card_bytes *card)
     put_selection(card, 0, 0, 0, 0, 1);
 }
 
-/* ---- the shared-nodes card ---- */
+/* ---- the shared-nodes card and the deepest card ---- */
 
-void shared_nodes_card(struct card_bytes *card)
+/* 256 nodes: 0 "believes 0", each from the second on of that kind over the one below, and the last
+ * "true". A specification, a selection rule and a revision rule have node 254 for their belief
+ * condition; it is true at the beginning, and the run never rests. */
+static void tower_card(struct card_bytes *card, unsigned kind)
 {
     lay_out(card, (struct counts){.atoms = 1,
                                   .actions = 2,
@@ -188,7 +191,7 @@ void shared_nodes_card(struct card_bytes *card)
                                   .pool = 2});
     put_node(card, 0, NODE_BELIEVES, 0, 0);
     for (unsigned k = 1; k < 255; k++)
-        put_node(card, k, NODE_AND, k - 1, k - 1);
+        put_node(card, k, kind, k - 1, kind == NODE_NOT ? 0 : k - 1);
     put_node(card, 255, NODE_TRUE, 0, 0);
     put_specification(card, 0, 0, 254);
     put_selection(card, 0, 254, 255, 0, 1);
@@ -196,6 +199,16 @@ void shared_nodes_card(struct card_bytes *card)
     card->bytes[card->pool] = 1;
     put_initial_plan(card, 0, 1);
     put_atom(initial_beliefs(card), 0);
+}
+
+void shared_nodes_card(struct card_bytes *card)
+{
+    tower_card(card, NODE_AND);
+}
+
+void deepest_card(struct card_bytes *card)
+{
+    tower_card(card, NODE_NOT);
 }
 
 /* ---- the typical card ---- */

@@ -62,6 +62,10 @@ void endless_stripe_card(struct card_bytes *card);
  * of each kind uses node 254, which as a tree has 2^254 leaves. */
 void shared_nodes_card(struct card_bytes *card);
 
+/* 256 nodes: 0 "believes 0", each from the second on "not k-1", and the last "true". An entry of
+ * each kind uses node 254, which nests 254 deep. */
+void deepest_card(struct card_bytes *card);
+
 /* A card of 24,128 bytes as a designer might fill it: half of the actions are done, each in one
  * of two ways, the others are abstract plans that revisions spell out, at most 4 actions at a
  * time; selection plans of 16 actions. Bounded; its run never rests. */

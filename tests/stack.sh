@@ -1,6 +1,6 @@
 #!/bin/sh
-# Measures the deepest stack of each call through include/rigtemple.h; fails over 8,192 bytes, for
-# reading a text over 40,960, and where the header's head states another figure. The last line is 'N passed, M failed'.
+# Measures the deepest stack of each call through include/rigtemple.h; fails over 2,048 bytes, for
+# reading a text over 33,792, and where the header's head states another figure. The last line is 'N passed, M failed'.
 #
 #   tests/stack.sh [--engine]
 #
@@ -12,22 +12,19 @@ die() { printf 'stack.sh: %s\n' "$*" >&2; exit 2; }
 [ $# -eq 0 ] || [ "$*" = --engine ] || die "usage: stack.sh [--engine]"
 tests=$(cd "$(dirname "$0")" && pwd)
 work=$tests/../target/c
+# shellcheck source=tests/stated.sh
+. "$tests/stated.sh"
 archive=$("$tests/archive.sh" "$@")
-"$tests/build_c.sh" "$work/stack" "$tests/stack.c" "$tests/cards.c" "$tests/texts.c" "$archive"
+"$tests/build_c.sh" "$work/stack" "$tests/stack.c" "$tests/calls.c" "$tests/cards.c" "$tests/texts.c" \
+    "$archive"
 "$tests/run_c.sh" "$work/stack" >"$work/stack.out"
 passed=0
 failed=0
 
-# The figure that the header states for a call, without its comma.
-stated() { # CALL
-    sed -n '/Bytes of stack/,/\./p' "$tests/../include/rigtemple.h" |
-        grep -o "$1 [0-9][0-9,]*[0-9]" | tr -cd 0-9
-}
-
 while read -r call bytes; do
     fault=
-    most=8192
-    [ "$call" != text ] || most=40960
+    most=2048
+    [ "$call" != text ] || most=33792
     [ "$bytes" -le $most ] || fault=", which is over $most"
     [ $# -gt 0 ] || [ "$bytes" = "$(stated "$call")" ] || fault="$fault, not as the header states"
     if [ -z "$fault" ]; then passed=$((passed + 1)); else failed=$((failed + 1)); fi

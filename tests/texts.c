@@ -71,16 +71,27 @@ void deep_text(struct text_bytes *text, unsigned deep)
     add(text, "begin beliefs goals plan\n");
 }
 
-void brackets_text(struct text_bytes *text, unsigned deep)
+/* A condition between so many of both. */
+static void nested_text(struct text_bytes *text, unsigned deep, const char *left, const char *right)
 {
     text->len = 0;
     add(text, "atoms 1\naction 1\ndo 0 if ");
     for (unsigned k = 0; k < deep; k++)
-        add(text, "T|T&(");
+        add(text, left);
     add(text, "B0");
     for (unsigned k = 0; k < deep; k++)
-        add(text, ")");
+        add(text, right);
     add(text, " add del\nbegin beliefs goals plan\n");
+}
+
+void brackets_text(struct text_bytes *text, unsigned deep)
+{
+    nested_text(text, deep, "T|T&(", ")");
+}
+
+void nots_text(struct text_bytes *text, unsigned deep)
+{
+    nested_text(text, deep, "!", "");
 }
 
 void remarks_text(struct text_bytes *text)

@@ -25,6 +25,9 @@ void deep_text(struct text_bytes *text, unsigned deep);
 /* A condition in so many brackets. */
 void brackets_text(struct text_bytes *text, unsigned deep);
 
+/* A condition under so many "!". */
+void nots_text(struct text_bytes *text, unsigned deep);
+
 /* A text that is mostly remarks. */
 void remarks_text(struct text_bytes *text);
 

@@ -11,4 +11,7 @@ long write(int file, const void *from, size_t count);
 int fsync(int file);
 int close(int file);
 
+/* Ends the program, and writes nothing that is still buffered. */
+void _exit(int status);
+
 #endif

@@ -198,7 +198,7 @@ pub extern "C" fn rigtemple_grade_parts(
 ) -> u16
     ensures { λ r. ⌜ Grades (now (card .entry)) r (now (verdict .exit)) (now (offender .exit)) (now (number .exit)) ⌝ }
 {
-    let graded = guide::grade(card);
+    let graded = verdict::grade::grade(card);
     let v = graded.verdict;
     *verdict = verdict_number(v);
     *offender = verdict_offender(v);

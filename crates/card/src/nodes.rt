@@ -1,11 +1,10 @@
 // The nodes: row 6 of the refusal table, and which nodes contain an atom of a kind, each in one pass.
 ghost use mathlib.Core.Path.{_≡_};
-ghost use mathlib.Core.Bool.{true, false};
-ghost use Prim.Native.Nat.{_≤_};
-ghost use lib.ListN.{getD, replicate};
-ghost use Rattle.meaning.specs.Refusals.{kindGood, nodesGood, containsOf};
+ghost use mathlib.Core.Bool.{true};
+ghost use lib.ListN.{replicate};
+ghost use Rattle.meaning.specs.Refusals.{kindGood, nodesGood};
 ghost use Rattle.layout.specs.GoodLayout.{GoodLayout};
-ghost use Rattle.card.specs.Marks.{Marks};
+ghost use Rattle.card.specs.Marks.{markOf, Marks};
 use layout::entries::read_node;
 use meaning::Layout;
 use meaning::Node;
@@ -43,46 +42,38 @@ pub fn nodes_good(card: &[u8], l: Layout) -> bool
     good
 }
 
-// Whether an atom of a kind stands in a node's condition, by the marks of the lower nodes. No jump on the node's kind: in a
-// card's check a wrong guess of it would cost more than the few bits that it saves.
-fn contains(kind: u8, x: Node, marks: &[bool; 256]) -> bool
-    requires { ⌜ x .kind ≤ 5 ⌝ }
-    ensures { λ r. ⌜ r ≡ containsOf kind (x .kind) (x .a) (x .b) (λ j. getD (now (marks .entry)) j false) ⌝ }
+// The mark of a node by its kind and the marks of its children, which are read whatever the kind is: the machine then chooses
+// without a jump, and in a card's check a wrong guess of the kind would cost more than what is read for nothing.
+fn mark_of(kind: u8, first: u8, second: u8) -> u8
+    ensures { λ r. ⌜ r ≡ markOf kind first second ⌝ }
 {
-    let k = x.kind;
-    let own = ((k == 1) & (kind == 1)) | ((k == 2) & (kind == 2));
-    let first = marks[x.a as usize];
-    let second = marks[x.b as usize];
-    own | (((3 <= k) & first) | ((4 <= k) & second))
+    match kind {
+        0..=2 => kind,
+        3 => first,
+        _ => first | second,
+    }
 }
 
-// Every node is marked.
-pub fn all_marks() -> [bool; 256]
-    ensures { λ r. ⌜ r ≡ replicate 256 true ⌝ }
+// Every node is marked, for both kinds.
+pub fn all_marks() -> [u8; 256]
+    ensures { λ r. ⌜ r ≡ replicate 256 3 ⌝ }
 {
-    [true; 256]
+    [3; 256]
 }
 
 // The nodes that contain a belief atom, and those that contain a goal atom, where all are marked at first: in one pass.
-pub fn mark_nodes(
-    card: &[u8],
-    l: Layout,
-    with_belief: &mut [bool; 256],
-    with_goal: &mut [bool; 256],
-)
-    requires { ⌜ GoodLayout l (now card) × (nodesGood l (now card) ≡ true) ⌝ }
-    requires { ⌜ (now «with_belief» ≡ replicate 256 true) × (now «with_goal» ≡ replicate 256 true) ⌝ }
-    ensures { λ r. ⌜ Marks 1 l (now (card .entry)) (now («with_belief» .exit)) × Marks 2 l (now (card .entry)) (now («with_goal» .exit)) ⌝ }
+pub fn mark_nodes(card: &[u8], l: Layout, marks: &mut [u8; 256])
+    requires { ⌜ GoodLayout l (now card) × (nodesGood l (now card) ≡ true) × (now marks ≡ replicate 256 3) ⌝ }
+    ensures { λ r. ⌜ Marks 1 l (now (card .entry)) (now (marks .exit)) × Marks 2 l (now (card .entry)) (now (marks .exit)) ⌝ }
 {
     let nodes = l.nodes;
     let n = nodes.count;
     let mut i: usize = 0;
     while i < n {
         let x = read_node(card, l, i);
-        let belief = contains(1, x, with_belief);
-        let goal = contains(2, x, with_goal);
-        with_belief[i] = belief;
-        with_goal[i] = goal;
+        let first = marks[x.a as usize];
+        let second = marks[x.b as usize];
+        marks[i] = mark_of(x.kind, first, second);
         i += 1;
     }
 }

@@ -53,7 +53,7 @@ settler-child i (suc (suc (suc (suc (suc zero))))) a b t s false h m e = ap (λ 
 settler-child i (suc (suc (suc (suc (suc (suc k)))))) a b t s left h m e = absurd (omega arith)
 
 -- a node with no child settles itself
-settler-leaf : (i k a b : ℕ) (t : ℕ → Bool) (s : ℕ → ℕ) → k < 3 → settlerOf i k a b t s ≡ i
+pub settler-leaf : (i k a b : ℕ) (t : ℕ → Bool) (s : ℕ → ℕ) → k < 3 → settlerOf i k a b t s ≡ i
 settler-leaf i zero a b t s h = refl
 settler-leaf i (suc zero) a b t s h = refl
 settler-leaf i (suc (suc zero)) a b t s h = refl

@@ -1,5 +1,7 @@
 pub mod Truths
 pub mod Descending
+pub mod OnePass
+pub mod OnePassCases
 pub mod Refusals
 pub mod Asking
 pub mod First

@@ -41,7 +41,7 @@ module _ (l : Layout) (b : Bytes) (good : nodesGood l b ≡ true) (σ γ : Atoms
 -- ---- the truth of a condition of the right kind
 
 -- one node: its truth is that of its query, if this holds of its children and no atom is of the other kind
-node-truth : (L : Letter) (c : Config) (k a b : ℕ) → k ≤ 5 → (t : ℕ → Bool) (q : ℕ → Query L) (contains : ℕ → Bool)
+pub node-truth : (L : Letter) (c : Config) (k a b : ℕ) → k ≤ 5 → (t : ℕ → Bool) (q : ℕ → Query L) (contains : ℕ → Bool)
     → containsOf (other L) k a b contains ≡ false
     → (3 ≤ k → contains a ≡ false → t a ≡ (c ⊨ q a)) → (4 ≤ k → contains b ≡ false → t b ≡ (c ⊨ q b))
     → truthOf k a b (c .σ) (c .γ) t ≡ (c ⊨ queryOf L k a b q)

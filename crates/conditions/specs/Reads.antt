@@ -1,6 +1,7 @@
 -- What a reader of a number and of a condition tells, by the reader as a function.
 use mathlib.Core.Path.{_≡_}
-use mathlib.Core.Bool.{Bool, _||_}
+use mathlib.Core.Bool.{Bool, false, _||_}
+use mathlib.Core.List.{[], _∷_}
 use mathlib.Core.Option.{Option, none, some}
 use Prim.Native.Nat.{ℕ, _-_, _*_, _≤_, min}
 use Prim.Native.Char.{code}
@@ -34,6 +35,16 @@ nodesOf k d = if (leb k 256) (some (take (4 * k) d)) none
 -- the number of the last of k nodes, as lastNode has it
 abbrev pub lastOf : ℕ → ℕ
 lastOf k = if (leb k 256) (k - 1) 0
+
+-- the nodes of a section with a list's member joined, k behind the members before it and j behind it: the first one stands by
+-- itself, each other one is the right side of the list's operator
+abbrev pub joinedNodes : Bool → ℕ → ℕ → ℕ → Bytes → Option Bytes
+joinedNodes first kind k j d = if first (nodesOf j d) (addedTo 1024 (node kind (lastOf k) (lastOf j)) (nodesOf j d))
+
+-- whether a text begins with the byte x
+abbrev pub begins : ℕ → Bytes → Bool
+begins x [] = false
+begins x (y ∷ t) = eqb y x
 
 -- "T", "B" and "G", with which a unit begins that nothing is nested in
 abbrev pub leaf : ℕ → Bool

@@ -6,7 +6,7 @@ ghost use lib.ListN.{length};
 ghost use Rattle.notation.specs.Built.{node};
 ghost use Rattle.notation.proofs.Making.{addedTo, when};
 ghost use lib.Dec.{leb};
-ghost use Rattle.conditions.specs.Reads.{nodesOf, lastOf};
+ghost use Rattle.conditions.specs.Reads.{nodesOf, lastOf, joinedNodes};
 
 // A node behind k others.
 pub fn put_node(nodes: &mut [u8], k: usize, kind: u8, a: u8, b: u8) -> usize
@@ -50,6 +50,21 @@ pub fn put_operator(nodes: &mut [u8], kind: u8, left: usize, right: usize) -> us
     ensures { λ r. ⌜ nodesOf r (now (nodes .exit)) ≡ addedTo 1024 (node kind (lastOf left) (lastOf right)) (nodesOf right (now (nodes .entry))) ⌝ }
 {
     put_node(nodes, right, kind, last_node(left), last_node(right))
+}
+
+// A list's member, where there are so many nodes behind the members before it and so many behind it: the first one stands by
+// itself, each other one is the right side of the list's operator.
+pub fn joined(nodes: &mut [u8], kind: u8, first: bool, left: usize, right: usize) -> usize
+    requires { ⌜ length (now nodes) ≡ 1024 ⌝ }
+    requires { ⌜ (left ≤ 257) × (right ≤ 257) ⌝ }
+    ensures { λ r. ⌜ r ≤ 257 ⌝ }
+    ensures { λ _. ⌜ length (now (nodes .exit)) ≡ 1024 ⌝ }
+    ensures { λ r. ⌜ nodesOf r (now (nodes .exit)) ≡ joinedNodes first kind left right (now (nodes .entry)) ⌝ }
+{
+    if first {
+        return right;
+    }
+    put_operator(nodes, kind, left, right)
 }
 
 // A node for `!` behind the nodes of what it stands before.

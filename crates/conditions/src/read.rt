@@ -5,11 +5,11 @@ ghost use mathlib.Core.Bool.{true};
 ghost use Prim.Native.Nat.{_≤_, _<_};
 ghost use lib.ListN.{length, getD, drop};
 ghost use Rattle.notation.proofs.Values.{unitOf, andListOf, orListOf, conditionOf};
-ghost use Rattle.conditions.specs.Reads.{leaf, At, ReadsAtom, ReadsLeaf, ReadsCondition};
+ghost use Rattle.conditions.specs.Reads.{leaf, begins, At, ReadsAtom, ReadsLeaf, ReadsCondition};
+use crate::nodes::joined;
 use crate::nodes::put_atom;
 use crate::nodes::put_node;
 use crate::nodes::put_not;
-use crate::nodes::put_operator;
 use crate::number::read_number;
 
 // The next place and how many nodes there are, 257 if something is too large; or brackets and `!` nest too deep.
@@ -59,6 +59,17 @@ fn behind_byte(text: &[u8], at: usize) -> usize
     if at == text.len() { at } else { at + 1 }
 }
 
+// Whether the byte x comes next.
+fn comes(text: &[u8], at: usize, x: u8) -> bool
+    requires { ⌜ at ≤ length (now text) ⌝ }
+    ensures { λ r. ⌜ r ≡ begins x (drop at (now (text .entry))) ⌝ }
+{
+    if at == text.len() {
+        return false;
+    }
+    text[at] == x
+}
+
 // "unit = "T" | "B" number | "G" number | "!" unit | "(" or-list ")"", with how many may still nest.
 fn read_unit(text: &[u8], at: usize, left: usize, nodes: &mut [u8], k: usize) -> Reading
     requires { ⌜ at ≤ length (now text) ⌝ }
@@ -95,24 +106,22 @@ fn read_and_list(text: &[u8], at: usize, left: usize, nodes: &mut [u8], k: usize
     requires { ⌜ (length (now nodes) ≡ 1024) × (k ≤ 257) ⌝ }
     ensures { λ r. ⌜ ReadsCondition (now (text .entry)) at (now (nodes .entry)) k (andListOf left (drop at (now (text .entry)))) r (now (nodes .exit)) ⌝ }
 {
-    let first = read_unit(text, at, left, nodes, k);
-    let Reading::At(n, m) = first else {
-        return Reading::Nested;
-    };
-    let mut place = n;
-    let mut count = m;
-    while place < text.len() {
-        if text[place] != 38 {
-            return Reading::At(place, count);
-        }
-        let next = read_unit(text, place + 1, left, nodes, count);
+    let mut place = at;
+    let mut count = k;
+    let mut first = true;
+    loop {
+        let next = read_unit(text, place, left, nodes, count);
         let Reading::At(p, j) = next else {
             return Reading::Nested;
         };
-        count = put_operator(nodes, 4, count, j);
-        place = p;
+        count = joined(nodes, 4, first, count, j);
+        if comes(text, p, 38) {
+            place = p + 1;
+            first = false;
+        } else {
+            return Reading::At(p, count);
+        }
     }
-    Reading::At(place, count)
 }
 
 // "or-list = and-list { "|" and-list }"
@@ -121,24 +130,22 @@ fn read_or_list(text: &[u8], at: usize, left: usize, nodes: &mut [u8], k: usize)
     requires { ⌜ (length (now nodes) ≡ 1024) × (k ≤ 257) ⌝ }
     ensures { λ r. ⌜ ReadsCondition (now (text .entry)) at (now (nodes .entry)) k (orListOf left (drop at (now (text .entry)))) r (now (nodes .exit)) ⌝ }
 {
-    let first = read_and_list(text, at, left, nodes, k);
-    let Reading::At(n, m) = first else {
-        return Reading::Nested;
-    };
-    let mut place = n;
-    let mut count = m;
-    while place < text.len() {
-        if text[place] != 124 {
-            return Reading::At(place, count);
-        }
-        let next = read_and_list(text, place + 1, left, nodes, count);
+    let mut place = at;
+    let mut count = k;
+    let mut first = true;
+    loop {
+        let next = read_and_list(text, place, left, nodes, count);
         let Reading::At(p, j) = next else {
             return Reading::Nested;
         };
-        count = put_operator(nodes, 5, count, j);
-        place = p;
+        count = joined(nodes, 5, first, count, j);
+        if comes(text, p, 124) {
+            place = p + 1;
+            first = false;
+        } else {
+            return Reading::At(p, count);
+        }
     }
-    Reading::At(place, count)
 }
 
 // "condition = or-list", where 32 may nest

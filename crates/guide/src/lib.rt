@@ -49,7 +49,19 @@ pub fn load(card: &[u8]) -> Reply
 pub fn grade(card: &[u8]) -> Graded
     ensures { λ r. ⌜ Grades (now (card .entry)) r ⌝ }
 {
-    verdict::grade::grade(card)
+    let r = verdict::grade::grade(card);
+    let a = r.answer;
+    let v = r.verdict;
+    let mut plan = [0u8; 1024];
+    let none = place::load::empty_mind(&mut plan);
+    Graded {
+        answer: a,
+        verdict: v,
+        configuration: Configuration {
+            mind: none,
+            plan: plan,
+        },
+    }
 }
 
 // All enabled choices, into a lent list.

@@ -1,42 +1,269 @@
--- The codes of the enabled choices, gathered one after another.
+-- The codes of the enabled choices, gathered one after another into a set of codes.
 use mathlib.Core.Path.{_≡_, refl, ap, ap₂, _∙_, sym}
-use mathlib.Core.Bool.{Bool, true, false}
-use mathlib.Core.List.{List, [], _∷_, _++_, map, append-nil, append-assoc, map-append}
-use Prim.Native.Nat.{ℕ, zero, suc, _+_, _*_, _≤_, _<_}
-use native.Mathlib.Nat.{add-zero}
-use native.Mathlib.Numerals.{add-one}
+use mathlib.Core.Bool.{Bool, true, false, _&&_, _||_, and-false, or-false}
+use mathlib.Core.List.{List, [], _∷_, _++_, map, append-nil, map-append}
+use Prim.Native.Nat.{ℕ, zero, suc, _+_, _-_, _*_, _/_, _%_, _^_, _≤_, _<_}
+use native.Mathlib.Nat.{add-zero, zero-add, mod-lt, zero-div}
+use native.Mathlib.Decide.{decLt, ℕ-discrete}
 use native.Mathlib.Omega.{arith}
-use borrow.Author.Tests.{le-leb, lt-leb}
-use lib.ListN.{length, getD, take, drop, set, length-set}
-use lib.Seq.{take-suc-set, length-take-le}
-use Rattle.paper.specs.Language.{Config}
+use borrow.Author.Tests.{eq-eqb, ne-eqb, lt-ltb, le-ltb}
+use lib.Pow.{pow-lt}
+use lib.Bits.{bitOr}
+use lib.Dec.{eqb, ltb}
+use lib.ListN.{length, getD, set, replicate, length-append}
+use lib.Seq.{getD-set-same, getD-set-other}
 use Rattle.paper.specs.Transitions.{Choice}
 use Rattle.paper.specs.Next.{enabled}
+use Rattle.paper.specs.Atoms.{Atoms, bit, _∈_, _∪_}
+use Rattle.paper.proofs.Sets.{∈-∪}
 use Rattle.runs.specs.Order.{kind, number, code, numbers, ofKind, inTurn, keep, enabledCodes}
 use Rattle.runs.proofs.Listing.{keep-yes, keep-no}
+use Rattle.runs.proofs.Numbers.{made-at}
 use Rattle.meaning.specs.declared.Layout.{Layout}
 use Rattle.meaning.specs.declared.Configuration.{Configuration}
-use Rattle.meaning.specs.declared.Refusal.{Refusal}
-use Rattle.meaning.specs.declared.Answer.the-variants.{Done, Refused}
-use Rattle.meaning.specs.Card.{Bytes, layout, agent, agentFor}
+use Rattle.meaning.specs.Card.{Bytes, agentFor}
 use Rattle.meaning.specs.Configurations.{stateOf}
-use Rattle.meaning.specs.Refusals.{configurationAnswer}
-use Rattle.meaning.specs.Calls.{written, lists, listLeaves}
-use Rattle.meaning.proofs.Calls.{writes-room, writes-no-room}
-use Rattle.sets.proofs.Loops.{filled, filled-turn}
 use Rattle.layout.specs.Entries.{countOf}
 use Rattle.choices.specs.Asking.{choiceAt}
-use Rattle.moves.specs.Listed.{listed}
+use Rattle.choices.proofs.Asking.{isOpen, open-enabled, no-rule}
 use Rattle.choices.proofs.First.{of-kind}
+use Rattle.moves.specs.Listed.{enabledCode, codesOf, codesIn, withCode, Gathered, CardCodes}
 
--- ---- one number more
+-- ---- the codes that pass a test, of any numbers
 
-numbers-snoc : (k n : ℕ) → numbers k (suc n) ≡ numbers k n ++ (k + n) ∷ []
-unfolding numbers
-numbers-snoc k zero = ap (λ (x : ℕ). x ∷ []) (sym (add-zero k))
-numbers-snoc k (suc n) =
-    let e : suc k + n ≡ k + suc n = omega arith in
-    ap (λ (xs : List ℕ). k ∷ xs) (numbers-snoc (suc k) n ∙ ap (λ (x : ℕ). numbers (suc k) n ++ x ∷ []) e)
+module _ (t : ℕ → Bool) where
+  here : (k n : ℕ) → t k ≡ true → codesOf t k (suc n) ≡ k ∷ codesOf t (suc k) n
+  unfolding codesOf numbers
+  here k n e = keep-yes t k (numbers (suc k) n) e
+
+  passed : (k n : ℕ) → t k ≡ false → codesOf t k (suc n) ≡ codesOf t (suc k) n
+  unfolding codesOf numbers
+  passed k n e = keep-no t k (numbers (suc k) n) e
+
+  pub codes-append : (k m n : ℕ) → codesOf t k (m + n) ≡ codesOf t k m ++ codesOf t (k + m) n
+  unfolding codesOf numbers
+  codes-append k zero n = ap₂ (codesOf t) (sym (add-zero k)) (zero-add n)
+  codes-append k (suc m) n = go (t k) refl (codes-append (suc k) m n)
+    where
+      e : suc m + n ≡ suc (m + n)
+      e = omega arith
+
+      f : suc k + m ≡ k + suc m
+      f = omega arith
+
+      go : (b : Bool) → t k ≡ b → codesOf t (suc k) (m + n) ≡ codesOf t (suc k) m ++ codesOf t (suc k + m) n → codesOf t k (suc m + n) ≡ codesOf t k (suc m) ++ codesOf t (k + suc m) n
+      go true h ih = rw (e, here k (m + n) h, here k m h, ih, f)
+      go false h ih = rw (e, passed k (m + n) h, passed k m h, ih, f)
+
+  pub codes-none : (k n : ℕ) → ((i : ℕ) → i < n → t (k + i) ≡ false) → codesOf t k n ≡ []
+  unfolding codesOf numbers
+  codes-none k zero h = refl
+  codes-none k (suc n) h =
+      passed k n (ap t (sym (add-zero k)) ∙ h 0 (omega arith))
+      ∙ codes-none (suc k) n (λ i l. (let e : suc k + i ≡ k + suc i = omega arith in ap t e ∙ h (suc i) (omega arith)))
+
+  -- one code more
+  codes-yes : (k n : ℕ) → t (k + n) ≡ true → codesOf t k (n + 1) ≡ codesOf t k n ++ ((k + n) ∷ [])
+  unfolding codesOf numbers
+  codes-yes k n e = codes-append k n 1 ∙ ap (λ (xs : List ℕ). codesOf t k n ++ xs) (here (k + n) 0 e)
+
+  -- more codes, none of which passes
+  pub codes-no : (k m n : ℕ) → ((i : ℕ) → i < n → t (k + m + i) ≡ false) → codesOf t k (m + n) ≡ codesOf t k m
+  codes-no k m n h = codes-append k m n ∙ ap (λ (xs : List ℕ). codesOf t k m ++ xs) (codes-none (k + m) n h) ∙ append-nil (codesOf t k m)
+
+  codes-few : (k n : ℕ) → length (codesOf t k n) ≤ n
+  unfolding codesOf numbers
+  codes-few k zero = omega arith
+  codes-few k (suc n) = go (t k) refl (codes-few (suc k) n)
+    where
+      go : (b : Bool) → t k ≡ b → length (codesOf t (suc k) n) ≤ n → length (codesOf t k (suc n)) ≤ suc n
+      go true h ih = rw (here k n h) (omega arith)
+      go false h ih = rw (passed k n h) (omega arith)
+
+codes-same : (t u : ℕ → Bool) (k n : ℕ) → ((i : ℕ) → i < n → t (k + i) ≡ u (k + i)) → codesOf t k n ≡ codesOf u k n
+unfolding codesOf numbers
+codes-same t u k zero h = refl
+codes-same t u k (suc n) h =
+    go (u k) refl (codes-same t u (suc k) n (λ i l. (let e : suc k + i ≡ k + suc i = omega arith in ap t e ∙ h (suc i) (omega arith) ∙ ap u (sym e))))
+  where
+    first : t k ≡ u k
+    first = let e = add-zero k in ap t (sym e) ∙ h 0 (omega arith) ∙ ap u e
+
+    go : (b : Bool) → u k ≡ b → codesOf t (suc k) n ≡ codesOf u (suc k) n → codesOf t k (suc n) ≡ codesOf u k (suc n)
+    go true e ih = here t k n (first ∙ e) ∙ ap (λ (xs : List ℕ). k ∷ xs) ih ∙ sym (here u k n e)
+    go false e ih = passed t k n (first ∙ e) ∙ ih ∙ sym (passed u k n e)
+
+-- ---- a set with one code more
+
+-- the bits of 1, 2, 4 … 128, computed
+bits-table : map (λ j. map (λ i. bit j (2 ^ i)) (numbers 0 8)) (numbers 0 8) ≡ map (λ j. map (λ i. eqb j i) (numbers 0 8)) (numbers 0 8)
+unfolding numbers bit
+bits-table = refl
+
+in-table : (f : ℕ → ℕ → Bool) (j i : ℕ) → j < 8 → i < 8 → getD (getD (map (λ j. map (f j) (numbers 0 8)) (numbers 0 8)) j []) i false ≡ f j i
+in-table f j i h l =
+    ap (λ (xs : List Bool). getD xs i false) (made-at (λ j. map (f j) (numbers 0 8)) 0 8 j [] h ∙ ap (λ k. map (f k) (numbers 0 8)) (zero-add j))
+    ∙ made-at (f j) 0 8 i false l
+    ∙ ap (f j) (zero-add i)
+
+bit-power : (j i : ℕ) → j < 8 → i < 8 → bit j (2 ^ i) ≡ eqb j i
+bit-power j i h l =
+    sym (in-table (λ j i. bit j (2 ^ i)) j i h l) ∙ ap (λ (rows : List (List Bool)). getD (getD rows j []) i false) bits-table ∙ in-table eqb j i h l
+
+bit-or : (j x y : ℕ) → j < 8 → bit j (bitOr x y) ≡ (bit j x || bit j y)
+unfolding _∈_ _∪_
+bit-or j x y h =
+    let d : j / 8 ≡ 0 = omega arith in
+    let m : j % 8 ≡ j = omega arith in
+    rw (d, m) at (∈-∪ j (x ∷ []) (y ∷ []))
+
+pub one-bit : (x : ℕ) (s : Atoms) → set s (x / 8) (bitOr (getD s (x / 8) 0) (1 * 2 ^ (x % 8) % 256)) ≡ withCode x s
+one-bit x s =
+    let p : 2 ^ (x % 8) < 256 = pow-lt {i = x % 8} {j = 8} (mod-lt x (omega arith)) in
+    let b : 1 * 2 ^ (x % 8) % 256 ≡ 2 ^ (x % 8) = omega arith in
+    ap (λ y. set s (x / 8) (bitOr (getD s (x / 8) 0) y)) b
+
+∈-with : (k x : ℕ) (s : Atoms) → x / 8 < length s → k ∈ withCode x s ≡ (k ∈ s || eqb k x)
+unfolding _∈_
+∈-with k x s h = elim (ℕ-discrete (k / 8) (x / 8)) [
+  | yes e ↦
+      let i : k % 8 < 8 = mod-lt k (omega arith) in
+      let j : x % 8 < 8 = mod-lt x (omega arith) in
+      rw (e, getD-set-same s (x / 8) (bitOr (getD s (x / 8) 0) (2 ^ (x % 8))) 0 h)
+      (bit-or (k % 8) (getD s (x / 8) 0) (2 ^ (x % 8)) i ∙ ap (λ b. bit (k % 8) (getD s (x / 8) 0) || b) (bit-power (k % 8) (x % 8) i j ∙ same e))
+  | no n ↦
+      rw (getD-set-other s (x / 8) (k / 8) (bitOr (getD s (x / 8) 0) (2 ^ (x % 8))) 0 n, ne-eqb k x (λ q. n (omega arith)))
+      (sym (or-false (bit (k % 8) (getD s (k / 8) 0))))
+]
+  where
+    same : k / 8 ≡ x / 8 → eqb (k % 8) (x % 8) ≡ eqb k x
+    same e = elim (ℕ-discrete k x) [
+      | yes q ↦ eq-eqb (k % 8) (x % 8) (omega arith) ∙ sym (eq-eqb k x q)
+      | no n ↦ ne-eqb (k % 8) (x % 8) (λ q. n (omega arith)) ∙ sym (ne-eqb k x n)
+    ]
+
+-- ---- a set of the codes below a number that pass a test
+
+no-bit : (n i : ℕ) → _≡_ {A = ℕ} (getD (replicate n 0) i 0) 0
+no-bit zero i = refl
+no-bit (suc n) zero = refl
+no-bit (suc n) (suc i) = no-bit n i
+
+module _ (t : ℕ → Bool) where
+  pub gathered-none : (n : ℕ) → Gathered t 0 (replicate n 0) 0
+  unfolding codesOf numbers _∈_ bit
+  gathered-none n = record {
+    each = λ k. rw (no-bit n (k / 8), zero-div, le-ltb k 0 (omega arith));
+    many = refl;
+  }
+
+  module _ (x : ℕ) (s : Atoms) (n : ℕ) (g : Gathered t x s n) where
+    pub gathered-yes : t x ≡ true → x / 8 < length s → Gathered t (x + 1) (withCode x s) (n + 1)
+    gathered-yes e h = record {
+      each = λ k. (∈-with k x s h ∙ ap (λ b. b || eqb k x) (g .each k) ∙ more k);
+      many =
+          let m = g .many in
+          let l = length-append (codesOf t 0 x) ((0 + x) ∷ []) in
+          let c = ap length (codes-yes t 0 x (ap t (zero-add x) ∙ e)) in
+          omega arith;
+    }
+      where
+        more : (k : ℕ) → (ltb k x && t k || eqb k x) ≡ (ltb k (x + 1) && t k)
+        more k = elim (ℕ-discrete k x) [
+          | yes q ↦ rw (le-ltb k x (omega arith), eq-eqb k x q, lt-ltb k (x + 1) (omega arith)) (sym (ap t q ∙ e))
+          | no q ↦ elim (decLt k x) [
+            | yes l ↦ rw (lt-ltb k x l, ne-eqb k x q, lt-ltb k (x + 1) (omega arith)) (or-false (t k))
+            | no l ↦ rw (le-ltb k x (omega arith), ne-eqb k x q, le-ltb k (x + 1) (omega arith))
+          ]
+        ]
+
+    pub gathered-past : (m : ℕ) → ((i : ℕ) → i < m → t (x + i) ≡ false) → Gathered t (x + m) s n
+    gathered-past m h = record {
+      each = λ k. (g .each k ∙ more k);
+      many = g .many ∙ ap length (sym (codes-no t 0 x m (λ i l. (let e : 0 + x + i ≡ x + i = omega arith in ap t e ∙ h i l))));
+    }
+      where
+        more : (k : ℕ) → (ltb k x && t k) ≡ (ltb k (x + m) && t k)
+        more k = elim (decLt k x) [
+          | yes l ↦ rw (lt-ltb k x l, lt-ltb k (x + m) (omega arith))
+          | no l ↦ elim (decLt k (x + m)) [
+            | yes r ↦
+                let e : k ≡ x + (k - x) = omega arith in
+                rw (le-ltb k x (omega arith), lt-ltb k (x + m) r) (sym (ap t e ∙ h (k - x) (omega arith)))
+            | no r ↦ rw (le-ltb k x (omega arith), le-ltb k (x + m) (omega arith))
+          ]
+        ]
+
+    pub gathered-all : codesIn s 0 x ≡ codesOf t 0 x
+    gathered-all = codes-same (λ k. k ∈ s) t 0 x (λ i l. g .each (0 + i) ∙ ap (λ b. b && t (0 + i)) (lt-ltb (0 + i) x (omega arith)))
+
+    pub gathered-many : n ≡ length (codesIn s 0 x)
+    gathered-many = g .many ∙ ap length (sym gathered-all)
+
+    pub gathered-few : n ≤ x
+    gathered-few = let m = g .many in let f = codes-few t 0 x in omega arith
+
+    pub gathered-no : t x ≡ false → Gathered t (x + 1) s n
+    gathered-no e = gathered-past 1 (λ i l. (let z : x + i ≡ x = omega arith in ap t z ∙ e))
+
+-- ---- the enabled choices
+
+-- "256 times the kind … plus the number"
+code-at : (k i : ℕ) → k < 3 → code (choiceAt k i) ≡ 256 * k + i
+unfolding code kind number
+code-at zero i h = refl
+code-at (suc zero) i h = refl
+code-at (suc (suc zero)) i h = refl
+code-at (suc (suc (suc k))) i h = absurd (omega arith)
+
+module _ (l : Layout) (b : Bytes) (c : Configuration) (kind : ℕ) where
+  -- the choice of a code
+  pub enabled-at : (i : ℕ) → i < 256 → enabledCode l b c (256 * kind + i) ≡ enabled (agentFor l b) (stateOf c .mental) (choiceAt kind i)
+  enabled-at i h =
+      let d : (256 * kind + i) / 256 ≡ kind = omega arith in
+      let m : (256 * kind + i) % 256 ≡ i = omega arith in
+      ap₂ (λ k n. enabled (agentFor l b) (stateOf c .mental) (choiceAt k n)) d m
+
+  -- no choice past a kind's last
+  pub none-enabled : (i : ℕ) → countOf l kind ≤ i → i < 256 → enabledCode l b c (256 * kind + i) ≡ false
+  none-enabled i h e =
+      enabled-at i e
+      ∙ sym (open-enabled (agentFor l b) (stateOf c .mental) (choiceAt kind i))
+      ∙ sym (ap isOpen (no-rule l b (stateOf c .mental) kind i h))
+
+  -- the codes of a kind from the i-th choice on
+  codes-from : (i n : ℕ) → kind < 3 → i + n ≤ 256 → map code (keep (enabled (agentFor l b) (stateOf c .mental)) (map (choiceAt kind) (numbers i n))) ≡ codesOf (enabledCode l b c) (256 * kind + i) n
+  unfolding codesOf numbers
+  codes-from i zero h e = refl
+  codes-from i (suc n) h e = go (t (choiceAt kind i)) refl (codes-from (suc i) n h (omega arith))
+    where
+      t : Choice → Bool
+      t = enabled (agentFor l b) (stateOf c .mental)
+
+      next : 256 * kind + suc i ≡ suc (256 * kind + i)
+      next = omega arith
+
+      go : (r : Bool) → t (choiceAt kind i) ≡ r → map code (keep t (map (choiceAt kind) (numbers (suc i) n))) ≡ codesOf (enabledCode l b c) (256 * kind + suc i) n
+          → map code (keep t (choiceAt kind i ∷ map (choiceAt kind) (numbers (suc i) n))) ≡ codesOf (enabledCode l b c) (256 * kind + i) (suc n)
+      go true q ih =
+          ap (map code) (keep-yes t (choiceAt kind i) (map (choiceAt kind) (numbers (suc i) n)) q)
+          ∙ ap₂ _∷_ (code-at kind i h) (ih ∙ ap (λ x. codesOf (enabledCode l b c) x n) next)
+          ∙ sym (here (enabledCode l b c) (256 * kind + i) n (enabled-at i (omega arith) ∙ q))
+      go false q ih =
+          ap (map code) (keep-no t (choiceAt kind i) (map (choiceAt kind) (numbers (suc i) n)) q)
+          ∙ ih ∙ ap (λ x. codesOf (enabledCode l b c) x n) next
+          ∙ sym (passed (enabledCode l b c) (256 * kind + i) n (enabled-at i (omega arith) ∙ q))
+
+  -- all codes of a kind
+  kind-codes : kind < 3 → countOf l kind ≤ 256 → map code (keep (enabled (agentFor l b) (stateOf c .mental)) (ofKind (agentFor l b) kind)) ≡ codesOf (enabledCode l b c) (256 * kind) 256
+  kind-codes h e =
+      let n = countOf l kind in
+      let d : n + (256 - n) ≡ 256 = omega arith in
+      ap (λ (ks : List Choice). map code (keep (enabled (agentFor l b) (stateOf c .mental)) ks)) (of-kind l b kind)
+      ∙ codes-from 0 n h (omega arith)
+      ∙ ap (λ x. codesOf (enabledCode l b c) x n) (add-zero (256 * kind))
+      ∙ sym (codes-no (enabledCode l b c) (256 * kind) n (256 - n) (λ i g. (let q : 256 * kind + n + i ≡ 256 * kind + (n + i) = omega arith in ap (enabledCode l b c) q ∙ none-enabled (n + i) (omega arith) (omega arith))))
+      ∙ ap (codesOf (enabledCode l b c) (256 * kind)) d
 
 keep-append : (t : Choice → Bool) (xs ys : List Choice) → keep t (xs ++ ys) ≡ keep t xs ++ keep t ys
 keep-append t [] ys = refl
@@ -46,123 +273,27 @@ keep-append t (x ∷ xs) ys = go (t x) refl (keep-append t xs ys)
     go true e ih = keep-yes t x (xs ++ ys) e ∙ ap (λ (r : List Choice). x ∷ r) ih ∙ ap (λ (r : List Choice). r ++ keep t ys) (sym (keep-yes t x xs e))
     go false e ih = keep-no t x (xs ++ ys) e ∙ ih ∙ ap (λ (r : List Choice). r ++ keep t ys) (sym (keep-no t x xs e))
 
-module _ (t : Choice → Bool) (f : ℕ → Choice) (i : ℕ) where
-  listed-more : listed t f (i + 1) ≡ listed t f i ++ map code (keep t (f i ∷ []))
-  unfolding listed
-  listed-more =
-      let z : 0 + i ≡ i = omega arith in
-      let e : map f (numbers 0 (i + 1)) ≡ map f (numbers 0 i) ++ f i ∷ [] = ap (λ (n : ℕ). map f (numbers 0 n)) (add-one i) ∙ ap (map f) (numbers-snoc 0 i) ∙ map-append f (numbers 0 i) ((0 + i) ∷ []) ∙ ap (λ (n : ℕ). map f (numbers 0 i) ++ f n ∷ []) z in
-      ap (λ (xs : List Choice). map code (keep t xs)) e
-      ∙ ap (map code) (keep-append t (map f (numbers 0 i)) (f i ∷ []))
-      ∙ map-append code (keep t (map f (numbers 0 i))) (keep t (f i ∷ []))
+codes-both : (t : Choice → Bool) (xs ys : List Choice) → map code (keep t (xs ++ ys)) ≡ map code (keep t xs) ++ map code (keep t ys)
+codes-both t xs ys = ap (map code) (keep-append t xs ys) ∙ map-append code (keep t xs) (keep t ys)
 
-  listed-yes : t (f i) ≡ true → listed t f (i + 1) ≡ listed t f i ++ code (f i) ∷ []
-  listed-yes e = listed-more ∙ ap (λ (xs : List Choice). listed t f i ++ map code xs) (keep-yes t (f i) [] e)
+-- the three kinds
+module _ (l : Layout) (b : Bytes) (c : Configuration) (few : (kind : ℕ) → countOf l kind ≤ 256) where
+  pub all-codes : codesOf (enabledCode l b c) 0 768 ≡ enabledCodes (agentFor l b) (stateOf c .mental)
+  unfolding enabledCodes inTurn
+  all-codes =
+      let A = agentFor l b in
+      let t = enabled A (stateOf c .mental) in
+      let T = enabledCode l b c in
+      codes-append T 0 256 512
+      ∙ ap (λ (xs : List ℕ). codesOf T 0 256 ++ xs) (codes-append T 256 256 256)
+      ∙ ap₂ _++_ (sym (kind-codes l b c 0 (omega arith) (few 0))) (ap₂ _++_ (sym (kind-codes l b c 1 (omega arith) (few 1))) (sym (kind-codes l b c 2 (omega arith) (few 2))))
+      ∙ ap (λ (xs : List ℕ). map code (keep t (ofKind A 0)) ++ xs) (sym (codes-both t (ofKind A 1) (ofKind A 2)))
+      ∙ sym (codes-both t (ofKind A 0) (ofKind A 1 ++ ofKind A 2))
 
-  listed-no : t (f i) ≡ false → listed t f (i + 1) ≡ listed t f i
-  listed-no e = listed-more ∙ ap (λ (xs : List Choice). listed t f i ++ map code xs) (keep-no t (f i) [] e) ∙ append-nil (listed t f i)
-
--- ---- the codes of the first i choices of a kind stand from `at` up to j
-
-pub record Gathering (t : Choice → Bool) (f : ℕ → Choice) (at : ℕ) (d₀ : List ℕ) (i j : ℕ) (d : List ℕ) : Type 0 where
-  pub low : j ≤ at + i
-  pub so-far : take j d ≡ take at d₀ ++ listed t f i
-  pub long : length d ≡ 768
-
-module _ (t : Choice → Bool) (f : ℕ → Choice) (at : ℕ) (d₀ : List ℕ) where
-  pub gathering-none : length d₀ ≡ 768 → Gathering t f at d₀ 0 at d₀
-  unfolding listed numbers
-  gathering-none h = record { low = omega arith; so-far = sym (append-nil (take at d₀)); long = h }
-
-  module _ (i j : ℕ) (d : List ℕ) (g : Gathering t f at d₀ i j d) where
-    pub gathering-yes : t (f i) ≡ true → (x : ℕ) → x ≡ code (f i) → j < 768 → Gathering t f at d₀ (i + 1) (j + 1) (set d j x)
-    gathering-yes e x h b =
-        let r = g .long in
-        let l = g .low in
-        record {
-          low = omega arith;
-          so-far =
-              ap (λ (n : ℕ). take n (set d j x)) (add-one j)
-              ∙ take-suc-set d j x (omega arith)
-              ∙ ap (λ (p : List ℕ). p ++ x ∷ []) (g .so-far)
-              ∙ append-assoc (take at d₀) (listed t f i) (x ∷ [])
-              ∙ ap (λ (p : List ℕ). take at d₀ ++ p) (ap (λ (y : ℕ). listed t f i ++ y ∷ []) h ∙ sym (listed-yes t f i e));
-          long = length-set d j x ∙ r;
-        }
-
-    pub gathering-no : t (f i) ≡ false → Gathering t f at d₀ (i + 1) j d
-    gathering-no e = let l = g .low in record { low = omega arith; so-far = g .so-far ∙ ap (λ (p : List ℕ). take at d₀ ++ p) (sym (listed-no t f i e)); long = g .long }
-
-    pub gathered : (n : ℕ) → i ≡ n → n ≤ 256 → (take j d ≡ take at d₀ ++ listed t f n) × (j ≤ at + 256) × (length d ≡ 768)
-    gathered n e h = let l = g .low in (g .so-far ∙ ap (λ (k : ℕ). take at d₀ ++ listed t f k) e, omega arith, g .long)
-
--- ---- the three kinds
-
-pub three-kinds : (l : Layout) (b : Bytes) (c : Config) (p q r : List ℕ)
-    → p ≡ listed (enabled (agentFor l b) c) (choiceAt 0) (countOf l 0)
-    → q ≡ p ++ listed (enabled (agentFor l b) c) (choiceAt 1) (countOf l 1)
-    → r ≡ q ++ listed (enabled (agentFor l b) c) (choiceAt 2) (countOf l 2)
-    → r ≡ enabledCodes (agentFor l b) c
-unfolding enabledCodes inTurn listed
-three-kinds l b c p q r e₁ e₂ e₃ =
-    let A = agentFor l b in
-    let t = enabled A c in
-    let x = map (choiceAt 0) (numbers 0 (countOf l 0)) in
-    let y = map (choiceAt 1) (numbers 0 (countOf l 1)) in
-    let z = map (choiceAt 2) (numbers 0 (countOf l 2)) in
-    let k : ofKind A 0 ++ (ofKind A 1 ++ ofKind A 2) ≡ x ++ (y ++ z) = ap₂ _++_ (of-kind l b 0) (ap₂ _++_ (of-kind l b 1) (of-kind l b 2)) in
-    let w : map code (keep t (x ++ (y ++ z))) ≡ map code (keep t x) ++ (map code (keep t y) ++ map code (keep t z)) =
-    ap (map code) (keep-append t x (y ++ z)) ∙ map-append code (keep t x) (keep t (y ++ z)) ∙ ap (λ (s : List ℕ). map code (keep t x) ++ s) (ap (map code) (keep-append t y z) ∙ map-append code (keep t y) (keep t z)) in
-    e₃ ∙ ap (λ (s : List ℕ). s ++ map code (keep t z)) (e₂ ∙ ap (λ (s : List ℕ). s ++ map code (keep t y)) e₁)
-    ∙ append-assoc (map code (keep t x)) (map code (keep t y)) (map code (keep t z))
-    ∙ sym w ∙ ap (λ (s : List Choice). map code (keep t s)) (sym k)
-
--- ---- "256 times the kind … plus the number"
-
-pub code-at : (k i : ℕ) → k < 3 → 256 * k + i ≡ code (choiceAt k i)
-unfolding code kind number
-code-at zero i h = refl
-code-at (suc zero) i h = refl
-code-at (suc (suc zero)) i h = refl
-code-at (suc (suc (suc k))) i h = absurd (omega arith)
-
--- ---- codes written over a lent list
-
-pub record Writing (codes out₀ : List ℕ) (i : ℕ) (out : List ℕ) : Type 0 where
-  pub so-far : out ≡ filled codes out₀ i
-  pub long : length out ≡ length out₀
-
-pub writing-none : (codes out₀ : List ℕ) → Writing codes out₀ 0 out₀
-writing-none codes out₀ = record { so-far = refl; long = refl }
-
-pub writing-more : (codes out₀ : List ℕ) (i : ℕ) (out : List ℕ) → Writing codes out₀ i out → i < length codes → i < length out₀ → Writing codes out₀ (i + 1) (set out i (getD codes i 0))
-writing-more codes out₀ i out w h g = record {
-  so-far = ap (λ (x : List ℕ). set x i (getD codes i 0)) (w .so-far) ∙ filled-turn codes out₀ i 0 (getD codes i 0) h g refl;
-  long = length-set out i (getD codes i 0) ∙ w .long;
-}
-
--- ---- what the list answers, and what it leaves
-
-pub listed-by : (b : Bytes) (c : Configuration) (l : Layout) → l ≡ layout b → enabledCodes (agentFor l b) (stateOf c .mental) ≡ enabledCodes (agent b) (stateOf c .mental)
-unfolding agent
-listed-by b c l e = ap (λ (x : Layout). enabledCodes (agentFor x b) (stateOf c .mental)) e
-
-module _ (b : Bytes) (c : Configuration) (good : configurationAnswer b c ≡ Done) (codes : List ℕ) (n : ℕ) (room : length codes ≡ 768) (low : n ≤ 768) (x : take n codes ≡ enabledCodes (agent b) (stateOf c .mental)) (out : List ℕ) where
-  how-many : n ≡ length (enabledCodes (agent b) (stateOf c .mental))
-  how-many = sym (length-take-le n codes (omega arith)) ∙ ap length x
-
-  pub list-yes : n ≤ length out → (out′ : List ℕ) → out′ ≡ take n codes ++ drop n out → (written Done n c ≡ lists b c out) × (out′ ≡ listLeaves b c out)
-  unfolding lists listLeaves
-  list-yes h out′ q =
-      let m = how-many in
-      let r = writes-room b c (enabledCodes (agent b) (stateOf c .mental)) out good (le-leb (length (enabledCodes (agent b) (stateOf c .mental))) (length out) (omega arith)) in (
-        ap (λ (k : ℕ). written Done k c) m ∙ sym (r .0),
-        q ∙ ap (λ (p : List ℕ). p ++ drop n out) x ∙ ap (λ (k : ℕ). enabledCodes (agent b) (stateOf c .mental) ++ drop k out) m ∙ sym (r .1),
-      )
-
-  pub list-not : length out < n → (written (Refused Refusal.NoRoom) 0 c ≡ lists b c out) × (out ≡ listLeaves b c out)
-  unfolding lists listLeaves
-  list-not h =
-      let m = how-many in
-      let r = writes-no-room b c (enabledCodes (agent b) (stateOf c .mental)) out good (lt-leb (length (enabledCodes (agent b) (stateOf c .mental))) (length out) (omega arith)) in
-      (sym (r .0), sym (r .1))
+  -- in a set of them there is no code past a kind's last
+  pub card-codes : (s : Atoms) (n : ℕ) → Gathered (enabledCode l b c) 768 s n → length s ≡ 96 → CardCodes l s
+  card-codes s n g h = record {
+    few = few;
+    none-behind = λ kind i k e f. (g .each (256 * kind + i) ∙ ap (λ r. ltb (256 * kind + i) 768 && r) (none-enabled l b c kind i e f) ∙ and-false (ltb (256 * kind + i) 768));
+    long = h;
+  }

@@ -2,3 +2,4 @@ pub mod Stepping
 pub mod Running
 pub mod Taking
 pub mod Gathering
+pub mod Writing

@@ -1,16 +1,12 @@
 // The list: "The list of enabled choices goes as two-byte numbers, rising, each once, into the lent list".
 ghost use mathlib.Core.Path.{_≡_};
-ghost use mathlib.Core.List.{_++_};
-ghost use Prim.Native.Nat.{_+_, _≤_, _<_};
-ghost use lib.ListN.{length, take, drop};
-ghost use Rattle.runs.specs.Order.{enabledCodes};
-ghost use Rattle.meaning.specs.Card.{agentFor};
-ghost use Rattle.meaning.specs.Configurations.{stateOf};
-ghost use Rattle.meaning.specs.Calls.{lists, listLeaves};
+ghost use Prim.Native.Nat.{_+_, _*_, _≤_, _<_};
+ghost use lib.ListN.{length, replicate};
+ghost use Rattle.meaning.specs.Calls.{over, lists, listLeaves};
 ghost use Rattle.layout.specs.PlaceParts.{lent};
 ghost use Rattle.choices.specs.Ready.{Ready, Judged};
 ghost use Rattle.choices.specs.InPlace.{writtenWith};
-ghost use Rattle.moves.specs.Listed.{listedOf};
+ghost use Rattle.moves.specs.Listed.{enabledCode, codesIn, withCode, Gathered, CardCodes, overFrom};
 use card::check::answer_of;
 use card::check::check;
 use choices::ask::is_open;
@@ -25,7 +21,16 @@ use meaning::Checked;
 use meaning::Layout;
 use meaning::Mind;
 
-// The codes of a kind's enabled choices, from an entry of the codes on; answers where the next may go.
+// A set of codes with one code more: code k is bit (k modulo 8) of byte (k divided by 8).
+fn put(codes: &mut [u8; 96], code: usize)
+    requires { ⌜ (code < 768) × (length (now codes) ≡ 96) ⌝ }
+    ensures { λ r. ⌜ now (codes .exit) ≡ withCode code (now (codes .entry)) ⌝ }
+{
+    let at = code / 8;
+    codes[at] = codes[at] | (1u8 << (code % 8));
+}
+
+// The codes of a kind's enabled choices into a set that has those of the kinds before; answers how many the set has.
 fn gather_kind(
     card: &[u8],
     l: Layout,
@@ -33,31 +38,32 @@ fn gather_kind(
     plan: &[u8; 1024],
     marks: &[bool; 256],
     kind: u8,
-    codes: &mut [u16; 768],
-    at: usize,
+    codes: &mut [u8; 96],
+    before: usize,
 ) -> usize
-    requires { ⌜ Judged l (now card) (lent m (now plan)) (now marks) × (kind < 3) × (length (now codes) ≡ 768) × (at ≤ 512) ⌝ }
-    ensures { λ r. ⌜ take r (now (codes .exit)) ≡ take at (now (codes .entry)) ++ listedOf l (now (card .entry)) (lent m (now (plan .entry))) kind ⌝ }
-    ensures { λ r. ⌜ (r ≤ at + 256) × (length (now (codes .exit)) ≡ 768) ⌝ }
+    requires { ⌜ Judged l (now card) (lent m (now plan)) (now marks) × (kind < 3) × (length (now codes) ≡ 96) ⌝ }
+    requires { ⌜ Gathered (enabledCode l (now card) (lent m (now plan))) (256 * kind) (now codes) before ⌝ }
+    ensures { λ r. ⌜ Gathered (enabledCode l (now (card .entry)) (lent m (now (plan .entry)))) (256 * kind + 256) (now (codes .exit)) r ⌝ }
+    ensures { λ r. ⌜ length (now (codes .exit)) ≡ 96 ⌝ }
 {
     let n = count_of(l, kind);
-    let mut j: usize = at;
+    let mut count: usize = before;
     let mut i: usize = 0;
     while i < n {
         if is_open(card, l, m, plan, marks, kind, i) {
-            codes[j] = 256 * (kind as u16) + i as u16;
-            j += 1;
+            put(codes, 256 * (kind as usize) + i);
+            count += 1;
         }
         i += 1;
     }
-    j
+    count
 }
 
-// The three kinds, one after another.
-fn gather(card: &[u8], l: Layout, m: Mind, plan: &[u8; 1024], codes: &mut [u16; 768]) -> usize
-    requires { ⌜ Ready l (now card) (lent m (now plan)) × (length (now codes) ≡ 768) ⌝ }
-    ensures { λ r. ⌜ take r (now (codes .exit)) ≡ enabledCodes (agentFor l (now (card .entry))) (stateOf (lent m (now (plan .entry))) .mental) ⌝ }
-    ensures { λ r. ⌜ (r ≤ 768) × (length (now (codes .exit)) ≡ 768) ⌝ }
+// The three kinds, one after another, into the empty set.
+fn gather(card: &[u8], l: Layout, m: Mind, plan: &[u8; 1024], codes: &mut [u8; 96]) -> usize
+    requires { ⌜ Ready l (now card) (lent m (now plan)) × (now codes ≡ replicate 96 0) ⌝ }
+    ensures { λ r. ⌜ Gathered (enabledCode l (now (card .entry)) (lent m (now (plan .entry)))) 768 (now (codes .exit)) r ⌝ }
+    ensures { λ r. ⌜ length (now (codes .exit)) ≡ 96 ⌝ }
 {
     let mut marks = no_marks();
     judge_nodes(card, l, m, &mut marks);
@@ -66,23 +72,61 @@ fn gather(card: &[u8], l: Layout, m: Mind, plan: &[u8; 1024], codes: &mut [u16; 
     gather_kind(card, l, m, plan, &marks, 2, codes, second)
 }
 
-// The first n codes over the first n entries of a lent list.
-fn write(codes: &[u16; 768], n: usize, out: &mut [u16])
-    requires { ⌜ (length (now codes) ≡ 768) × (n ≤ 768) × (n ≤ length (now out)) ⌝ }
-    ensures { λ r. ⌜ now (out .exit) ≡ take n (now (codes .entry)) ++ drop n (now (out .entry)) ⌝ }
+// The codes of a byte of a set over a lent list, from an entry on; answers where the next may go.
+fn write_byte(codes: &[u8; 96], b: usize, out: &mut [u16], at: usize) -> usize
+    requires { ⌜ (b < 96) × (length (now codes) ≡ 96) × (at + length (codesIn (now codes) (8 * b) 8) ≤ length (now out)) ⌝ }
+    ensures { λ r. ⌜ r ≡ at + length (codesIn (now (codes .entry)) (8 * b) 8) ⌝ }
+    ensures { λ r. ⌜ now (out .exit) ≡ overFrom at (codesIn (now (codes .entry)) (8 * b) 8) (now (out .entry)) ⌝ }
 {
+    let bits = codes[b];
+    if bits == 0 {
+        return at;
+    }
+    let mut j: usize = at;
     let mut i: usize = 0;
-    while i < n {
-        out[i] = codes[i];
+    while i < 8 {
+        if (bits >> i) % 2 == 1 {
+            out[j] = (8 * b + i) as u16;
+            j += 1;
+        }
         i += 1;
     }
+    j
+}
+
+// The codes of a kind over a lent list, from an entry on; answers where the next may go.
+fn write_kind(codes: &[u8; 96], l: Layout, kind: u8, out: &mut [u16], at: usize) -> usize
+    requires { ⌜ (kind < 3) × CardCodes l (now codes) ⌝ }
+    requires { ⌜ at + length (codesIn (now codes) (256 * kind) 256) ≤ length (now out) ⌝ }
+    ensures { λ r. ⌜ r ≡ at + length (codesIn (now (codes .entry)) (256 * kind) 256) ⌝ }
+    ensures { λ r. ⌜ now (out .exit) ≡ overFrom at (codesIn (now (codes .entry)) (256 * kind) 256) (now (out .entry)) ⌝ }
+{
+    let first = 32 * (kind as usize);
+    let end = first + (count_of(l, kind) + 7) / 8;
+    let mut j: usize = at;
+    let mut b: usize = first;
+    while b < end {
+        j = write_byte(codes, b, out, j);
+        b += 1;
+    }
+    j
+}
+
+// All codes of a set over the front of a lent list.
+fn write(codes: &[u8; 96], l: Layout, out: &mut [u16])
+    requires { ⌜ CardCodes l (now codes) × (length (codesIn (now codes) 0 768) ≤ length (now out)) ⌝ }
+    ensures { λ r. ⌜ now (out .exit) ≡ over (codesIn (now (codes .entry)) 0 768) (now (out .entry)) ⌝ }
+{
+    let second = write_kind(codes, l, 0, out, 0);
+    let third = write_kind(codes, l, 1, out, second);
+    write_kind(codes, l, 2, out, third);
 }
 
 // No code.
-fn no_codes() -> [u16; 768]
-    ensures { λ r. ⌜ length r ≡ 768 ⌝ }
+fn no_codes() -> [u8; 96]
+    ensures { λ r. ⌜ r ≡ replicate 96 0 ⌝ }
 {
-    [0u16; 768]
+    [0u8; 96]
 }
 
 // All enabled choices into a lent list: how many; 12 if the room is too short, and nothing is written.
@@ -113,7 +157,7 @@ pub fn list(card: &[u8], m: Mind, plan: &[u8; 1024], out: &mut [u16]) -> Written
             count: 0,
         };
     };
-    write(&codes, n, out);
+    write(&codes, l, out);
     WrittenInPlace {
         answer: Answer::Done,
         count: n as u16,

@@ -88,7 +88,7 @@ module _ (l : Layout) (b : Bytes) (n : ℕ) (out : Bytes) where
   unfolding rowsFrom printTable
   table-rows = row-then Refusal.Rule (λ n. ltb n (l .nodes .count)) _ n
 
-  module _ (s d m : ℕ) (right : Right t s d m) (a : Answer) (so : a ≡ andThen (rowAnswer (leb d 32) Refusal.Nested) (rowAnswer (leb s 256) Refusal.Large)) where
+  module _ (s d m : ℕ) (right : Right 257 t s d m) (a : Answer) (so : a ≡ andThen (rowAnswer (leb d 32) Refusal.Nested) (rowAnswer (leb s 256) Refusal.Large)) where
     judged : a ≡ rowsFrom 1 (printTable l b) n
     judged =
         let e : leb d 32 ≡ leb (depthOf t) 32 = ap (λ d. leb d 32) (right .depth) ∙ capped-row (depthOf t) 32 in

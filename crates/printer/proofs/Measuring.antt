@@ -2,7 +2,7 @@
 use mathlib.Core.Path.{_≡_, sym, ap, _∙_}
 use mathlib.Core.Bool.{true}
 use mathlib.Core.List.{List}
-use Prim.Native.Nat.{ℕ, min, _+_, _*_, _≤_, _<_}
+use Prim.Native.Nat.{ℕ, min, _+_, _-_, _*_, _≤_, _<_}
 use native.Mathlib.Omega.{arith}
 use lib.ListN.{length, getD, set, replicate, length-set, length-replicate}
 use Rattle.meaning.specs.declared.Layout.{Layout}
@@ -14,7 +14,7 @@ use Rattle.sets.proofs.Loops.{below-turn}
 use Rattle.notation.specs.Built.{size}
 use Rattle.notation.specs.Printing.{textAs, depthAs, textOf, depthOf, treeOf, treeAt}
 use Rattle.printer.specs.Measures.{around, sizeBy, depthBy, lengthBy, Right, MeasuredTo}
-use Rattle.printer.proofs.Trees.{tree-at, depth-around, length-around, size-capped, depth-capped, length-capped}
+use Rattle.printer.proofs.Trees.{some-node, tree-at, depth-around, length-around, size-capped, depth-capped, length-capped}
 
 pub measured-none : (l : Layout) (b : Bytes) (sizes depths lengths : List ℕ) → sizes ≡ replicate 256 0 → depths ≡ replicate 256 0 → lengths ≡ replicate 256 0 → MeasuredTo l b sizes depths lengths 0
 measured-none l b sizes depths lengths e f g =
@@ -53,10 +53,10 @@ module _ (l : Layout) (b : Bytes) (good : nodesGood l b ≡ true) where
     here = rw so (sym (tree-at l b good i h))
 
     pub measured-here : (s d n : ℕ)
-        → s ≡ min (sizeBy (x .kind) (getD sizes (x .a) 0) (getD sizes (x .b) 0)) 257
+        → s ≡ min (sizeBy (x .kind) (getD sizes (x .a) 0 + 1) (getD sizes (x .b) 0 + 1)) 257
         → d ≡ min (depthBy (x .kind) (around p) (around q) (getD depths (x .a) 0) (getD depths (x .b) 0)) 33
         → n ≡ min (lengthBy (x .kind) (x .a) (around p) (around q) (getD lengths (x .a) 0) (getD lengths (x .b) 0)) 1025
-        → Right (treeAt l b i) s d n
+        → Right 257 (treeAt l b i) s d n
     measured-here s d n es ed en =
         let pa : 3 ≤ x .kind → (w : ℕ) → depthAs w (treeAt l b (x .a)) ≡ depthAs 0 (treeAt l b (x .a)) + around p w =
         λ t w. (let lt = first t in node-depth (x .a) (omega arith) w ∙ ap (λ (z : ℕ). depthAs 0 (treeAt l b (x .a)) + around z w) (sym (kp (omega arith)))) in
@@ -66,7 +66,7 @@ module _ (l : Layout) (b : Bytes) (good : nodesGood l b ≡ true) where
         λ t w. (let lt = first t in node-length (x .a) (omega arith) w ∙ ap (λ (z : ℕ). length (textAs 0 (treeAt l b (x .a))) + 2 * around z w) (sym (kp (omega arith)))) in
         let lb : 4 ≤ x .kind → (w : ℕ) → length (textAs w (treeAt l b (x .b))) ≡ length (textAs 0 (treeAt l b (x .b))) + 2 * around q w =
         λ t w. (let lt = second t in node-length (x .b) (omega arith) w ∙ ap (λ (z : ℕ). length (textAs 0 (treeAt l b (x .b))) + 2 * around z w) (sym (kq (omega arith)))) in
-        let gs = size-capped (x .a) (x .b) (treeAt l b) (getD sizes (x .a) 0) (getD sizes (x .b) 0) (x .kind) kinds
+        let gs = size-capped (x .a) (x .b) (treeAt l b) (getD sizes (x .a) 0 + 1) (getD sizes (x .b) 0 + 1) (x .kind) kinds
         (λ t. m .right (x .a) (first t) .size) (λ t. m .right (x .b) (second t) .size) in
         let gd = depth-capped (x .a) (x .b) (treeAt l b) (getD depths (x .a) 0) (getD depths (x .b) 0) (around p) (around q) (x .kind) kinds
         (λ t. m .right (x .a) (first t) .depth) (λ t. m .right (x .b) (second t) .depth) pa pb in
@@ -80,17 +80,23 @@ module _ (l : Layout) (b : Bytes) (good : nodesGood l b ≡ true) where
 
 -- a turn of the pass
 module _ (l : Layout) (b : Bytes) (sizes depths lengths : List ℕ) (i : ℕ) (m : MeasuredTo l b sizes depths lengths i) where
-  pub measured-turn : (s d n : ℕ) → i < 256 → Right (treeAt l b i) s d n → MeasuredTo l b (set sizes i s) (set depths i d) (set lengths i n) (i + 1)
-  measured-turn s d n k r =
+  pub measured-turn : (s o d n : ℕ) → i < 256 → Right 257 (treeAt l b i) s d n → o + 1 ≡ min s 256
+      → MeasuredTo l b (set sizes i o) (set depths i d) (set lengths i n) (i + 1)
+  measured-turn s o d n k r e =
       let rs = m .sizes-room in
       let rd = m .depths-room in
       let rn = m .lengths-room in
       record {
-        sizes-room = length-set sizes i s ∙ rs;
+        sizes-room = length-set sizes i o ∙ rs;
         depths-room = length-set depths i d ∙ rd;
         lengths-room = length-set lengths i n ∙ rn;
         right = λ j h. record {
-          size = below-turn (λ j. min (size (treeAt l b j)) 257) sizes i s 0 (omega arith) (λ j h. m .right j h .size) (r .size) j h;
+          size =
+              let at : getD (set sizes i o) j 0 ≡ min (size (treeAt l b j)) 256 - 1 =
+              below-turn (λ j. min (size (treeAt l b j)) 256 - 1) sizes i o 0 (omega arith)
+              (λ j h. let q = m .right j h .size in omega arith) (let q = r .size in omega arith) j h in
+              let p = some-node (treeAt l b j) in
+              omega arith;
           depth = below-turn (λ j. min (depthOf (treeAt l b j)) 33) depths i d 0 (omega arith) (λ j h. m .right j h .depth) (r .depth) j h;
           length = below-turn (λ j. min (length (textOf (treeAt l b j))) 1025) lengths i n 0 (omega arith) (λ j h. m .right j h .length) (r .length) j h;
         };

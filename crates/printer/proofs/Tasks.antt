@@ -12,24 +12,14 @@ use Rattle.meaning.specs.declared.Node.{Node}
 use Rattle.meaning.specs.Card.{Bytes, nodeAt}
 use Rattle.meaning.proofs.Nodes.{Rule, node-rule}
 use Rattle.card.specs.GoodCard.{GoodCard}
-use Rattle.notation.specs.Conditions.{Tree, believes, goal, and, or}
-use Rattle.notation.specs.Conditions as Conditions
+use Rattle.notation.specs.Conditions.{Tree}
 use Rattle.notation.specs.Built.{size}
 use Rattle.notation.specs.Printing.{decimal, bracketsIf, textAs, treeOf, treeAt, depthAs}
 use Rattle.notation.proofs.Decimals.{decimal-one, decimal-more}
 use Rattle.printer.specs.Measures.{pairs, lower}
 use Rattle.printer.proofs.Measures.{one-digit, more-digits, few-digits, some-digit}
 use Rattle.printer.specs.Tasks.{taskOf, textOfKind, taskText, workOfKind, work, GoodTask, texts, works, AllGood, none, more, Splits, nodeParts, numberParts, heightOfKind, height, heights}
-use Rattle.printer.proofs.Trees.{tree-at, depth-around}
-
-some-node : (t : Tree) → 1 ≤ size t
-unfolding size
-some-node Conditions.true = omega arith
-some-node (believes n) = omega arith
-some-node (goal n) = omega arith
-some-node (Conditions.not t) = omega arith
-some-node (and l r) = omega arith
-some-node (or l r) = omega arith
+use Rattle.printer.proofs.Trees.{some-node, tree-at, depth-around}
 
 -- ---- one task
 

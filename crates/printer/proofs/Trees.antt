@@ -11,13 +11,22 @@ use Rattle.meaning.specs.Card.{Bytes, nodeAt}
 use Rattle.meaning.specs.Refusals.{nodesGood}
 use Rattle.meaning.proofs.Nodes.{made-of}
 use Rattle.notation.specs.Words.{word}
-use Rattle.notation.specs.Conditions.{Tree, and, or}
+use Rattle.notation.specs.Conditions.{Tree, believes, goal, and, or}
 use Rattle.notation.specs.Conditions as Conditions
 use Rattle.notation.specs.Built.{size}
 use Rattle.notation.specs.Printing.{bracketsIf, textAs, deeperIf, depthAs, treeOf, trees, treeAt}
 use Rattle.printer.specs.Measures.{pairs, around, sizeBy, depthBy, lengthBy}
 
 -- ---- the tree of a node
+
+pub some-node : (t : Tree) → 1 ≤ size t
+unfolding size
+some-node Conditions.true = omega arith
+some-node (believes n) = omega arith
+some-node (goal n) = omega arith
+some-node (Conditions.not t) = omega arith
+some-node (and l r) = omega arith
+some-node (or l r) = omega arith
 
 tree-children : (k a b : ℕ) (q q′ : ℕ → Tree) → (3 ≤ k → q a ≡ q′ a) → (4 ≤ k → q b ≡ q′ b) → treeOf k a b q ≡ treeOf k a b q′
 tree-children zero a b q q′ f s = refl
@@ -67,7 +76,7 @@ module _ (a b : ℕ) (q : ℕ → Tree) (w : ℕ) where
 -- ---- the measures of a node, by those of its children: the cap of a sum of capped numbers is the cap of the sum
 
 module _ (a b : ℕ) (q : ℕ → Tree) (m n : ℕ) where
-  pub size-capped : (k : ℕ) → k ≤ 5 → (3 ≤ k → m ≡ min (size (q a)) 257) → (4 ≤ k → n ≡ min (size (q b)) 257) → min (sizeBy k m n) 257 ≡ min (size (treeOf k a b q)) 257
+  pub size-capped : (k : ℕ) → k ≤ 5 → (3 ≤ k → m ≡ min (size (q a)) 256) → (4 ≤ k → n ≡ min (size (q b)) 256) → min (sizeBy k m n) 257 ≡ min (size (treeOf k a b q)) 257
   unfolding size
   size-capped zero h f s = refl
   size-capped (suc zero) h f s = refl

@@ -58,14 +58,15 @@ abbrev pub around : ℕ → ℕ → ℕ
 around kind wanted = pairs (lower wanted kind)
 
 -- The measures of a tree's text, each up to a cap: 257 nodes and 33 deep are too many, and no text of 256 nodes has 1,025 bytes.
-pub record Right (t : Tree) (s d n : ℕ) : Type 0 where
-  pub size : s ≡ min (size t) 257
+pub record Right (most : ℕ) (t : Tree) (s d n : ℕ) : Type 0 where
+  pub size : s ≡ min (size t) most
   pub depth : d ≡ min (depthOf t) 33
   pub length : n ≡ min (length (textOf t)) 1025
 
--- The nodes below i are measured, in three arrays.
+-- The nodes below i are measured, in three arrays. Of its size each has what is beside its own, at most 255: whatever holds a text
+-- of 256 nodes has too many.
 pub record MeasuredTo (l : Layout) (b : Bytes) (sizes depths lengths : List ℕ) (i : ℕ) : Type 0 where
   pub sizes-room : length sizes ≡ 256
   pub depths-room : length depths ≡ 256
   pub lengths-room : length lengths ≡ 256
-  pub right : (j : ℕ) → j < i → Right (treeAt l b j) (getD sizes j 0) (getD depths j 0) (getD lengths j 0)
+  pub right : (j : ℕ) → j < i → Right 256 (treeAt l b j) (getD sizes j 0 + 1) (getD depths j 0) (getD lengths j 0)

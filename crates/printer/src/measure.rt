@@ -1,7 +1,7 @@
 // How large a node's text is: numbers made node by node from the lowest up and capped, for 256 nodes can stand for 2^256 - 1
 // printed ones.
 ghost use mathlib.Core.Path.{_≡_};
-ghost use Prim.Native.Nat.{_≤_, _<_, min, max};
+ghost use Prim.Native.Nat.{_+_, _≤_, _<_, min, max};
 ghost use lib.ListN.{length, replicate};
 ghost use Rattle.meaning.specs.Card.{nodeAt};
 ghost use Rattle.layout.specs.GoodLayout.{GoodLayout};
@@ -56,17 +56,25 @@ fn digits(n: u8) -> usize
     }
 }
 
-// The nodes of a node's text, by those of its children: at most 257, which is too many.
-fn size_by(kind: u8, a: u16, b: u16) -> u16
-    ensures { λ r. ⌜ r ≡ min (sizeBy kind a b) 257 ⌝ }
+// The nodes of a node's text, by how many its children's have beside their own: at most 257, which is too many.
+fn size_by(kind: u8, a: u8, b: u8) -> u16
+    ensures { λ r. ⌜ r ≡ min (sizeBy kind (a + 1) (b + 1)) 257 ⌝ }
 {
     if kind < 3 {
         1
     } else if kind == 3 {
-        capped((a as usize) + 1, 257) as u16
+        capped((a as usize) + 2, 257) as u16
     } else {
-        capped((a as usize) + (b as usize) + 1, 257) as u16
+        capped((a as usize) + (b as usize) + 3, 257) as u16
     }
+}
+
+// How many nodes a text has beside its own: at most 255, with which the text around it has too many.
+fn beside_own(size: u16) -> u8
+    requires { ⌜ 1 ≤ size ⌝ }
+    ensures { λ r. ⌜ r + 1 ≡ min size 256 ⌝ }
+{
+    (capped(size as usize, 256) - 1) as u8
 }
 
 // The greater of two numbers.
@@ -128,15 +136,15 @@ fn kind_of(card: &[u8], l: Layout, i: u8) -> u8
     }
 }
 
-// No size and no length is known.
-fn no_numbers() -> [u16; 256]
+// No length is known.
+fn no_lengths() -> [u16; 256]
     ensures { λ r. ⌜ r ≡ replicate 256 0 ⌝ }
 {
     [0u16; 256]
 }
 
-// No depth is known.
-fn no_depths() -> [u8; 256]
+// No size and no depth is known.
+fn no_numbers() -> [u8; 256]
     ensures { λ r. ⌜ r ≡ replicate 256 0 ⌝ }
 {
     [0u8; 256]
@@ -146,13 +154,13 @@ fn no_depths() -> [u8; 256]
 fn measure_node(
     card: &[u8],
     l: Layout,
-    sizes: &[u16; 256],
+    sizes: &[u8; 256],
     depths: &[u8; 256],
     lengths: &[u16; 256],
     i: usize,
 ) -> Measured
     requires { ⌜ GoodCard l (now card) × (i < l .nodes .count) × MeasuredTo l (now card) (now sizes) (now depths) (now lengths) i ⌝ }
-    ensures { λ r. ⌜ Right (treeAt l (now (card .entry)) i) (r .size) (r .depth) (r .length) ⌝ }
+    ensures { λ r. ⌜ Right 257 (treeAt l (now (card .entry)) i) (r .size) (r .depth) (r .length) ⌝ }
 {
     let x = read_node(card, l, i);
     let a = x.a as usize;
@@ -169,15 +177,15 @@ fn measure_node(
 // A node's text measured, in one pass over the nodes up to it.
 pub fn measure(card: &[u8], l: Layout, node: usize) -> Measured
     requires { ⌜ GoodCard l (now card) × (node < l .nodes .count) ⌝ }
-    ensures { λ r. ⌜ Right (treeAt l (now (card .entry)) node) (r .size) (r .depth) (r .length) ⌝ }
+    ensures { λ r. ⌜ Right 257 (treeAt l (now (card .entry)) node) (r .size) (r .depth) (r .length) ⌝ }
 {
     let mut sizes = no_numbers();
-    let mut depths = no_depths();
-    let mut lengths = no_numbers();
+    let mut depths = no_numbers();
+    let mut lengths = no_lengths();
     let mut i: usize = 0;
     while i < node {
         let m = measure_node(card, l, &sizes, &depths, &lengths, i);
-        sizes[i] = m.size;
+        sizes[i] = beside_own(m.size);
         depths[i] = m.depth;
         lengths[i] = m.length;
         i += 1;

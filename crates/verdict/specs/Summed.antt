@@ -7,6 +7,6 @@ use Rattle.runs.specs.Weight.{weigh}
 use Rattle.meaning.specs.declared.Layout.{Layout}
 use Rattle.meaning.specs.Card.{Bytes, part, weight}
 
--- Entry k is the weight of the pool's first 16·k actions, for each k with 16·k at most the pool's count.
+-- Entry k is the weight of the pool's first 32·k actions, for each k with 32·k at most the pool's count.
 abbrev pub Summed : Layout → Bytes → List ℕ → Type 0
-Summed l b sums = (k : ℕ) → 16 * k ≤ l .pool .count → getD sums k 0 ≡ weigh (weight b) (part b (l .pool .offset) (16 * k))
+Summed l b sums = (k : ℕ) → 32 * k ≤ l .pool .count → getD sums k 0 ≡ weigh (weight b) (part b (l .pool .offset) (32 * k))

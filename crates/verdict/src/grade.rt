@@ -5,27 +5,27 @@ ghost use lib.Dec.{leb, ltb};
 ghost use Rattle.runs.specs.Limits.{heaviestPlan};
 ghost use Rattle.runs.specs.Weight.{verdict};
 ghost use Rattle.meaning.specs.Card.{selectionAt, revisionAt, weight, agent, initialPlan};
+ghost use Rattle.meaning.specs.Configurations.{empty};
 ghost use Rattle.meaning.specs.Calls.{grades};
 ghost use Rattle.card.specs.GoodCard.{GoodCard};
 ghost use Rattle.verdict.specs.Summed.{Summed};
-ghost use Rattle.verdict.specs.Verdicts.{planWeight, revisionsVerdict, selectionsVerdict};
+ghost use Rattle.verdict.specs.Verdicts.{planWeight, revisionsVerdict, selectionsVerdict, gradedWith};
+use crate::sums::no_sums;
 use crate::sums::plan_weight;
-use crate::sums::sums_of;
+use crate::sums::sum;
 use card::check::answer_of;
 use card::check::check;
-use card::configuration::empty_configuration;
 use layout::entries::read_revision;
 use layout::entries::read_selection;
 use layout::limits::heaviest_plan;
 use meaning::Answer;
 use meaning::Checked;
-use meaning::Graded;
 use meaning::Layout;
 use runs::Offender;
 use runs::Verdict;
 
 // Whether selection rule i's plan weighs at most 1,024.
-fn selection_light(card: &[u8], l: Layout, sums: &[u32; 513], i: usize) -> bool
+fn selection_light(card: &[u8], l: Layout, sums: &[u32; 257], i: usize) -> bool
     requires { ⌜ GoodCard l (now card) × Summed l (now card) (now sums) × (i < l .selections .count) ⌝ }
     ensures { λ r. ⌜ r ≡ leb (planWeight l (now (card .entry)) (selectionAt l (now (card .entry)) i .plan)) heaviestPlan ⌝ }
 {
@@ -34,7 +34,7 @@ fn selection_light(card: &[u8], l: Layout, sums: &[u32; 513], i: usize) -> bool
 }
 
 // Whether revision rule i's body weighs less than its head.
-fn revision_lowers(card: &[u8], l: Layout, sums: &[u32; 513], i: usize) -> bool
+fn revision_lowers(card: &[u8], l: Layout, sums: &[u32; 257], i: usize) -> bool
     requires { ⌜ GoodCard l (now card) × Summed l (now card) (now sums) × (i < l .revisions .count) ⌝ }
     ensures { λ r. ⌜ r ≡ ltb (planWeight l (now (card .entry)) (revisionAt l (now (card .entry)) i .body))
         (planWeight l (now (card .entry)) (revisionAt l (now (card .entry)) i .head)) ⌝ }
@@ -46,7 +46,7 @@ fn revision_lowers(card: &[u8], l: Layout, sums: &[u32; 513], i: usize) -> bool
 }
 
 // The first revision rule that does not lower the weight.
-fn from_revisions(card: &[u8], l: Layout, sums: &[u32; 513]) -> Verdict
+fn from_revisions(card: &[u8], l: Layout, sums: &[u32; 257]) -> Verdict
     requires { ⌜ GoodCard l (now card) × Summed l (now card) (now sums) ⌝ }
     ensures { λ r. ⌜ r ≡ revisionsVerdict l (now (card .entry)) ⌝ }
 {
@@ -63,7 +63,7 @@ fn from_revisions(card: &[u8], l: Layout, sums: &[u32; 513]) -> Verdict
 }
 
 // The first selection rule whose plan is too heavy; then the revision rules.
-fn from_selections(card: &[u8], l: Layout, sums: &[u32; 513]) -> Verdict
+fn from_selections(card: &[u8], l: Layout, sums: &[u32; 257]) -> Verdict
     requires { ⌜ GoodCard l (now card) × Summed l (now card) (now sums) ⌝ }
     ensures { λ r. ⌜ r ≡ selectionsVerdict l (now (card .entry)) ⌝ }
 {
@@ -79,8 +79,8 @@ fn from_selections(card: &[u8], l: Layout, sums: &[u32; 513]) -> Verdict
     from_revisions(card, l, sums)
 }
 
-// The verdict on an accepted card.
-fn from_initial(card: &[u8], l: Layout, sums: &[u32; 513]) -> Verdict
+// The initial plan, if it is too heavy; then the selection rules.
+fn from_initial(card: &[u8], l: Layout, sums: &[u32; 257]) -> Verdict
     requires { ⌜ GoodCard l (now card) × Summed l (now card) (now sums) ⌝ }
     ensures { λ r. ⌜ r ≡ verdict (weight (now (card .entry))) (agent (now (card .entry))) (initialPlan (now (card .entry))) ⌝ }
 {
@@ -92,24 +92,28 @@ fn from_initial(card: &[u8], l: Layout, sums: &[u32; 513]) -> Verdict
     }
 }
 
+// Of `Graded`: all but the configuration, which is the empty one.
+pub struct GradedInPlace {
+    pub answer: Answer,
+    pub verdict: Verdict,
+}
+
 // The verdict on a card. A refused card is never called bounded.
-pub fn grade(card: &[u8]) -> Graded
-    ensures { λ r. ⌜ r ≡ grades (now (card .entry)) ⌝ }
+pub fn grade(card: &[u8]) -> GradedInPlace
+    ensures { λ r. ⌜ gradedWith r empty ≡ grades (now (card .entry)) ⌝ }
 {
-    let none = empty_configuration();
     let v = check(card);
     let Checked::Good(l) = v else {
-        return Graded {
+        return GradedInPlace {
             answer: answer_of(v),
             verdict: Verdict::Open(Offender::InitialPlan),
-            configuration: none,
         };
     };
-    let sums = sums_of(card, l);
+    let mut sums = no_sums();
+    sum(card, l, &mut sums);
     let verdict = from_initial(card, l, &sums);
-    Graded {
+    GradedInPlace {
         answer: Answer::Done,
         verdict: verdict,
-        configuration: none,
     }
 }

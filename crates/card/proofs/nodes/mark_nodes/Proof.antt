@@ -1,9 +1,9 @@
 use Rattle.meaning.proofs.Nodes.{node-rule}
-use Rattle.card.proofs.Laws.{MarkedTo, marked-start, marked-turn, marked-all}
+use Rattle.card.proofs.Laws.{tells-mark, MarkedTo, marked-start, marked-turn, marked-all}
+use Rattle.card.specs.Marks.{tells, markOf}
+use Rattle.meaning.specs.Card.{nodeAt}
 use Rattle.meaning.specs.declared.Node.{Node}
-use Rattle.meaning.specs.Refusals.{containsOf}
-use mathlib.Core.Bool.{false}
-use mathlib.Core.Path.{subst, _≡_, ap, _∙_}
+use mathlib.Core.Path.{subst, _≡_, refl, ap, _∙_}
 use Prim.Native.Nat.{_-_, _≤_, _<_}
 use native.Mathlib.Omega.{arith}
 use borrow.Author.Needs.{needs}
@@ -13,38 +13,37 @@ use Rattle.card.proofs.nodes.mark_nodes.Statement.{statement}
 use Rattle.card.proofs.nodes.mark_nodes.Tie as tie
 
 abbrev Inv-loop : tie.InvT-loop
-Inv-loop card l with-belief₀ with-goal₀ n i₀ with-belief with-goal i = (i ≤ n) × MarkedTo 1 l card with-belief i × MarkedTo 2 l card with-goal i
+Inv-loop card l marks₀ n i₀ marks i = (i ≤ n) × MarkedTo 1 l card marks i × MarkedTo 2 l card marks i
 
 abbrev μ-loop : tie.MeasureT-loop
-μ-loop card l with-belief₀ with-goal₀ n i₀ with-belief with-goal i = n - i
+μ-loop card l marks₀ n i₀ marks i = n - i
 
 loop-holds : tie.Need-loop-holds Inv-loop μ-loop
 loop-holds c =
     let a = c .before .before .args in
-    let p = c .before .before .pre .1 in
-    let b = now (a .card) in
-    (omega arith, marked-start 1 (a .l) b _ (p .0), marked-start 2 (a .l) b _ (p .1))
+    let e = c .before .before .pre .2 in
+    (omega arith, marked-start 1 (a .l) (now (a .card)) _ refl e, marked-start 2 (a .l) (now (a .card)) _ refl e)
 
 read-node-requires : tie.Need-read-node-requires Inv-loop μ-loop
 read-node-requires c κs = search needs
 
-contains-requires : tie.Need-contains-requires Inv-loop μ-loop
-contains-requires c κs =
-    let a = c .before .before .before .before .before .before .args in
-    let r = node-rule (a .l) (now (a .card)) (c .before .before .before .before .before .before .pre .0 .1) (c .before .before .before .loop .i) (omega arith) in
-    rw (c .before .read-node .ensures) (r .kinds)
+cast-first : tie.Need-cast-first Inv-loop μ-loop
+cast-first c = search needs
 
-contains-requires-2 : tie.Need-contains-requires-2 Inv-loop μ-loop
-contains-requires-2 c κs =
-    let a = c .before .before .before .before .before .before .before .before .args in
-    let r = node-rule (a .l) (now (a .card)) (c .before .before .before .before .before .before .before .before .pre .0 .1) (c .before .before .before .before .before .loop .i) (omega arith) in
-    rw (c .before .before .before .read-node .ensures) (r .kinds)
+element-copy-out-first : tie.Need-element-copy-out-first Inv-loop μ-loop
+element-copy-out-first c = search needs
 
-element-write-with-belief : tie.Need-element-write-with-belief Inv-loop μ-loop
-element-write-with-belief c = search needs
+cast-second : tie.Need-cast-second Inv-loop μ-loop
+cast-second c = search needs
 
-element-write-with-goal : tie.Need-element-write-with-goal Inv-loop μ-loop
-element-write-with-goal c = search needs
+element-copy-out-second : tie.Need-element-copy-out-second Inv-loop μ-loop
+element-copy-out-second c = search needs
+
+mark-of-requires : tie.Need-mark-of-requires Inv-loop μ-loop
+mark-of-requires c κs = search needs
+
+element-write-marks : tie.Need-element-write-marks Inv-loop μ-loop
+element-write-marks c = search needs
 
 add-i : tie.Need-add-i Inv-loop μ-loop
 add-i c = search needs
@@ -54,16 +53,16 @@ loop-less c = search needs
 
 loop-again : tie.Need-loop-again Inv-loop μ-loop
 loop-again c =
-    let a = c .before .before .before .before .before .before .before .before .before .args in
-    let l = c .before .before .before .before .before .before .loop in
+    let a = c .before .before .before .before .before .before .before .before .before .before .args in
+    let l = c .before .before .before .before .before .before .before .loop in
     let b = now (a .card) in
-    let good = c .before .before .before .before .before .before .before .before .before .pre .0 .1 in
+    let good = c .before .before .before .before .before .before .before .before .before .before .pre .1 in
     let k : l .i < a .l .nodes .count = omega arith in
     let m : l .i < 256 = omega arith in
-    let x = c .before .before .before .before .read-node .ensures in
-    let e1 = c .before .before .contains .ensures ∙ ap (λ (n : Node). containsOf 1 (n .kind) (n .a) (n .b) (λ j. getD (l .with-belief) j false)) x in
-    let e2 = c .contains2 .ensures ∙ ap (λ (n : Node). containsOf 2 (n .kind) (n .a) (n .b) (λ j. getD (l .with-goal) j false)) x in
-    (omega arith, marked-turn 1 (a .l) b good (l .with-belief) (l .i) _ k m e1 (l .inv .1), marked-turn 2 (a .l) b good (l .with-goal) (l .i) _ k m e2 (l .inv .2))
+    let x = nodeAt (a .l) b (l .i) in
+    let e = c .mark-of .ensures ∙ ap (λ (n : Node). markOf (n .kind) (getD (l .marks) (n .a) 0) (getD (l .marks) (n .b) 0)) (c .before .before .before .before .before .read-node .ensures) in
+    let t = tells-mark (x .kind) (node-rule (a .l) b good (l .i) k .kinds) (x .a) (x .b) (λ j. getD (l .marks) j 0) in
+    (omega arith, marked-turn 1 (a .l) b good (l .marks) (l .i) _ k m (ap (tells 1) e ∙ t .0) (l .inv .1), marked-turn 2 (a .l) b good (l .marks) (l .i) _ k m (ap (tells 2) e ∙ t .1) (l .inv .2))
 
 returns : tie.Need-returns Inv-loop μ-loop
 returns c =
@@ -71,7 +70,7 @@ returns c =
     let l = c .before .loop in
     let b = now (a .card) in
     let e : l .i ≡ a .l .nodes .count = omega arith in
-    (marked-all 1 (a .l) b (l .with-belief) (subst (MarkedTo 1 (a .l) b (l .with-belief)) e (l .inv .1)), marked-all 2 (a .l) b (l .with-goal) (subst (MarkedTo 2 (a .l) b (l .with-goal)) e (l .inv .2)))
+    (marked-all 1 (a .l) b (l .marks) (subst (MarkedTo 1 (a .l) b (l .marks)) e (l .inv .1)), marked-all 2 (a .l) b (l .marks) (subst (MarkedTo 2 (a .l) b (l .marks)) e (l .inv .2)))
 
 pub mark-nodes-spec : {M : Type 1} → statement M
 mark-nodes-spec =
@@ -81,10 +80,12 @@ mark-nodes-spec =
     μ-loop
     loop-holds
     read-node-requires
-    contains-requires
-    contains-requires-2
-    element-write-with-belief
-    element-write-with-goal
+    cast-first
+    element-copy-out-first
+    cast-second
+    element-copy-out-second
+    mark-of-requires
+    element-write-marks
     add-i
     loop-less
     loop-again

@@ -9,10 +9,10 @@ use Rattle.card.proofs.rules.entries_good.Statement.{statement}
 use Rattle.card.proofs.rules.entries_good.Tie as tie
 
 abbrev Inv-loop : tie.InvT-loop
-Inv-loop card l with-belief with-goal kind n good₀ i₀ good i = (i ≤ n) × Kept (entryGood l card kind) (countOf l kind) good i
+Inv-loop card l marks kind n good₀ i₀ good i = (i ≤ n) × Kept (entryGood l card kind) (countOf l kind) good i
 
 abbrev μ-loop : tie.MeasureT-loop
-μ-loop card l with-belief with-goal kind n good₀ i₀ good i = n - i
+μ-loop card l marks kind n good₀ i₀ good i = n - i
 
 count-of-requires : tie.Need-count-of-requires Inv-loop μ-loop
 count-of-requires c κs = search needs

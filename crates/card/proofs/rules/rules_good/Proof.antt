@@ -6,9 +6,6 @@ use Rattle.card.proofs.rules.rules_good.Tie as tie
 all-marks-requires : tie.Need-all-marks-requires
 all-marks-requires c κs = search needs
 
-all-marks-requires-2 : tie.Need-all-marks-requires-2
-all-marks-requires-2 c κs = search needs
-
 mark-nodes-requires : tie.Need-mark-nodes-requires
 mark-nodes-requires c κs = search needs
 
@@ -26,14 +23,13 @@ span-good-requires c κs = search needs
 
 returns : tie.Need-returns
 unfolding rulesGood
-returns c = rw (c .before .before .before .before .before .before .before .entries-good .ensures, c .before .before .before .before .entries-good2 .ensures, c .before .entries-good3 .ensures, c .span-good .ensures)
+returns c = rw (c .before .before .before .before .before .entries-good .ensures, c .before .before .before .entries-good2 .ensures, c .before .entries-good3 .ensures, c .span-good .ensures)
 
 pub rules-good-spec : {M : Type 1} → statement M
 rules-good-spec =
     tie.close
     (tie.spec
     all-marks-requires
-    all-marks-requires-2
     mark-nodes-requires
     entries-good-requires
     entries-good-requires-2

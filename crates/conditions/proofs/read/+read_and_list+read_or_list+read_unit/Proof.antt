@@ -1,9 +1,9 @@
 -- The proof of the cycle of calls {read_and_list, read_or_list, read_unit}. A unit is below an and-list and this below an
--- or-list, and what `!` and brackets lead to has one less left. The loops' invariant is that a list is read as far as the place,
--- with its nodes (`Listed`).
+-- or-list, and what `!` and brackets lead to has one less left. The loops' invariant is that a list is read up to its next
+-- member, which stands at the place (`Before`).
 use Rattle.conditions.proofs.Told.{Told, told-at, told-nested, nested-told}
 use Rattle.conditions.proofs.Units.{unit-over, unit-deep, not-nested, read-not, brackets-nested, read-brackets}
-use Rattle.conditions.proofs.Lists.{Listed, andKind, orKind, and-joins, or-joins, list-starts, list-on, list-over, list-stop, list-nested, first-nested}
+use Rattle.conditions.proofs.Lists.{Before, Behind, andKind, orKind, list-starts, list-joined, list-nested, list-on, list-stops, begins-within}
 use Rattle.notation.proofs.Values.{unitOf, andListOf, orListOf}
 use mathlib.Core.Path.{refl, sym, _∙_}
 use Prim.Native.Nat.{ℕ, _+_, _-_, _*_, _<_}
@@ -22,9 +22,10 @@ use Rattle.conditions.proofs.read.+read_and_list+read_or_list+read_unit
 use Rattle.conditions.proofs.read.read_unit.Reads as read-unit
 use Rattle.conditions.proofs.read.read_unit.Kinds as read-unit-kinds
 use Rattle.conditions.proofs.read.+read_and_list+read_or_list+read_unit.Lts-read_unit as read-unit-lts
+use Rattle.conditions.proofs.nodes.joined.Reads as joined-reads
 use Rattle.conditions.proofs.nodes.put_not.Reads as put-not-reads
-use Rattle.conditions.proofs.nodes.put_operator.Reads as put-operator-reads
 use Rattle.conditions.proofs.read.behind_byte.Reads as behind-byte-reads
+use Rattle.conditions.proofs.read.comes.Reads as comes-reads
 use Rattle.conditions.proofs.read.is_leaf.Reads as is-leaf-reads
 use Rattle.conditions.proofs.read.read_leaf.Reads as read-leaf-reads
 use Rattle.conditions.proofs.read.+read_and_list+read_or_list+read_unit.{statement}
@@ -88,234 +89,164 @@ unit-calls t = (
 )
 
 abbrev and-calls : ℕ → read-and-list-lts.Claims
-and-calls t = (read-unit-below t, read-unit.Post, put-operator-reads.Asked, put-operator-reads.Learnt)
+and-calls t = (read-unit-below t, read-unit.Post, joined-reads.Asked, joined-reads.Learnt, comes-reads.Asked, comes-reads.Learnt)
 
 abbrev or-calls : ℕ → read-or-list-lts.Claims
-or-calls t = (read-and-list-below t, read-and-list.Post, put-operator-reads.Asked, put-operator-reads.Learnt)
+or-calls t = (read-and-list-below t, read-and-list.Post, joined-reads.Asked, joined-reads.Learnt, comes-reads.Asked, comes-reads.Learnt)
 
 abbrev read-and-list-Inv-loop : read-and-list-lts.InvT-loop
-read-and-list-Inv-loop text at left nodes₀ k n m place₀ count₀ nodes place count = Listed (andKind left) text place₀ count₀ nodes₀ place count nodes
+read-and-list-Inv-loop text at left nodes₀ k place₀ count₀ first₀ nodes place count first = Before (andKind left) text at k nodes₀ first place count nodes
 
 abbrev read-and-list-μ-loop : read-and-list-lts.MeasureT-loop
-read-and-list-μ-loop text at left nodes₀ k n m place₀ count₀ nodes place count = length text - place
+read-and-list-μ-loop text at left nodes₀ k place₀ count₀ first₀ nodes place count first = length text - place
 
-read-and-list-first-told : (t : ℕ) → (c : read-and-list-lts.After-known-told (and-calls t) (read-and-list-at t) read-and-list.Post read-and-list-Inv-loop read-and-list-μ-loop)
-    → (let a = c .before .before .before .before .before .before .before .before .before .args in Told (now (a .text)) (a .at) (now (a .nodes)) (a .k) (unitOf (a .left) (drop (a .at) (now (a .text)))) (c .before .first .given .0 .0) (c .before .first .given .0 .1 .0) (c .before .before .before .before .before .read-unit .last .1 .1 .1 .0))
-read-and-list-first-told t c =
-    told-at _ _ _ _ _ _ _ _ _ (c .before .first .given .1) (c .before .before .before .before .before .read-unit .ensures)
+read-and-list-told : (t : ℕ) → (c : read-and-list-lts.After-known-told (and-calls t) (read-and-list-at t) read-and-list.Post read-and-list-Inv-loop read-and-list-μ-loop)
+    → (let a = c .before .before .before .before .before .before .before .before .before .before .args in let s = c .before .before .before .before .before .before .before .loop in Told (now (a .text)) (s .place) (s .nodes) (s .count) (unitOf (a .left) (drop (s .place) (now (a .text)))) (c .before .next .given .0 .0) (c .before .next .given .0 .1 .0) (c .before .before .before .before .before .read-unit .last .1 .1 .1 .0))
+read-and-list-told t c = told-at _ _ _ _ _ _ _ _ _ (c .before .next .given .1) (c .before .before .before .before .before .read-unit .ensures)
 
-read-and-list-next-told : (t : ℕ) → (c : read-and-list-lts.After-known-told2 (and-calls t) (read-and-list-at t) read-and-list.Post read-and-list-Inv-loop read-and-list-μ-loop)
-    → (let a = c .before .before .before .before .before .before .before .before .before .before .before .before .before .before .before .before .before .before .before .before .args in Told (now (a .text)) (c .before .before .before .before .before .before .before .before .before .before .loop .place + 1) (c .before .before .before .before .before .before .before .before .before .before .loop .nodes) (c .before .before .before .before .before .before .before .before .before .before .loop .count) (unitOf (a .left) (drop (c .before .before .before .before .before .before .before .before .before .before .loop .place + 1) (now (a .text)))) (c .before .next .given .0 .0) (c .before .next .given .0 .1 .0) (c .before .before .before .before .before .read-unit2 .last .1 .1 .1 .0))
-read-and-list-next-told t c =
-    told-at _ _ _ _ _ _ _ _ _ (c .before .next .given .1) (c .before .before .before .before .before .read-unit2 .ensures)
+read-and-list-behind : (t : ℕ) → (c : read-and-list-lts.After-slice-known3 (and-calls t) (read-and-list-at t) read-and-list.Post read-and-list-Inv-loop read-and-list-μ-loop)
+    → (let a = c .before .before .before .before .before .before .before .before .before .before .before .before .before .before .args in Behind (andKind (a .left)) (now (a .text)) (a .at) (a .k) (now (a .nodes)) (c .before .before .before .before .before .next .given .0 .0) (c .before .before .joined .result) (c .before .before .joined .last .0))
+read-and-list-behind t c =
+    let put = c .before .before .joined .ensures in
+    list-joined _ _ _ _ _ _ _ _ _ (c .before .before .before .before .before .before .before .before .before .before .before .loop .inv) _ _ _ _ _ (read-and-list-told t (c .before .before .before .before)) (put .0) (put .1 .0) (put .1 .1)
+
+read-and-list-loop-holds : (t : ℕ) → read-and-list-lts.Need-loop-holds (and-calls t) (read-and-list-at t) read-and-list.Post read-and-list-Inv-loop read-and-list-μ-loop
+read-and-list-loop-holds t c =
+    let p = c .before .before .pre .1 in
+    list-starts _ _ _ _ _ (p .0) (p .1 .1) (p .1 .0)
 
 read-and-list-read-unit-requires : (t : ℕ) → read-and-list-lts.Need-read-unit-requires (and-calls t) (read-and-list-at t) read-and-list.Post read-and-list-Inv-loop read-and-list-μ-loop
 read-and-list-read-unit-requires t c κs =
-    let p = c .before .before .before .pre .1 in
-    let z = c .before .before .before .pre .0 in
-    (omega arith, (p .0, p .1))
+    let z = c .before .before .before .before .pre .0 in
+    let b = c .before .loop .inv in
+    (omega arith, (b .within, (b .room, b .small)))
 
-read-and-list-enum-known-first : (t : ℕ) → read-and-list-lts.Need-enum-known-first (and-calls t) (read-and-list-at t) read-and-list.Post read-and-list-Inv-loop read-and-list-μ-loop
-read-and-list-enum-known-first t c = search needs
+read-and-list-enum-known-next : (t : ℕ) → read-and-list-lts.Need-enum-known-next (and-calls t) (read-and-list-at t) read-and-list.Post read-and-list-Inv-loop read-and-list-μ-loop
+read-and-list-enum-known-next t c = search needs
 
 read-and-list-enum-told : (t : ℕ) → read-and-list-lts.Need-enum-told (and-calls t) (read-and-list-at t) read-and-list.Post read-and-list-Inv-loop read-and-list-μ-loop
 read-and-list-enum-told t c = search needs
 
 read-and-list-same-length : (t : ℕ) → read-and-list-lts.Need-same-length (and-calls t) (read-and-list-at t) read-and-list.Post read-and-list-Inv-loop read-and-list-μ-loop
-read-and-list-same-length t c = c .before .before .before .before .read-unit .kept .1 .1 .1 .0
+read-and-list-same-length t c = c .before .before .before .before .read-unit .kept .1 .1 .1 .0 ∙ (c .before .before .before .before .before .before .loop .inv .room ∙ sym (c .before .before .before .before .before .before .before .before .before .pre .1 .1 .0))
 
 read-and-list-returns : (t : ℕ) → read-and-list-lts.Need-returns (and-calls t) (read-and-list-at t) read-and-list.Post read-and-list-Inv-loop read-and-list-μ-loop
 read-and-list-returns t c =
-    let a = c .before .before .before .before .before .before .before .before .args in
-    let r = told-nested (now (a .text)) (a .at) (now (a .nodes)) (a .k) (c .before .before .before .before .read-unit .last .1 .1 .1 .0) (unitOf (a .left) (drop (a .at) (now (a .text)))) (c .before .before .before .before .read-unit .result) (c .enum-told .given .1) (c .before .before .before .before .read-unit .ensures) in
-    first-nested (andKind (a .left)) (now (a .text)) (a .at) (a .k) (now (a .nodes)) (c .before .before .before .before .read-unit .last .1 .1 .1 .0) (r .0) (r .1)
+    let a = c .before .before .before .before .before .before .before .before .before .args in
+    let s = c .before .before .before .before .before .before .loop in
+    let r = told-nested (now (a .text)) (s .place) (s .nodes) (s .count) (c .before .before .before .before .read-unit .last .1 .1 .1 .0) (unitOf (a .left) (drop (s .place) (now (a .text)))) (c .before .before .before .before .read-unit .result) (c .enum-told .given .1) (c .before .before .before .before .read-unit .ensures) in
+    list-nested _ _ _ _ _ _ _ _ _ (s .inv) (c .before .before .before .before .before .before .before .before .before .pre .1 .1 .0) (c .before .before .before .before .read-unit .last .1 .1 .1 .0) (r .0) (r .1)
 
-read-and-list-loop-holds : (t : ℕ) → read-and-list-lts.Need-loop-holds (and-calls t) (read-and-list-at t) read-and-list.Post read-and-list-Inv-loop read-and-list-μ-loop
-read-and-list-loop-holds t c =
-    let r = read-and-list-first-told t c in
-    list-starts (andKind (c .before .before .before .before .before .before .before .before .before .args .left)) (now (c .before .before .before .before .before .before .before .before .before .args .text)) (c .before .first .given .0 .0) (c .before .first .given .0 .1 .0) (c .before .before .before .before .before .read-unit .last .1 .1 .1 .0) (r .within) (r .small) (r .room ∙ c .before .before .before .before .before .before .before .before .before .pre .1 .1 .0)
+read-and-list-joined-requires : (t : ℕ) → read-and-list-lts.Need-joined-requires (and-calls t) (read-and-list-at t) read-and-list.Post read-and-list-Inv-loop read-and-list-μ-loop
+read-and-list-joined-requires t c κs =
+    let b = c .before .before .before .before .before .before .before .before .loop .inv in
+    let r = read-and-list-told t (c .before) in
+    (r .room ∙ b .room, (b .small, r .small))
 
-read-and-list-shared-slice-read-if1 : (t : ℕ) → read-and-list-lts.Need-shared-slice-read-if1 (and-calls t) (read-and-list-at t) read-and-list.Post read-and-list-Inv-loop read-and-list-μ-loop
-read-and-list-shared-slice-read-if1 t c = search needs
+read-and-list-comes-requires : (t : ℕ) → read-and-list-lts.Need-comes-requires (and-calls t) (read-and-list-at t) read-and-list.Post read-and-list-Inv-loop read-and-list-μ-loop
+read-and-list-comes-requires t c κs =
+    let r = read-and-list-told t (c .before .before .before .before) in
+    r .within
 
-read-and-list-same-length-2 : (t : ℕ) → read-and-list-lts.Need-same-length-2 (and-calls t) (read-and-list-at t) read-and-list.Post read-and-list-Inv-loop read-and-list-μ-loop
-read-and-list-same-length-2 t c = c .before .before .before .loop .inv .room ∙ sym (c .before .before .before .before .before .before .before .before .before .before .before .before .before .pre .1 .1 .0)
+read-and-list-within : (t : ℕ) → (c : read-and-list-lts.Then1 (and-calls t) (read-and-list-at t) read-and-list.Post read-and-list-Inv-loop read-and-list-μ-loop) → c .before .before .before .before .before .before .before .next .given .0 .0 < length (now (c .before .before .before .before .before .before .before .before .before .before .before .before .before .before .before .before .args .text))
+read-and-list-within t c = begins-within _ _ _ (read-and-list-behind t (c .before .before) .within) (sym (c .before .comes .ensures) ∙ c .if1 .taken)
 
-read-and-list-returns-2 : (t : ℕ) → read-and-list-lts.Need-returns-2 (and-calls t) (read-and-list-at t) read-and-list.Post read-and-list-Inv-loop read-and-list-μ-loop
-read-and-list-returns-2 t c =
-    let a = c .before .before .before .before .before .before .before .before .before .before .before .before .before .args in
-    let r = read-and-list-first-told t (c .before .before .before .before) in
-    list-stop _ _ _ _ _ _ _ _ (c .before .before .before .loop .inv) (a .at) (a .k) (now (a .nodes)) (c .before .before .before .before .before .before .before .before .before .before .before .before .before .pre .1 .1 .0) r (c .before .before .loop-test .taken) (c .if1 .taken)
-
-read-and-list-add-read-unit : (t : ℕ) → read-and-list-lts.Need-add-read-unit (and-calls t) (read-and-list-at t) read-and-list.Post read-and-list-Inv-loop read-and-list-μ-loop
-read-and-list-add-read-unit t c = search needs
-
-read-and-list-read-unit-requires-2 : (t : ℕ) → read-and-list-lts.Need-read-unit-requires-2 (and-calls t) (read-and-list-at t) read-and-list.Post read-and-list-Inv-loop read-and-list-μ-loop
-read-and-list-read-unit-requires-2 t c κs =
-    let l = c .before .before .before .before .loop .inv in
-    let p = c .before .before .before .before .before .before .before .before .before .before .before .before .before .before .pre .1 in
-    let z = c .before .before .before .before .before .before .before .before .before .before .before .before .before .before .pre .0 in
-    let more = c .before .before .before .loop-test .taken in
-    (omega arith, (omega arith, (l .room, l .small)))
-
-read-and-list-enum-known-next : (t : ℕ) → read-and-list-lts.Need-enum-known-next (and-calls t) (read-and-list-at t) read-and-list.Post read-and-list-Inv-loop read-and-list-μ-loop
-read-and-list-enum-known-next t c = search needs
-
-read-and-list-enum-told-2 : (t : ℕ) → read-and-list-lts.Need-enum-told-2 (and-calls t) (read-and-list-at t) read-and-list.Post read-and-list-Inv-loop read-and-list-μ-loop
-read-and-list-enum-told-2 t c = search needs
-
-read-and-list-same-length-3 : (t : ℕ) → read-and-list-lts.Need-same-length-3 (and-calls t) (read-and-list-at t) read-and-list.Post read-and-list-Inv-loop read-and-list-μ-loop
-read-and-list-same-length-3 t c = c .before .before .before .before .read-unit2 .kept .1 .1 .1 .0 ∙ (c .before .before .before .before .before .before .before .before .before .loop .inv .room ∙ sym (c .before .before .before .before .before .before .before .before .before .before .before .before .before .before .before .before .before .before .before .pre .1 .1 .0))
-
-read-and-list-returns-3 : (t : ℕ) → read-and-list-lts.Need-returns-3 (and-calls t) (read-and-list-at t) read-and-list.Post read-and-list-Inv-loop read-and-list-μ-loop
-read-and-list-returns-3 t c =
-    let a = c .before .before .before .before .before .before .before .before .before .before .before .before .before .before .before .before .before .before .before .args in
-    let first = read-and-list-first-told t (c .before .before .before .before .before .before .before .before .before .before) in
-    let r = told-nested (now (a .text)) (c .before .before .before .before .before .before .before .before .before .loop .place + 1) (c .before .before .before .before .before .before .before .before .before .loop .nodes) (c .before .before .before .before .before .before .before .before .before .loop .count) (c .before .before .before .before .read-unit2 .last .1 .1 .1 .0) (unitOf (a .left) (drop (c .before .before .before .before .before .before .before .before .before .loop .place + 1) (now (a .text)))) (c .before .before .before .before .read-unit2 .result) (c .enum-told2 .given .1) (c .before .before .before .before .read-unit2 .ensures) in
-    list-nested _ _ _ _ _ _ _ _ (c .before .before .before .before .before .before .before .before .before .loop .inv) (a .at) (a .k) (now (a .nodes)) (c .before .before .before .before .before .before .before .before .before .before .before .before .before .before .before .before .before .before .before .pre .1 .1 .0) first (c .before .before .before .before .before .before .before .before .loop-test .taken) (c .before .before .before .before .before .before .if1 .left) (c .before .before .before .before .read-unit2 .last .1 .1 .1 .0) (r .0) (r .1)
-
-read-and-list-put-operator-requires : (t : ℕ) → read-and-list-lts.Need-put-operator-requires (and-calls t) (read-and-list-at t) read-and-list.Post read-and-list-Inv-loop read-and-list-μ-loop
-read-and-list-put-operator-requires t c κs =
-    let l = c .before .before .before .before .before .before .before .before .before .before .before .loop .inv in
-    let r = read-and-list-next-told t (c .before) in
-    let s = l .small in
-    let z = r .small in
-    (r .room ∙ l .room, (omega arith, omega arith))
+read-and-list-add-place : (t : ℕ) → read-and-list-lts.Need-add-place (and-calls t) (read-and-list-at t) read-and-list.Post read-and-list-Inv-loop read-and-list-μ-loop
+read-and-list-add-place t c =
+    let h = read-and-list-within t c in
+    search needs
 
 read-and-list-loop-less : (t : ℕ) → read-and-list-lts.Need-loop-less (and-calls t) (read-and-list-at t) read-and-list.Post read-and-list-Inv-loop read-and-list-μ-loop
 read-and-list-loop-less t c =
-    let r = read-and-list-next-told t (c .before .before .before .before) in
-    let b = r .behind in
-    let w = r .within in
-    let h = c .before .before .before .before .before .before .before .before .before .before .before .before .before .loop-test .taken in
+    let h = read-and-list-within t c in
+    let on = read-and-list-told t (c .before .before .before .before .before .before) .behind in
     omega arith
 
 read-and-list-loop-again : (t : ℕ) → read-and-list-lts.Need-loop-again (and-calls t) (read-and-list-at t) read-and-list.Post read-and-list-Inv-loop read-and-list-μ-loop
-read-and-list-loop-again t c =
-    let r = read-and-list-next-told t (c .before .before .before .before) in
-    let put = c .before .before .put-operator .ensures in
-    list-on _ _ _ _ _ _ _ _ (c .before .before .before .before .before .before .before .before .before .before .before .before .before .before .loop .inv) 4 and-joins (c .before .before .before .before .before .before .before .before .before .before .before .before .before .loop-test .taken) (c .before .before .before .before .before .before .before .before .before .before .before .if1 .left) (c .before .before .before .before .before .next .given .0 .0) (c .before .before .before .before .before .next .given .0 .1 .0) (c .before .before .put-operator .result) (c .before .before .before .before .before .before .before .before .before .read-unit2 .last .1 .1 .1 .0) (c .before .before .put-operator .last .0) r (put .0) (put .1 .0) (put .1 .1)
+read-and-list-loop-again t c = list-on _ _ _ _ _ _ _ _ (read-and-list-behind t (c .before .before)) (sym (c .before .comes .ensures) ∙ c .if1 .taken)
 
-read-and-list-same-length-4 : (t : ℕ) → read-and-list-lts.Need-same-length-4 (and-calls t) (read-and-list-at t) read-and-list.Post read-and-list-Inv-loop read-and-list-μ-loop
-read-and-list-same-length-4 t c = c .before .loop .inv .room ∙ sym (c .before .before .before .before .before .before .before .before .before .before .before .pre .1 .1 .0)
+read-and-list-same-length-2 : (t : ℕ) → read-and-list-lts.Need-same-length-2 (and-calls t) (read-and-list-at t) read-and-list.Post read-and-list-Inv-loop read-and-list-μ-loop
+read-and-list-same-length-2 t c = c .before .before .before .before .joined .ensures .1 .0 ∙ sym (c .before .before .before .before .before .before .before .before .before .before .before .before .before .before .before .before .pre .1 .1 .0)
 
-read-and-list-returns-4 : (t : ℕ) → read-and-list-lts.Need-returns-4 (and-calls t) (read-and-list-at t) read-and-list.Post read-and-list-Inv-loop read-and-list-μ-loop
-read-and-list-returns-4 t c =
-    let a = c .before .before .before .before .before .before .before .before .before .before .before .args in
-    let r = read-and-list-first-told t (c .before .before) in
-    list-over _ _ _ _ _ _ _ _ (c .before .loop .inv) (a .at) (a .k) (now (a .nodes)) (c .before .before .before .before .before .before .before .before .before .before .before .pre .1 .1 .0) r (c .loop-test .left)
+read-and-list-returns-2 : (t : ℕ) → read-and-list-lts.Need-returns-2 (and-calls t) (read-and-list-at t) read-and-list.Post read-and-list-Inv-loop read-and-list-μ-loop
+read-and-list-returns-2 t c = list-stops _ _ _ _ _ _ _ _ (read-and-list-behind t (c .before .before)) (c .before .before .before .before .before .before .before .before .before .before .before .before .before .before .before .before .pre .1 .1 .0) (sym (c .before .comes .ensures) ∙ c .if1 .left)
 
 abbrev read-or-list-Inv-loop : read-or-list-lts.InvT-loop
-read-or-list-Inv-loop text at left nodes₀ k n m place₀ count₀ nodes place count = Listed (orKind left) text place₀ count₀ nodes₀ place count nodes
+read-or-list-Inv-loop text at left nodes₀ k place₀ count₀ first₀ nodes place count first = Before (orKind left) text at k nodes₀ first place count nodes
 
 abbrev read-or-list-μ-loop : read-or-list-lts.MeasureT-loop
-read-or-list-μ-loop text at left nodes₀ k n m place₀ count₀ nodes place count = length text - place
+read-or-list-μ-loop text at left nodes₀ k place₀ count₀ first₀ nodes place count first = length text - place
 
-read-or-list-first-told : (t : ℕ) → (c : read-or-list-lts.After-known-told (or-calls t) (read-or-list-at t) read-or-list.Post read-or-list-Inv-loop read-or-list-μ-loop)
-    → (let a = c .before .before .before .before .before .before .before .before .before .args in Told (now (a .text)) (a .at) (now (a .nodes)) (a .k) (andListOf (a .left) (drop (a .at) (now (a .text)))) (c .before .first .given .0 .0) (c .before .first .given .0 .1 .0) (c .before .before .before .before .before .read-and-list .last .1 .1 .1 .0))
-read-or-list-first-told t c =
-    told-at _ _ _ _ _ _ _ _ _ (c .before .first .given .1) (c .before .before .before .before .before .read-and-list .ensures)
+read-or-list-told : (t : ℕ) → (c : read-or-list-lts.After-known-told (or-calls t) (read-or-list-at t) read-or-list.Post read-or-list-Inv-loop read-or-list-μ-loop)
+    → (let a = c .before .before .before .before .before .before .before .before .before .before .args in let s = c .before .before .before .before .before .before .before .loop in Told (now (a .text)) (s .place) (s .nodes) (s .count) (andListOf (a .left) (drop (s .place) (now (a .text)))) (c .before .next .given .0 .0) (c .before .next .given .0 .1 .0) (c .before .before .before .before .before .read-and-list .last .1 .1 .1 .0))
+read-or-list-told t c = told-at _ _ _ _ _ _ _ _ _ (c .before .next .given .1) (c .before .before .before .before .before .read-and-list .ensures)
 
-read-or-list-next-told : (t : ℕ) → (c : read-or-list-lts.After-known-told2 (or-calls t) (read-or-list-at t) read-or-list.Post read-or-list-Inv-loop read-or-list-μ-loop)
-    → (let a = c .before .before .before .before .before .before .before .before .before .before .before .before .before .before .before .before .before .before .before .before .args in Told (now (a .text)) (c .before .before .before .before .before .before .before .before .before .before .loop .place + 1) (c .before .before .before .before .before .before .before .before .before .before .loop .nodes) (c .before .before .before .before .before .before .before .before .before .before .loop .count) (andListOf (a .left) (drop (c .before .before .before .before .before .before .before .before .before .before .loop .place + 1) (now (a .text)))) (c .before .next .given .0 .0) (c .before .next .given .0 .1 .0) (c .before .before .before .before .before .read-and-list2 .last .1 .1 .1 .0))
-read-or-list-next-told t c =
-    told-at _ _ _ _ _ _ _ _ _ (c .before .next .given .1) (c .before .before .before .before .before .read-and-list2 .ensures)
+read-or-list-behind : (t : ℕ) → (c : read-or-list-lts.After-slice-known3 (or-calls t) (read-or-list-at t) read-or-list.Post read-or-list-Inv-loop read-or-list-μ-loop)
+    → (let a = c .before .before .before .before .before .before .before .before .before .before .before .before .before .before .args in Behind (orKind (a .left)) (now (a .text)) (a .at) (a .k) (now (a .nodes)) (c .before .before .before .before .before .next .given .0 .0) (c .before .before .joined .result) (c .before .before .joined .last .0))
+read-or-list-behind t c =
+    let put = c .before .before .joined .ensures in
+    list-joined _ _ _ _ _ _ _ _ _ (c .before .before .before .before .before .before .before .before .before .before .before .loop .inv) _ _ _ _ _ (read-or-list-told t (c .before .before .before .before)) (put .0) (put .1 .0) (put .1 .1)
+
+read-or-list-loop-holds : (t : ℕ) → read-or-list-lts.Need-loop-holds (or-calls t) (read-or-list-at t) read-or-list.Post read-or-list-Inv-loop read-or-list-μ-loop
+read-or-list-loop-holds t c =
+    let p = c .before .before .pre .1 in
+    list-starts _ _ _ _ _ (p .0) (p .1 .1) (p .1 .0)
 
 read-or-list-read-and-list-requires : (t : ℕ) → read-or-list-lts.Need-read-and-list-requires (or-calls t) (read-or-list-at t) read-or-list.Post read-or-list-Inv-loop read-or-list-μ-loop
 read-or-list-read-and-list-requires t c κs =
-    let p = c .before .before .before .pre .1 in
-    let z = c .before .before .before .pre .0 in
-    (omega arith, (p .0, p .1))
+    let z = c .before .before .before .before .pre .0 in
+    let b = c .before .loop .inv in
+    (omega arith, (b .within, (b .room, b .small)))
 
-read-or-list-enum-known-first : (t : ℕ) → read-or-list-lts.Need-enum-known-first (or-calls t) (read-or-list-at t) read-or-list.Post read-or-list-Inv-loop read-or-list-μ-loop
-read-or-list-enum-known-first t c = search needs
+read-or-list-enum-known-next : (t : ℕ) → read-or-list-lts.Need-enum-known-next (or-calls t) (read-or-list-at t) read-or-list.Post read-or-list-Inv-loop read-or-list-μ-loop
+read-or-list-enum-known-next t c = search needs
 
 read-or-list-enum-told : (t : ℕ) → read-or-list-lts.Need-enum-told (or-calls t) (read-or-list-at t) read-or-list.Post read-or-list-Inv-loop read-or-list-μ-loop
 read-or-list-enum-told t c = search needs
 
 read-or-list-same-length : (t : ℕ) → read-or-list-lts.Need-same-length (or-calls t) (read-or-list-at t) read-or-list.Post read-or-list-Inv-loop read-or-list-μ-loop
-read-or-list-same-length t c = c .before .before .before .before .read-and-list .kept .1 .1 .1 .0
+read-or-list-same-length t c = c .before .before .before .before .read-and-list .kept .1 .1 .1 .0 ∙ (c .before .before .before .before .before .before .loop .inv .room ∙ sym (c .before .before .before .before .before .before .before .before .before .pre .1 .1 .0))
 
 read-or-list-returns : (t : ℕ) → read-or-list-lts.Need-returns (or-calls t) (read-or-list-at t) read-or-list.Post read-or-list-Inv-loop read-or-list-μ-loop
 read-or-list-returns t c =
-    let a = c .before .before .before .before .before .before .before .before .args in
-    let r = told-nested (now (a .text)) (a .at) (now (a .nodes)) (a .k) (c .before .before .before .before .read-and-list .last .1 .1 .1 .0) (andListOf (a .left) (drop (a .at) (now (a .text)))) (c .before .before .before .before .read-and-list .result) (c .enum-told .given .1) (c .before .before .before .before .read-and-list .ensures) in
-    first-nested (orKind (a .left)) (now (a .text)) (a .at) (a .k) (now (a .nodes)) (c .before .before .before .before .read-and-list .last .1 .1 .1 .0) (r .0) (r .1)
+    let a = c .before .before .before .before .before .before .before .before .before .args in
+    let s = c .before .before .before .before .before .before .loop in
+    let r = told-nested (now (a .text)) (s .place) (s .nodes) (s .count) (c .before .before .before .before .read-and-list .last .1 .1 .1 .0) (andListOf (a .left) (drop (s .place) (now (a .text)))) (c .before .before .before .before .read-and-list .result) (c .enum-told .given .1) (c .before .before .before .before .read-and-list .ensures) in
+    list-nested _ _ _ _ _ _ _ _ _ (s .inv) (c .before .before .before .before .before .before .before .before .before .pre .1 .1 .0) (c .before .before .before .before .read-and-list .last .1 .1 .1 .0) (r .0) (r .1)
 
-read-or-list-loop-holds : (t : ℕ) → read-or-list-lts.Need-loop-holds (or-calls t) (read-or-list-at t) read-or-list.Post read-or-list-Inv-loop read-or-list-μ-loop
-read-or-list-loop-holds t c =
-    let r = read-or-list-first-told t c in
-    list-starts (orKind (c .before .before .before .before .before .before .before .before .before .args .left)) (now (c .before .before .before .before .before .before .before .before .before .args .text)) (c .before .first .given .0 .0) (c .before .first .given .0 .1 .0) (c .before .before .before .before .before .read-and-list .last .1 .1 .1 .0) (r .within) (r .small) (r .room ∙ c .before .before .before .before .before .before .before .before .before .pre .1 .1 .0)
+read-or-list-joined-requires : (t : ℕ) → read-or-list-lts.Need-joined-requires (or-calls t) (read-or-list-at t) read-or-list.Post read-or-list-Inv-loop read-or-list-μ-loop
+read-or-list-joined-requires t c κs =
+    let b = c .before .before .before .before .before .before .before .before .loop .inv in
+    let r = read-or-list-told t (c .before) in
+    (r .room ∙ b .room, (b .small, r .small))
 
-read-or-list-shared-slice-read-if1 : (t : ℕ) → read-or-list-lts.Need-shared-slice-read-if1 (or-calls t) (read-or-list-at t) read-or-list.Post read-or-list-Inv-loop read-or-list-μ-loop
-read-or-list-shared-slice-read-if1 t c = search needs
+read-or-list-comes-requires : (t : ℕ) → read-or-list-lts.Need-comes-requires (or-calls t) (read-or-list-at t) read-or-list.Post read-or-list-Inv-loop read-or-list-μ-loop
+read-or-list-comes-requires t c κs =
+    let r = read-or-list-told t (c .before .before .before .before) in
+    r .within
 
-read-or-list-same-length-2 : (t : ℕ) → read-or-list-lts.Need-same-length-2 (or-calls t) (read-or-list-at t) read-or-list.Post read-or-list-Inv-loop read-or-list-μ-loop
-read-or-list-same-length-2 t c = c .before .before .before .loop .inv .room ∙ sym (c .before .before .before .before .before .before .before .before .before .before .before .before .before .pre .1 .1 .0)
+read-or-list-within : (t : ℕ) → (c : read-or-list-lts.Then1 (or-calls t) (read-or-list-at t) read-or-list.Post read-or-list-Inv-loop read-or-list-μ-loop) → c .before .before .before .before .before .before .before .next .given .0 .0 < length (now (c .before .before .before .before .before .before .before .before .before .before .before .before .before .before .before .before .args .text))
+read-or-list-within t c = begins-within _ _ _ (read-or-list-behind t (c .before .before) .within) (sym (c .before .comes .ensures) ∙ c .if1 .taken)
 
-read-or-list-returns-2 : (t : ℕ) → read-or-list-lts.Need-returns-2 (or-calls t) (read-or-list-at t) read-or-list.Post read-or-list-Inv-loop read-or-list-μ-loop
-read-or-list-returns-2 t c =
-    let a = c .before .before .before .before .before .before .before .before .before .before .before .before .before .args in
-    let r = read-or-list-first-told t (c .before .before .before .before) in
-    list-stop _ _ _ _ _ _ _ _ (c .before .before .before .loop .inv) (a .at) (a .k) (now (a .nodes)) (c .before .before .before .before .before .before .before .before .before .before .before .before .before .pre .1 .1 .0) r (c .before .before .loop-test .taken) (c .if1 .taken)
-
-read-or-list-add-read-and-list : (t : ℕ) → read-or-list-lts.Need-add-read-and-list (or-calls t) (read-or-list-at t) read-or-list.Post read-or-list-Inv-loop read-or-list-μ-loop
-read-or-list-add-read-and-list t c = search needs
-
-read-or-list-read-and-list-requires-2 : (t : ℕ) → read-or-list-lts.Need-read-and-list-requires-2 (or-calls t) (read-or-list-at t) read-or-list.Post read-or-list-Inv-loop read-or-list-μ-loop
-read-or-list-read-and-list-requires-2 t c κs =
-    let l = c .before .before .before .before .loop .inv in
-    let p = c .before .before .before .before .before .before .before .before .before .before .before .before .before .before .pre .1 in
-    let z = c .before .before .before .before .before .before .before .before .before .before .before .before .before .before .pre .0 in
-    let more = c .before .before .before .loop-test .taken in
-    (omega arith, (omega arith, (l .room, l .small)))
-
-read-or-list-enum-known-next : (t : ℕ) → read-or-list-lts.Need-enum-known-next (or-calls t) (read-or-list-at t) read-or-list.Post read-or-list-Inv-loop read-or-list-μ-loop
-read-or-list-enum-known-next t c = search needs
-
-read-or-list-enum-told-2 : (t : ℕ) → read-or-list-lts.Need-enum-told-2 (or-calls t) (read-or-list-at t) read-or-list.Post read-or-list-Inv-loop read-or-list-μ-loop
-read-or-list-enum-told-2 t c = search needs
-
-read-or-list-same-length-3 : (t : ℕ) → read-or-list-lts.Need-same-length-3 (or-calls t) (read-or-list-at t) read-or-list.Post read-or-list-Inv-loop read-or-list-μ-loop
-read-or-list-same-length-3 t c = c .before .before .before .before .read-and-list2 .kept .1 .1 .1 .0 ∙ (c .before .before .before .before .before .before .before .before .before .loop .inv .room ∙ sym (c .before .before .before .before .before .before .before .before .before .before .before .before .before .before .before .before .before .before .before .pre .1 .1 .0))
-
-read-or-list-returns-3 : (t : ℕ) → read-or-list-lts.Need-returns-3 (or-calls t) (read-or-list-at t) read-or-list.Post read-or-list-Inv-loop read-or-list-μ-loop
-read-or-list-returns-3 t c =
-    let a = c .before .before .before .before .before .before .before .before .before .before .before .before .before .before .before .before .before .before .before .args in
-    let first = read-or-list-first-told t (c .before .before .before .before .before .before .before .before .before .before) in
-    let r = told-nested (now (a .text)) (c .before .before .before .before .before .before .before .before .before .loop .place + 1) (c .before .before .before .before .before .before .before .before .before .loop .nodes) (c .before .before .before .before .before .before .before .before .before .loop .count) (c .before .before .before .before .read-and-list2 .last .1 .1 .1 .0) (andListOf (a .left) (drop (c .before .before .before .before .before .before .before .before .before .loop .place + 1) (now (a .text)))) (c .before .before .before .before .read-and-list2 .result) (c .enum-told2 .given .1) (c .before .before .before .before .read-and-list2 .ensures) in
-    list-nested _ _ _ _ _ _ _ _ (c .before .before .before .before .before .before .before .before .before .loop .inv) (a .at) (a .k) (now (a .nodes)) (c .before .before .before .before .before .before .before .before .before .before .before .before .before .before .before .before .before .before .before .pre .1 .1 .0) first (c .before .before .before .before .before .before .before .before .loop-test .taken) (c .before .before .before .before .before .before .if1 .left) (c .before .before .before .before .read-and-list2 .last .1 .1 .1 .0) (r .0) (r .1)
-
-read-or-list-put-operator-requires : (t : ℕ) → read-or-list-lts.Need-put-operator-requires (or-calls t) (read-or-list-at t) read-or-list.Post read-or-list-Inv-loop read-or-list-μ-loop
-read-or-list-put-operator-requires t c κs =
-    let l = c .before .before .before .before .before .before .before .before .before .before .before .loop .inv in
-    let r = read-or-list-next-told t (c .before) in
-    let s = l .small in
-    let z = r .small in
-    (r .room ∙ l .room, (omega arith, omega arith))
+read-or-list-add-place : (t : ℕ) → read-or-list-lts.Need-add-place (or-calls t) (read-or-list-at t) read-or-list.Post read-or-list-Inv-loop read-or-list-μ-loop
+read-or-list-add-place t c =
+    let h = read-or-list-within t c in
+    search needs
 
 read-or-list-loop-less : (t : ℕ) → read-or-list-lts.Need-loop-less (or-calls t) (read-or-list-at t) read-or-list.Post read-or-list-Inv-loop read-or-list-μ-loop
 read-or-list-loop-less t c =
-    let r = read-or-list-next-told t (c .before .before .before .before) in
-    let b = r .behind in
-    let w = r .within in
-    let h = c .before .before .before .before .before .before .before .before .before .before .before .before .before .loop-test .taken in
+    let h = read-or-list-within t c in
+    let on = read-or-list-told t (c .before .before .before .before .before .before) .behind in
     omega arith
 
 read-or-list-loop-again : (t : ℕ) → read-or-list-lts.Need-loop-again (or-calls t) (read-or-list-at t) read-or-list.Post read-or-list-Inv-loop read-or-list-μ-loop
-read-or-list-loop-again t c =
-    let r = read-or-list-next-told t (c .before .before .before .before) in
-    let put = c .before .before .put-operator .ensures in
-    list-on _ _ _ _ _ _ _ _ (c .before .before .before .before .before .before .before .before .before .before .before .before .before .before .loop .inv) 5 or-joins (c .before .before .before .before .before .before .before .before .before .before .before .before .before .loop-test .taken) (c .before .before .before .before .before .before .before .before .before .before .before .if1 .left) (c .before .before .before .before .before .next .given .0 .0) (c .before .before .before .before .before .next .given .0 .1 .0) (c .before .before .put-operator .result) (c .before .before .before .before .before .before .before .before .before .read-and-list2 .last .1 .1 .1 .0) (c .before .before .put-operator .last .0) r (put .0) (put .1 .0) (put .1 .1)
+read-or-list-loop-again t c = list-on _ _ _ _ _ _ _ _ (read-or-list-behind t (c .before .before)) (sym (c .before .comes .ensures) ∙ c .if1 .taken)
 
-read-or-list-same-length-4 : (t : ℕ) → read-or-list-lts.Need-same-length-4 (or-calls t) (read-or-list-at t) read-or-list.Post read-or-list-Inv-loop read-or-list-μ-loop
-read-or-list-same-length-4 t c = c .before .loop .inv .room ∙ sym (c .before .before .before .before .before .before .before .before .before .before .before .pre .1 .1 .0)
+read-or-list-same-length-2 : (t : ℕ) → read-or-list-lts.Need-same-length-2 (or-calls t) (read-or-list-at t) read-or-list.Post read-or-list-Inv-loop read-or-list-μ-loop
+read-or-list-same-length-2 t c = c .before .before .before .before .joined .ensures .1 .0 ∙ sym (c .before .before .before .before .before .before .before .before .before .before .before .before .before .before .before .before .pre .1 .1 .0)
 
-read-or-list-returns-4 : (t : ℕ) → read-or-list-lts.Need-returns-4 (or-calls t) (read-or-list-at t) read-or-list.Post read-or-list-Inv-loop read-or-list-μ-loop
-read-or-list-returns-4 t c =
-    let a = c .before .before .before .before .before .before .before .before .before .before .before .args in
-    let r = read-or-list-first-told t (c .before .before) in
-    list-over _ _ _ _ _ _ _ _ (c .before .loop .inv) (a .at) (a .k) (now (a .nodes)) (c .before .before .before .before .before .before .before .before .before .before .before .pre .1 .1 .0) r (c .loop-test .left)
+read-or-list-returns-2 : (t : ℕ) → read-or-list-lts.Need-returns-2 (or-calls t) (read-or-list-at t) read-or-list.Post read-or-list-Inv-loop read-or-list-μ-loop
+read-or-list-returns-2 t c = list-stops _ _ _ _ _ _ _ _ (read-or-list-behind t (c .before .before)) (c .before .before .before .before .before .before .before .before .before .before .before .before .before .before .before .before .pre .1 .1 .0) (sym (c .before .comes .ensures) ∙ c .if1 .left)
 
 read-unit-unit-told : (t : ℕ) → (c : read-unit-lts.After-known-told (unit-calls t) (read-unit-at t) read-unit.Post)
     → (let a = c .before .before .before .before .before .before .before .before .before .before .before .before .before .before .before .args in Told (now (a .text)) (a .at + 1) (now (a .nodes)) (a .k) (unitOf (a .left - 1) (drop (a .at + 1) (now (a .text)))) (c .before .unit .given .0 .0) (c .before .unit .given .0 .1 .0) (c .before .before .before .before .before .read-unit .last .1 .1 .1 .0))
@@ -473,51 +404,37 @@ pub +read-and-list+read-or-list+read-unit-spec : {M : Type 1} → statement M
     read-and-list.Post
     read-and-list-Inv-loop
     read-and-list-μ-loop
+    (read-and-list-loop-holds t)
     (read-and-list-read-unit-requires t)
-    (read-and-list-enum-known-first t)
+    (read-and-list-enum-known-next t)
     (read-and-list-enum-told t)
     (read-and-list-same-length t)
     (read-and-list-returns t)
-    (read-and-list-loop-holds t)
-    (read-and-list-shared-slice-read-if1 t)
-    (read-and-list-same-length-2 t)
-    (read-and-list-returns-2 t)
-    (read-and-list-add-read-unit t)
-    (read-and-list-read-unit-requires-2 t)
-    (read-and-list-enum-known-next t)
-    (read-and-list-enum-told-2 t)
-    (read-and-list-same-length-3 t)
-    (read-and-list-returns-3 t)
-    (read-and-list-put-operator-requires t)
+    (read-and-list-joined-requires t)
+    (read-and-list-comes-requires t)
+    (read-and-list-add-place t)
     (read-and-list-loop-less t)
     (read-and-list-loop-again t)
-    (read-and-list-same-length-4 t)
-    (read-and-list-returns-4 t))
+    (read-and-list-same-length-2 t)
+    (read-and-list-returns-2 t))
     (λ t. read-or-list-lts.spec (or-calls t)
     (read-or-list-at t)
     read-or-list.Post
     read-or-list-Inv-loop
     read-or-list-μ-loop
+    (read-or-list-loop-holds t)
     (read-or-list-read-and-list-requires t)
-    (read-or-list-enum-known-first t)
+    (read-or-list-enum-known-next t)
     (read-or-list-enum-told t)
     (read-or-list-same-length t)
     (read-or-list-returns t)
-    (read-or-list-loop-holds t)
-    (read-or-list-shared-slice-read-if1 t)
-    (read-or-list-same-length-2 t)
-    (read-or-list-returns-2 t)
-    (read-or-list-add-read-and-list t)
-    (read-or-list-read-and-list-requires-2 t)
-    (read-or-list-enum-known-next t)
-    (read-or-list-enum-told-2 t)
-    (read-or-list-same-length-3 t)
-    (read-or-list-returns-3 t)
-    (read-or-list-put-operator-requires t)
+    (read-or-list-joined-requires t)
+    (read-or-list-comes-requires t)
+    (read-or-list-add-place t)
     (read-or-list-loop-less t)
     (read-or-list-loop-again t)
-    (read-or-list-same-length-4 t)
-    (read-or-list-returns-4 t))
+    (read-or-list-same-length-2 t)
+    (read-or-list-returns-2 t))
     λ t. read-unit-lts.spec (unit-calls t)
     (read-unit-at t)
     read-unit.Post

@@ -1,84 +1,62 @@
 use mathlib.Core.Logic.{⊎-elim}
-use Rattle.moves.proofs.Gathering.{Gathering, gathering-none, gathering-yes, gathering-no, gathered, code-at}
+use Rattle.moves.proofs.Gathering.{gathered-few, gathered-yes, gathered-no, gathered-past, enabled-at, none-enabled}
+use Rattle.moves.specs.Listed.{enabledCode, Gathered}
 use Rattle.layout.proofs.GoodLayout.{at-most-256}
-use Rattle.choices.specs.Asking.{choiceAt}
 use Rattle.layout.specs.Entries.{countOf}
 use Rattle.layout.specs.PlaceParts.{lent}
-use Rattle.meaning.specs.Configurations.{stateOf}
-use Rattle.meaning.specs.Card.{agentFor}
-use Rattle.paper.specs.Next.{enabled}
-use mathlib.Core.Path.{sym, _∙_}
-use Prim.Native.Nat.{_-_, _≤_}
+use mathlib.Core.Path.{_≡_, sym, ap, _∙_, subst}
+use Prim.Native.Nat.{_+_, _-_, _*_, _≤_}
+use native.Mathlib.Nat.{add-zero}
 use native.Mathlib.Omega.{arith}
 use borrow.Author.Needs.{needs}
 use denote.Ref.{now}
+use lib.ListN.{length, length-set}
 use Rattle.moves.proofs.list.gather_kind.Statement.{statement}
 use Rattle.moves.proofs.list.gather_kind.Tie as tie
 
 abbrev Inv-loop : tie.InvT-loop
-Inv-loop card l m plan marks kind codes₀ at n j₀ i₀ codes j i = (i ≤ countOf l kind) × Gathering (enabled (agentFor l card) (stateOf (lent m plan) .mental)) (choiceAt kind) at codes₀ i j codes
+Inv-loop card l m plan marks kind codes₀ before n count₀ i₀ codes count i = (i ≤ countOf l kind) × Gathered (enabledCode l card (lent m plan)) (256 * kind + i) codes count × (length codes ≡ 96)
 
 abbrev μ-loop : tie.MeasureT-loop
-μ-loop card l m plan marks kind codes₀ at n j₀ i₀ codes j i = countOf l kind - i
+μ-loop card l m plan marks kind codes₀ before n count₀ i₀ codes count i = countOf l kind - i
 
 count-of-requires : tie.Need-count-of-requires Inv-loop μ-loop
 count-of-requires c κs = search needs
 
 loop-holds : tie.Need-loop-holds Inv-loop μ-loop
-loop-holds c = (omega arith, gathering-none _ _ _ _ (c .before .before .pre .2))
+loop-holds c =
+    let a = c .before .before .args in
+    let p = c .before .before .pre in
+    (omega arith, subst (λ x. Gathered (enabledCode (a .l) (now (a .card)) (lent (a .m) (now (a .plan)))) x (now (a .codes)) (a .before)) (sym (add-zero (256 * a .kind))) (p .1), p .0 .2)
 
 is-open-requires : tie.Need-is-open-requires Inv-loop μ-loop
 is-open-requires c κs = search needs
 
-mul-codes : tie.Need-mul-codes Inv-loop μ-loop
-mul-codes c = search needs
+mul-put : tie.Need-mul-put Inv-loop μ-loop
+mul-put c = search needs
 
-cast-codes : tie.Need-cast-codes Inv-loop μ-loop
-cast-codes c =
-    let a = c .before .before .before .before .before .before .args in
-    let p = c .before .before .before .before .before .before .pre in
-    let h = at-most-256 (a .l) (now (a .card)) (p .0 .ready .card .layout) (a .kind) in
+add-put : tie.Need-add-put Inv-loop μ-loop
+add-put c =
+    let a = c .before .before .before .before .before .before .before .args in
+    let h = at-most-256 (a .l) (now (a .card)) (c .before .before .before .before .before .before .before .pre .0 .0 .ready .card .layout) (a .kind) in
     omega arith
 
-add-codes : tie.Need-add-codes Inv-loop μ-loop
-add-codes c =
-    let a = c .before .before .before .before .before .before .args in
-    let p = c .before .before .before .before .before .before .pre in
-    let h = at-most-256 (a .l) (now (a .card)) (p .0 .ready .card .layout) (a .kind) in
-    omega arith
+put-requires : tie.Need-put-requires Inv-loop μ-loop
+put-requires c κs =
+    let a = c .before .before .before .before .before .before .before .args in
+    let h = at-most-256 (a .l) (now (a .card)) (c .before .before .before .before .before .before .before .pre .0 .0 .ready .card .layout) (a .kind) in
+    (omega arith, c .before .before .before .before .loop .inv .2)
 
-mul-codes-2 : tie.Need-mul-codes-2 Inv-loop μ-loop
-mul-codes-2 c =
-    let a = c .before .before .before .before .before .before .args in
-    let p = c .before .before .before .before .before .before .pre in
-    let h = at-most-256 (a .l) (now (a .card)) (p .0 .ready .card .layout) (a .kind) in
-    let l = c .before .before .before .loop .inv .1 .low in
-    omega arith
-
-element-write-codes : tie.Need-element-write-codes Inv-loop μ-loop
-element-write-codes c =
-    let a = c .before .before .before .before .before .before .args in
-    let p = c .before .before .before .before .before .before .pre in
-    let h = at-most-256 (a .l) (now (a .card)) (p .0 .ready .card .layout) (a .kind) in
-    let g = c .before .before .before .loop .inv .1 in
-    let l = g .low in
-    let e = g .long in
-    omega arith
-
-add-j : tie.Need-add-j Inv-loop μ-loop
-add-j c =
-    let a = c .before .before .before .before .before .before .args in
-    let p = c .before .before .before .before .before .before .pre in
-    let h = at-most-256 (a .l) (now (a .card)) (p .0 .ready .card .layout) (a .kind) in
-    let l = c .before .before .before .loop .inv .1 .low in
+add-count : tie.Need-add-count Inv-loop μ-loop
+add-count c =
+    let a = c .before .before .before .before .before .before .before .before .args in
+    let h = at-most-256 (a .l) (now (a .card)) (c .before .before .before .before .before .before .before .before .pre .0 .0 .ready .card .layout) (a .kind) in
+    let l = c .before .before .before .before .before .loop in
+    let f = gathered-few (enabledCode (a .l) (now (a .card)) (lent (a .m) (now (a .plan)))) (256 * a .kind + l .i) (l .codes) (l .count) (l .inv .1) in
     omega arith
 
 add-i : tie.Need-add-i Inv-loop μ-loop
-add-i c =
-    let a = c .before .before .before .before .before .before .args in
-    let p = c .before .before .before .before .before .before .pre in
-    let h = at-most-256 (a .l) (now (a .card)) (p .0 .ready .card .layout) (a .kind) in
-    omega arith
+add-i c = search needs
 
 loop-less : tie.Need-loop-less Inv-loop μ-loop
 loop-less c = search needs
@@ -86,24 +64,32 @@ loop-less c = search needs
 loop-again : tie.Need-loop-again Inv-loop μ-loop
 loop-again c =
     let a = c .before .before .before .before .before .before .args in
-    let p = c .before .before .before .before .before .before .pre in
-    let h = at-most-256 (a .l) (now (a .card)) (p .0 .ready .card .layout) (a .kind) in
+    let h = at-most-256 (a .l) (now (a .card)) (c .before .before .before .before .before .before .pre .0 .0 .ready .card .layout) (a .kind) in
     let l = c .before .before .before .loop in
-    let g = l .inv .1 in
-    let w = g .low in
-    let e = c .before .is-open .ensures in
+    let t = enabledCode (a .l) (now (a .card)) (lent (a .m) (now (a .plan))) in
+    let x : 256 * a .kind + (l .i + 1) ≡ 256 * a .kind + l .i + 1 = omega arith in
+    let e = enabled-at (a .l) (now (a .card)) (lent (a .m) (now (a .plan))) (a .kind) (l .i) (omega arith) ∙ sym (c .before .is-open .ensures) in
     ⊎-elim
-    (λ w. (omega arith, rw (w .1, w .2) (gathering-yes _ _ _ _ _ _ _ g (sym e ∙ w .0 .taken) _ (code-at (a .kind) (l .i) (p .1)) (omega arith))))
-    (λ w. (omega arith, rw (w .1, w .2) (gathering-no _ _ _ _ _ _ _ g (sym e ∙ w .0 .left))))
+    (λ w.
+    (let q = w .3 ∙ w .2 .ensures in
+    let r = l .inv .2 in
+    (omega arith, rw (x, q, w .4) (gathered-yes t (256 * a .kind + l .i) (l .codes) (l .count) (l .inv .1) (e ∙ w .0 .taken) (omega arith)), ap length q ∙ length-set (l .codes) _ _ ∙ r)))
+    (λ w. (omega arith, rw (x, w .1, w .2) (gathered-no t (256 * a .kind + l .i) (l .codes) (l .count) (l .inv .1) (e ∙ w .0 .left)), ap length (w .1) ∙ l .inv .2))
     (c .if1 .came)
 
 returns : tie.Need-returns Inv-loop μ-loop
 returns c =
     let a = c .before .before .before .before .args in
-    let p = c .before .before .before .before .pre in
-    let h = at-most-256 (a .l) (now (a .card)) (p .0 .ready .card .layout) (a .kind) in
-    let g = gathered _ _ _ _ _ _ _ (c .before .loop .inv .1) _ (omega arith) h in
-    (g .0, (g .1, g .2))
+    let h = at-most-256 (a .l) (now (a .card)) (c .before .before .before .before .pre .0 .0 .ready .card .layout) (a .kind) in
+    let l = c .before .loop in
+    let n = countOf (a .l) (a .kind) in
+    let d = lent (a .m) (now (a .plan)) in
+    let e : 256 * a .kind + l .i + (256 - l .i) ≡ 256 * a .kind + 256 = omega arith in (
+      subst (λ x. Gathered (enabledCode (a .l) (now (a .card)) d) x (l .codes) (l .count)) e
+          (gathered-past (enabledCode (a .l) (now (a .card)) d) (256 * a .kind + l .i) (l .codes) (l .count) (l .inv .1) (256 - l .i)
+          (λ i g. (let q : 256 * a .kind + l .i + i ≡ 256 * a .kind + (l .i + i) = omega arith in ap (enabledCode (a .l) (now (a .card)) d) q ∙ none-enabled (a .l) (now (a .card)) d (a .kind) (l .i + i) (omega arith) (omega arith)))),
+      l .inv .2,
+    )
 
 pub gather-kind-spec : {M : Type 1} → statement M
 gather-kind-spec =
@@ -114,12 +100,10 @@ gather-kind-spec =
     count-of-requires
     loop-holds
     is-open-requires
-    mul-codes
-    cast-codes
-    add-codes
-    mul-codes-2
-    element-write-codes
-    add-j
+    mul-put
+    add-put
+    put-requires
+    add-count
     add-i
     loop-less
     loop-again

@@ -1,10 +1,13 @@
 use Rattle.meaning.specs.Calls.{written}
 use Rattle.meaning.proofs.Calls.{lists-refused, good-judged}
-use Rattle.moves.proofs.Gathering.{listed-by, list-yes, list-not}
+use Rattle.moves.proofs.Gathering.{gathered-few, gathered-many, card-codes}
+use Rattle.moves.proofs.Writing.{list-yes, list-not}
+use Rattle.layout.proofs.GoodLayout.{at-most-256}
 use Rattle.card.specs.Rows.{answerOf}
 use Rattle.choices.proofs.Accepting.{accepted-card, card-refused, judged-so, is-ready, is-room, no-room}
 use mathlib.Core.Path.{sym, ap, _∙_}
 use Rattle.layout.specs.PlaceParts.{lent}
+use native.Mathlib.Omega.{arith}
 use borrow.Author.Needs.{needs}
 use denote.Ref.{now}
 use lib.ListN.{length}
@@ -85,19 +88,29 @@ returns-3 c =
     let e = judged-so b d _ g (j .result) (j .ensures .0) ∙ c .before .before .before .before .before .before .enum-told2 .given .1 in
     let s = good-judged b _ g .1 in
     let f = c .before .before .before .gather in
-    let codes = f .last .1 .1 .1 .1 .0 in
+    let few = at-most-256 _ b (accepted-card b _ g .layout) in
     let (h, t) = no-room (f .result) (length (now (a .out))) (c .before .before .judge-room .result) (c .before .before .judge-room .ensures) _ (c .enum-told5 .given .1) in
-    let w = list-not b d e codes (f .result) (f .ensures .1 .1) (f .ensures .1 .0) (f .ensures .0 ∙ listed-by b d _ s) (now (a .out)) h in
+    let w = list-not b d e _ s few (f .last .1 .1 .1 .1 .0) (f .result) (f .ensures .0) (now (a .out)) h in
     (ap (λ x. written x 0 d) t ∙ w .0, w .1)
 
 write-requires : tie.Need-write-requires
 write-requires c κs =
+    let a = c .before .before .before .before .before .before .before .before .before .before .before .before .before .before .before .before .before .args in
+    let b = now (a .card) in
+    let d = lent (a .m) (now (a .plan)) in
+    let g = sym (c .before .before .before .before .before .before .before .before .before .before .before .before .before .before .check .ensures) ∙ c .before .before .before .before .before .before .before .before .before .before .before .before .checked .given .1 in
     let f = c .before .before .before .before .before .gather in
-    let h = is-room (f .result) (length (now (c .before .before .before .before .before .before .before .before .before .before .before .before .before .before .before .before .before .args .out))) (c .before .before .before .before .judge-room .result) (c .before .before .before .before .judge-room .ensures) (c .before .before .enum-told4 .given .1) in
-    search (needs, h)
+    let s = f .last .1 .1 .1 .1 .0 in
+    let few = at-most-256 _ b (accepted-card b _ g .layout) in
+    let h = is-room (f .result) (length (now (a .out))) (c .before .before .before .before .judge-room .result) (c .before .before .before .before .judge-room .ensures) (c .before .before .enum-told4 .given .1) in
+    let m = gathered-many _ 768 s (f .result) (f .ensures .0) in
+    (card-codes _ b d few s (f .result) (f .ensures .0) (f .ensures .1), omega arith)
 
 cast-t20 : tie.Need-cast-t20
-cast-t20 c = search needs
+cast-t20 c =
+    let f = c .before .before .before .before .before .before .before .before .gather in
+    let m = gathered-few _ 768 (f .last .1 .1 .1 .1 .0) (f .result) (f .ensures .0) in
+    omega arith
 
 same-length : tie.Need-same-length
 same-length c = search needs
@@ -112,9 +125,9 @@ returns-4 c =
     let e = judged-so b d _ g (j .result) (j .ensures .0) ∙ c .before .before .before .before .before .before .before .before .before .before .before .enum-told2 .given .1 in
     let s = good-judged b _ g .1 in
     let f = c .before .before .before .before .before .before .before .before .gather in
-    let codes = f .last .1 .1 .1 .1 .0 in
+    let few = at-most-256 _ b (accepted-card b _ g .layout) in
     let h = is-room (f .result) (length (now (a .out))) (c .before .before .before .before .before .before .before .judge-room .result) (c .before .before .before .before .before .before .before .judge-room .ensures) (c .before .before .before .before .before .enum-told4 .given .1) in
-    list-yes b d e codes (f .result) (f .ensures .1 .1) (f .ensures .1 .0) (f .ensures .0 ∙ listed-by b d _ s) (now (a .out)) h (c .before .before .write .last .1 .1 .0) (c .before .before .write .ensures)
+    list-yes b d e _ s few (f .last .1 .1 .1 .1 .0) (f .result) (f .ensures .0) (now (a .out)) h (c .before .before .write .last .1 .1 .0) (c .before .before .write .ensures)
 
 pub list-spec : {M : Type 1} → statement M
 list-spec =

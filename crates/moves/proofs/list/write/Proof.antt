@@ -1,72 +1,61 @@
-use Rattle.moves.proofs.Gathering.{Writing, writing-none, writing-more}
-use mathlib.Core.Path.{_≡_, ap, _∙_}
-use mathlib.Core.List.{_++_}
-use Prim.Native.Nat.{ℕ, _-_, _≤_}
+use Rattle.moves.proofs.Writing.{Kinds, no-kind, kind-room, kind-more}
 use native.Mathlib.Omega.{arith}
-use borrow.Author.Needs.{needs}
 use denote.Ref.{now}
-use lib.ListN.{take, drop}
 use Rattle.moves.proofs.list.write.Statement.{statement}
 use Rattle.moves.proofs.list.write.Tie as tie
 
-abbrev Inv-loop : tie.InvT-loop
-Inv-loop codes n out₀ i₀ out i = (i ≤ n) × Writing codes out₀ i out
+write-kind-requires : tie.Need-write-kind-requires
+write-kind-requires c κs =
+    let p = c .before .before .pre in
+    let s = now (c .before .before .args .codes) in
+    let d = now (c .before .before .args .out) in
+    ((omega arith, p .0), kind-room s d (p .1) 0 (omega arith) 0 d (no-kind s d (p .1)))
 
-abbrev μ-loop : tie.MeasureT-loop
-μ-loop codes n out₀ i₀ out i = n - i
+write-kind-requires-2 : tie.Need-write-kind-requires-2
+write-kind-requires-2 c κs =
+    let p = c .before .before .before .before .before .before .pre in
+    let s = now (c .before .before .before .before .before .before .args .codes) in
+    let d = now (c .before .before .before .before .before .before .args .out) in
+    let f = c .before .before .before .write-kind in
+    let v : Kinds s d (p .1) 1 (f .result) (f .last .1 .1 .1 .0) = kind-more s d (p .1) 0 (omega arith) 0 d (no-kind s d (p .1)) (f .result) (f .last .1 .1 .1 .0) (f .ensures .0) (f .ensures .1) in
+    ((omega arith, p .0), kind-room s d (p .1) 1 (omega arith) (f .result) (f .last .1 .1 .1 .0) v)
 
-loop-holds : tie.Need-loop-holds Inv-loop μ-loop
-loop-holds c = (omega arith, writing-none _ _)
+write-kind-requires-3 : tie.Need-write-kind-requires-3
+write-kind-requires-3 c κs =
+    let p = c .before .before .before .before .before .before .before .before .before .before .pre in
+    let s = now (c .before .before .before .before .before .before .before .before .before .before .args .codes) in
+    let d = now (c .before .before .before .before .before .before .before .before .before .before .args .out) in
+    let f = c .before .before .before .before .before .before .before .write-kind in
+    let g = c .before .before .before .write-kind2 in
+    let v : Kinds s d (p .1) 1 (f .result) (f .last .1 .1 .1 .0) = kind-more s d (p .1) 0 (omega arith) 0 d (no-kind s d (p .1)) (f .result) (f .last .1 .1 .1 .0) (f .ensures .0) (f .ensures .1) in
+    let w : Kinds s d (p .1) 2 (g .result) (g .last .1 .1 .1 .0) = kind-more s d (p .1) 1 (omega arith) (f .result) (f .last .1 .1 .1 .0) v (g .result) (g .last .1 .1 .1 .0) (g .ensures .0) (g .ensures .1) in
+    ((omega arith, p .0), kind-room s d (p .1) 2 (omega arith) (g .result) (g .last .1 .1 .1 .0) w)
 
-mul-out : tie.Need-mul-out Inv-loop μ-loop
-mul-out c = search needs
+same-length : tie.Need-same-length
+same-length c =
+    let p = c .before .before .before .before .before .before .before .before .before .before .before .before .before .pre in
+    let s = now (c .before .before .before .before .before .before .before .before .before .before .before .before .before .args .codes) in
+    let d = now (c .before .before .before .before .before .before .before .before .before .before .before .before .before .args .out) in
+    let f = c .before .before .before .before .before .before .before .before .before .before .write-kind in
+    let g = c .before .before .before .before .before .before .write-kind2 in
+    let h = c .before .before .write-kind3 in
+    let v : Kinds s d (p .1) 1 (f .result) (f .last .1 .1 .1 .0) = kind-more s d (p .1) 0 (omega arith) 0 d (no-kind s d (p .1)) (f .result) (f .last .1 .1 .1 .0) (f .ensures .0) (f .ensures .1) in
+    let w : Kinds s d (p .1) 2 (g .result) (g .last .1 .1 .1 .0) = kind-more s d (p .1) 1 (omega arith) (f .result) (f .last .1 .1 .1 .0) v (g .result) (g .last .1 .1 .1 .0) (g .ensures .0) (g .ensures .1) in
+    let z : Kinds s d (p .1) 3 (h .result) (h .last .1 .1 .1 .0) = kind-more s d (p .1) 2 (omega arith) (g .result) (g .last .1 .1 .1 .0) w (h .result) (h .last .1 .1 .1 .0) (h .ensures .0) (h .ensures .1) in
+    z .long
 
-element-copy-out-out : tie.Need-element-copy-out-out Inv-loop μ-loop
-element-copy-out-out c = search needs
-
-mul-out-2 : tie.Need-mul-out-2 Inv-loop μ-loop
-mul-out-2 c = search needs
-
-slice-write-out : tie.Need-slice-write-out Inv-loop μ-loop
-slice-write-out c =
-    let w = c .before .before .loop .inv .1 .long in
-    omega arith
-
-add-i : tie.Need-add-i Inv-loop μ-loop
-add-i c = search needs
-
-loop-less : tie.Need-loop-less Inv-loop μ-loop
-loop-less c = search needs
-
-loop-again : tie.Need-loop-again Inv-loop μ-loop
-loop-again c =
-    let p = c .before .before .before .pre in
-    let l = c .before .before .loop in
-    (omega arith, writing-more _ _ _ _ (l .inv .1) (omega arith) (omega arith))
-
-same-length : tie.Need-same-length Inv-loop μ-loop
-same-length c = c .before .loop .inv .1 .long
-
-returns : tie.Need-returns Inv-loop μ-loop
+returns : tie.Need-returns
 returns c =
-    let a = c .before .before .args in
-    let l = c .before .loop in
-    let e : l .i ≡ a .n = omega arith in
-    l .inv .1 .so-far ∙ ap (λ (k : ℕ). take k (now (a .codes)) ++ drop k (now (a .out))) e
+    let p = c .before .before .before .before .before .before .before .before .before .before .before .before .before .pre in
+    let s = now (c .before .before .before .before .before .before .before .before .before .before .before .before .before .args .codes) in
+    let d = now (c .before .before .before .before .before .before .before .before .before .before .before .before .before .args .out) in
+    let f = c .before .before .before .before .before .before .before .before .before .before .write-kind in
+    let g = c .before .before .before .before .before .before .write-kind2 in
+    let h = c .before .before .write-kind3 in
+    let v : Kinds s d (p .1) 1 (f .result) (f .last .1 .1 .1 .0) = kind-more s d (p .1) 0 (omega arith) 0 d (no-kind s d (p .1)) (f .result) (f .last .1 .1 .1 .0) (f .ensures .0) (f .ensures .1) in
+    let w : Kinds s d (p .1) 2 (g .result) (g .last .1 .1 .1 .0) = kind-more s d (p .1) 1 (omega arith) (f .result) (f .last .1 .1 .1 .0) v (g .result) (g .last .1 .1 .1 .0) (g .ensures .0) (g .ensures .1) in
+    let z : Kinds s d (p .1) 3 (h .result) (h .last .1 .1 .1 .0) = kind-more s d (p .1) 2 (omega arith) (g .result) (g .last .1 .1 .1 .0) w (h .result) (h .last .1 .1 .1 .0) (h .ensures .0) (h .ensures .1) in
+    z .left
 
 pub write-spec : {M : Type 1} → statement M
-write-spec =
-    tie.close
-    (tie.spec
-    Inv-loop
-    μ-loop
-    loop-holds
-    mul-out
-    element-copy-out-out
-    mul-out-2
-    slice-write-out
-    add-i
-    loop-less
-    loop-again
-    same-length
-    returns)
+write-spec = tie.close (tie.spec write-kind-requires write-kind-requires-2 write-kind-requires-3 same-length returns)

@@ -1,5 +1,7 @@
 use Rattle.printer.specs.Measures.{MeasuredTo}
 use Rattle.printer.proofs.Measuring.{measured-none, measured-turn}
+use Rattle.notation.specs.Printing.{treeAt}
+use Rattle.printer.proofs.Trees.{some-node}
 use mathlib.Core.Path.{_≡_, subst}
 use Prim.Native.Nat.{_-_, _≤_, _<_}
 use native.Mathlib.Omega.{arith}
@@ -17,18 +19,25 @@ abbrev μ-loop : tie.MeasureT-loop
 no-numbers-requires : tie.Need-no-numbers-requires Inv-loop μ-loop
 no-numbers-requires c κs = search needs
 
-no-depths-requires : tie.Need-no-depths-requires Inv-loop μ-loop
-no-depths-requires c κs = search needs
-
 no-numbers-requires-2 : tie.Need-no-numbers-requires-2 Inv-loop μ-loop
 no-numbers-requires-2 c κs = search needs
+
+no-lengths-requires : tie.Need-no-lengths-requires Inv-loop μ-loop
+no-lengths-requires c κs = search needs
 
 loop-holds : tie.Need-loop-holds Inv-loop μ-loop
 loop-holds c =
     let a = c .before .before .before .before .args in
     let g = c .before .before .before .before .pre .0 .layout .nodes in
     let n = c .before .before .before .before .pre .1 in
-    (omega arith, omega arith, measured-none (a .l) (now (a .card)) _ _ _ (c .before .before .no-numbers .ensures) (c .before .no-depths .ensures) (c .no-numbers2 .ensures))
+    (omega arith, omega arith, measured-none (a .l) (now (a .card)) _ _ _ (c .before .before .no-numbers .ensures) (c .before .no-numbers2 .ensures) (c .no-lengths .ensures))
+
+beside-own-requires : tie.Need-beside-own-requires Inv-loop μ-loop
+beside-own-requires c κs =
+    let a = c .before .before .before .before .before .before .before .before .before .before .args in
+    let e = c .measure-node .ensures .size in
+    let p = some-node (treeAt (a .l) (now (a .card)) (c .before .before .before .before .before .loop .i)) in
+    omega arith
 
 measure-node-requires : tie.Need-measure-node-requires Inv-loop μ-loop
 measure-node-requires c κs =
@@ -36,9 +45,6 @@ measure-node-requires c κs =
     let n = p .1 in
     let t = c .before .before .before .loop-test in
     (p .0, omega arith, c .before .before .before .before .loop .inv .2)
-
-mul-sizes : tie.Need-mul-sizes Inv-loop μ-loop
-mul-sizes c = search needs
 
 array-write-sizes : tie.Need-array-write-sizes Inv-loop μ-loop
 array-write-sizes c = search needs
@@ -60,11 +66,11 @@ loop-less c = search needs
 
 loop-again : tie.Need-loop-again Inv-loop μ-loop
 loop-again c =
-    let a = c .before .before .before .before .before .before .before .before .before .before .args in
-    let l = c .before .before .before .before .before .loop in
-    let t = c .before .before .before .before .loop-test in
+    let a = c .before .before .before .before .before .before .before .before .before .before .before .args in
+    let l = c .before .before .before .before .before .before .loop in
+    let t = c .before .before .before .before .before .loop-test in
     let n = l .inv .1 in
-    (omega arith, n, measured-turn (a .l) (now (a .card)) _ _ _ (l .i) (l .inv .2) _ _ _ (omega arith) (c .measure-node .ensures))
+    (omega arith, n, measured-turn (a .l) (now (a .card)) _ _ _ (l .i) (l .inv .2) _ _ _ _ (omega arith) (c .before .measure-node .ensures) (c .beside-own .ensures))
 
 measure-node-requires-2 : tie.Need-measure-node-requires-2 Inv-loop μ-loop
 measure-node-requires-2 c κs =
@@ -85,11 +91,11 @@ measure-spec =
     Inv-loop
     μ-loop
     no-numbers-requires
-    no-depths-requires
     no-numbers-requires-2
+    no-lengths-requires
     loop-holds
     measure-node-requires
-    mul-sizes
+    beside-own-requires
     array-write-sizes
     array-write-depths
     mul-lengths

@@ -20,14 +20,8 @@ kind-of-requires c κs = search needs
 kind-of-requires-2 : tie.Need-kind-of-requires-2
 kind-of-requires-2 c κs = search needs
 
-mul-size-by : tie.Need-mul-size-by
-mul-size-by c = search needs
-
 element-copy-out-size-by : tie.Need-element-copy-out-size-by
 element-copy-out-size-by c = search needs
-
-mul-size-by-2 : tie.Need-mul-size-by-2
-mul-size-by-2 c = search needs
 
 element-copy-out-size-by-2 : tie.Need-element-copy-out-size-by-2
 element-copy-out-size-by-2 c = search needs
@@ -82,9 +76,7 @@ measure-node-spec =
     cast-b
     kind-of-requires
     kind-of-requires-2
-    mul-size-by
     element-copy-out-size-by
-    mul-size-by-2
     element-copy-out-size-by-2
     size-by-requires
     element-copy-out-depth-by

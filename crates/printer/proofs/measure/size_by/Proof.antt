@@ -1,3 +1,4 @@
+use Prim.Native.Nat.{_+_}
 use Rattle.printer.proofs.Measures.{size-leaf, size-two}
 use native.Mathlib.Omega.{arith}
 use borrow.Author.Needs.{needs}
@@ -26,13 +27,13 @@ cast-result-2 : tie.Need-cast-result-2
 cast-result-2 c = search needs
 
 returns : tie.Need-returns
-returns c = let a = c .before .args in let e = size-leaf (a .kind) (a .a) (a .b) (omega arith) in omega arith
+returns c = let a = c .before .args in let e = size-leaf (a .kind) (a .a + 1) (a .b + 1) (omega arith) in omega arith
 
 returns-2 : tie.Need-returns-2
 returns-2 c = rw (c .before .if2 .taken) (omega arith)
 
 returns-3 : tie.Need-returns-3
-returns-3 c = let a = c .before .before .before .args in let e = size-two (a .kind) (a .a) (a .b) (omega arith) in omega arith
+returns-3 c = let a = c .before .before .before .args in let e = size-two (a .kind) (a .a + 1) (a .b + 1) (omega arith) in omega arith
 
 pub size-by-spec : {M : Type 1} → statement M
 size-by-spec =

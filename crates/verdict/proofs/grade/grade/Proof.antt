@@ -1,6 +1,7 @@
 use Rattle.meaning.specs.declared.Answer.the-variants.{Done}
 use Rattle.card.proofs.GoodCard.{good-card}
 use Rattle.meaning.proofs.Calls.{good-judged, refused-judged, grades-good, grades-refused}
+use Rattle.meaning.specs.Configurations.{empty}
 use Rattle.card.specs.Rows.{answerOf}
 use Rattle.runs.specs.declared.Verdict.{Verdict}
 use Rattle.runs.specs.declared.Offender.{Offender}
@@ -9,9 +10,6 @@ use borrow.Author.Needs.{needs}
 use denote.Ref.{now}
 use Rattle.verdict.proofs.grade.grade.Statement.{statement}
 use Rattle.verdict.proofs.grade.grade.Tie as tie
-
-empty-configuration-requires : tie.Need-empty-configuration-requires
-empty-configuration-requires c κs = search needs
 
 check-requires : tie.Need-check-requires
 check-requires c κs = search needs
@@ -27,41 +25,44 @@ answer-of-requires c κs = search needs
 
 returns : tie.Need-returns
 returns c =
-    let b = now (c .before .before .before .before .before .before .args .card) in
+    let b = now (c .before .before .before .before .before .args .card) in
     let told = c .before .enum-told .given .1 in
     let e = refused-judged b _ (sym (c .before .before .before .check .ensures) ∙ told) in
-    (λ i. record { answer = (c .answer-of .ensures ∙ ap answerOf told) i; verdict = Verdict.Open Offender.InitialPlan; configuration = c .before .before .before .before .empty-configuration .ensures i })
+    (λ i. record { answer = (c .answer-of .ensures ∙ ap answerOf told) i; verdict = Verdict.Open Offender.InitialPlan; configuration = empty })
     ∙ sym (grades-refused b _ e)
 
-sums-of-requires : tie.Need-sums-of-requires
-sums-of-requires c κs =
-    let b = now (c .before .before .before .before .before .before .args .card) in
-    let j = good-judged b _ (sym (c .before .before .before .check .ensures) ∙ c .before .v .given .1) in
-    good-card _ b (j .0) (j .1)
+no-sums-requires : tie.Need-no-sums-requires
+no-sums-requires c κs = search needs
+
+sum-requires : tie.Need-sum-requires
+sum-requires c κs =
+    let b = now (c .before .before .before .before .before .before .before .args .card) in
+    let j = good-judged b _ (sym (c .before .before .before .before .before .check .ensures) ∙ c .before .before .before .v .given .1) in
+    (good-card _ b (j .0) (j .1), c .before .no-sums .ensures)
 
 from-initial-requires : tie.Need-from-initial-requires
 from-initial-requires c κs =
-    let b = now (c .before .before .before .before .before .before .before .before .args .card) in
-    let j = good-judged b _ (sym (c .before .before .before .before .before .check .ensures) ∙ c .before .before .before .v .given .1) in
-    (good-card _ b (j .0) (j .1), c .before .sums-of .ensures)
+    let b = now (c .before .before .before .before .before .before .before .before .before .args .card) in
+    let j = good-judged b _ (sym (c .before .before .before .before .before .before .before .check .ensures) ∙ c .before .before .before .before .before .v .given .1) in
+    (good-card _ b (j .0) (j .1), c .before .sum .ensures)
 
 returns-2 : tie.Need-returns-2
 returns-2 c =
-    let b = now (c .before .before .before .before .before .before .before .before .before .args .card) in
-    let j = good-judged b _ (sym (c .before .before .before .before .before .before .check .ensures) ∙ c .before .before .before .before .v .given .1) in
-    (λ i. record { answer = Done; verdict = c .from-initial .ensures i; configuration = c .before .before .before .before .before .before .before .empty-configuration .ensures i })
+    let b = now (c .before .before .before .before .before .before .before .before .before .before .args .card) in
+    let j = good-judged b _ (sym (c .before .before .before .before .before .before .before .before .check .ensures) ∙ c .before .before .before .before .before .before .v .given .1) in
+    (λ i. record { answer = Done; verdict = c .from-initial .ensures i; configuration = empty })
     ∙ sym (grades-good b (j .0))
 
 pub grade-spec : {M : Type 1} → statement M
 grade-spec =
     tie.close
     (tie.spec
-    empty-configuration-requires
     check-requires
     enum-known-v
     enum-told
     answer-of-requires
     returns
-    sums-of-requires
+    no-sums-requires
+    sum-requires
     from-initial-requires
     returns-2)

@@ -7,6 +7,13 @@ use lib.ListN.{length}
 use Rattle.verdict.proofs.sums.plan_weight.Statement.{statement}
 use Rattle.verdict.proofs.sums.plan_weight.Tie as tie
 
+part-weight-requires : tie.Need-part-weight-requires
+part-weight-requires c κs = search needs
+
+returns : tie.Need-returns
+unfolding plan
+returns c = c .part-weight .ensures
+
 first-weight-requires : tie.Need-first-weight-requires
 first-weight-requires c κs = search needs
 
@@ -18,17 +25,17 @@ first-weight-requires-2 c κs = search needs
 
 sub-result : tie.Need-sub-result
 sub-result c =
-    let a = c .before .before .before .before .args in
+    let a = c .before .before .before .before .before .before .args in
     let b = now (a .card) in
     let e = weigh-part (weight b) b (a .l .pool .offset) (a .s .start) (a .s .length) in
     let f = c .before .before .first-weight .ensures in
     let g = c .first-weight2 .ensures in
     omega arith
 
-returns : tie.Need-returns
+returns-2 : tie.Need-returns-2
 unfolding plan
-returns c =
-    let a = c .before .before .before .before .args in
+returns-2 c =
+    let a = c .before .before .before .before .before .before .args in
     let b = now (a .card) in
     let e = weigh-part (weight b) b (a .l .pool .offset) (a .s .start) (a .s .length) in
     let f = c .before .before .first-weight .ensures in
@@ -38,4 +45,11 @@ returns c =
 pub plan-weight-spec : {M : Type 1} → statement M
 plan-weight-spec =
     tie.close
-    (tie.spec first-weight-requires add-first-weight first-weight-requires-2 sub-result returns)
+    (tie.spec
+    part-weight-requires
+    returns
+    first-weight-requires
+    add-first-weight
+    first-weight-requires-2
+    sub-result
+    returns-2)

@@ -6,8 +6,8 @@ use Prim.Native.Nat.{_+_, _*_, _/_, _%_}
 use native.Mathlib.Omega.{arith}
 use borrow.Author.Needs.{needs}
 use denote.Ref.{now}
-use Rattle.verdict.proofs.sums.first_weight.Statement.{statement}
-use Rattle.verdict.proofs.sums.first_weight.Tie as tie
+use Rattle.verdict.proofs.sums.from_below.Statement.{statement}
+use Rattle.verdict.proofs.sums.from_below.Tie as tie
 
 mul-part-weight : tie.Need-mul-part-weight
 mul-part-weight c = search needs
@@ -26,8 +26,8 @@ cast-result c =
     let a = c .before .before .before .args in
     let p = c .before .before .before .pre in
     let b = now (a .card) in
-    let e = p .1 (a .n / 16) (omega arith) in
-    let m = part-most (a .l) b (p .0) (a .l .pool .offset) (16 * (a .n / 16)) in
+    let e = p .1 (a .n / 32) (omega arith) in
+    let m = part-most (a .l) b (p .0) (a .l .pool .offset) (32 * (a .n / 32)) in
     omega arith
 
 add-result : tie.Need-add-result
@@ -36,11 +36,11 @@ add-result c =
     let p = c .before .before .before .pre in
     let b = now (a .card) in
     let at = a .l .pool .offset in
-    let k = a .n / 16 in
+    let k = a .n / 32 in
     let e = p .1 k (omega arith) in
-    let m = part-most (a .l) b (p .0) at (16 * k) in
+    let m = part-most (a .l) b (p .0) at (32 * k) in
     let f = c .before .part-weight .ensures in
-    let n = part-most (a .l) b (p .0) (at + 16 * k) (a .n % 16) in
+    let n = part-most (a .l) b (p .0) (at + 32 * k) (a .n % 32) in
     omega arith
 
 returns : tie.Need-returns
@@ -49,16 +49,16 @@ returns c =
     let p = c .before .before .before .pre in
     let b = now (a .card) in
     let at = a .l .pool .offset in
-    let k = a .n / 16 in
+    let k = a .n / 32 in
     let e = p .1 k (omega arith) in
     let f = c .before .part-weight .ensures in
-    let s = weigh-part (weight b) b at (16 * k) (a .n % 16) in
-    let n : 16 * k + a .n % 16 ≡ a .n = omega arith in
-    let t : weigh (weight b) (part b at (16 * k + a .n % 16)) ≡ weigh (weight b) (part b at (a .n)) = ap (λ x. weigh (weight b) (part b at x)) n in
+    let s = weigh-part (weight b) b at (32 * k) (a .n % 32) in
+    let n : 32 * k + a .n % 32 ≡ a .n = omega arith in
+    let t : weigh (weight b) (part b at (32 * k + a .n % 32)) ≡ weigh (weight b) (part b at (a .n)) = ap (λ x. weigh (weight b) (part b at x)) n in
     omega arith
 
-pub first-weight-spec : {M : Type 1} → statement M
-first-weight-spec =
+pub from-below-spec : {M : Type 1} → statement M
+from-below-spec =
     tie.close
     (tie.spec
     mul-part-weight

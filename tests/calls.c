@@ -1,0 +1,200 @@
+/* The calls and the cases of calls.h. */
+#include <string.h>
+
+#include "calls.h"
+#include "cards.h"
+#include "texts.h"
+
+enum { LENT = 0xEE };
+
+/* ---- the calls ---- */
+
+/* What they are made on, and the configuration that is lent. */
+static struct card_bytes card;
+static struct text_bytes text;
+static struct rigtemple_configuration held;
+static uint8_t kept[RIGTEMPLE_MOST_PLACE_BYTES];
+static uint16_t kept_len, choice, printed_node;
+
+struct lent lent;
+
+void lend(void)
+{
+    memset(&lent, LENT, sizeof lent);
+    memcpy(&lent.c, &held, sizeof held);
+}
+
+static uint16_t call_check(void)
+{
+    return rigtemple_check(card.bytes, card.len);
+}
+
+static uint16_t call_load(void)
+{
+    return rigtemple_load(card.bytes, card.len, &lent.made);
+}
+
+static uint16_t call_grade(void)
+{
+    return rigtemple_grade(card.bytes, card.len, &lent.verdict, &lent.offender, &lent.number);
+}
+
+static uint16_t call_list(void)
+{
+    return rigtemple_list(card.bytes, card.len, &lent.c, lent.list, RIGTEMPLE_MOST_LIST_ENTRIES,
+                          &lent.entries);
+}
+
+static uint16_t call_take(void)
+{
+    return rigtemple_take(card.bytes, card.len, &lent.c, choice, &lent.node);
+}
+
+static uint16_t call_run(void)
+{
+    return rigtemple_run(card.bytes, card.len, &lent.c, 500, &lent.moves, &lent.ending);
+}
+
+static uint16_t call_save(void)
+{
+    return rigtemple_save(card.bytes, card.len, &lent.c, lent.place, sizeof lent.place,
+                          &lent.bytes);
+}
+
+static uint16_t call_restore(void)
+{
+    return rigtemple_restore(card.bytes, card.len, kept, kept_len, &lent.made);
+}
+
+static uint16_t call_text(void)
+{
+    return rigtemple_text(text.bytes, text.len, lent.card, sizeof lent.card, &lent.bytes,
+                          &lent.wrong);
+}
+
+static uint16_t call_print(void)
+{
+    return rigtemple_print(card.bytes, card.len, printed_node, lent.text, sizeof lent.text,
+                           &lent.bytes);
+}
+
+enum { CHECK, LOAD, GRADE, LIST, TAKE, RUN, SAVE, RESTORE, TEXT, PRINT };
+
+const struct call calls[CALLS] = {
+    [CHECK] = {"check", call_check}, [LOAD] = {"load", call_load},
+    [GRADE] = {"grade", call_grade}, [LIST] = {"list", call_list},
+    [TAKE] = {"take", call_take},    [RUN] = {"run", call_run},
+    [SAVE] = {"save", call_save},    [RESTORE] = {"restore", call_restore},
+    [TEXT] = {"text", call_text},    [PRINT] = {"print", call_print},
+};
+
+/* ---- the cases ---- */
+
+const char *made_on, *made_with;
+
+/* The eight calls on the card and the configuration at hand, take with each of some choices. */
+static void each_of_eight(void (*visit)(unsigned call), const char *with)
+{
+    static const uint16_t choices[] = {0, 255, 256, 511, 512, 513, 767, 65535};
+    made_with = with;
+    for (unsigned call = CHECK; call <= RESTORE; call++)
+        if (call != TAKE)
+            visit(call);
+    for (unsigned i = 0; i < sizeof choices / sizeof choices[0]; i++) {
+        choice = choices[i];
+        visit(TAKE);
+    }
+}
+
+/* The configuration at hand in each phase; the place that is kept is its own. */
+static void each_phase(void (*visit)(unsigned call), const char *with)
+{
+    for (held.phase = 0; held.phase < 3; held.phase++) {
+        if (rigtemple_save(card.bytes, card.len, &held, kept, sizeof kept, &kept_len) != 0)
+            kept_len = 0;
+        each_of_eight(visit, with);
+    }
+}
+
+/* Every node of the card at hand, and one that it does not have. */
+static void each_node(void (*visit)(unsigned call), const char *on)
+{
+    made_on = on;
+    made_with = "a node";
+    for (printed_node = 0; printed_node <= 256; printed_node++)
+        visit(PRINT);
+}
+
+/* All calls but text on the card at hand; it may be refused, and its first configuration is then
+ * the empty one. */
+static void on_card(void (*visit)(unsigned call), const char *on)
+{
+    each_node(visit, on);
+    kept_len = 0;
+    if (rigtemple_load(card.bytes, card.len, &held) == 0)
+        each_of_eight(visit, "its first configuration");
+    memset(held.plan, 0, sizeof held.plan);
+    held.length = 0;
+    each_phase(visit, "no plan");
+    held.length = RIGTEMPLE_MOST_PLAN_ACTIONS;
+    each_phase(visit, "a plan of 1,024 actions");
+    each_of_eight(visit, "a configuration in phase 3");
+    memset(held.beliefs, 0, sizeof held.beliefs);
+    each_phase(visit, "a plan of 1,024 actions and no beliefs");
+    held.length = 0;
+    each_phase(visit, "no plan and no beliefs");
+}
+
+static void on_text(void (*visit)(unsigned call), const char *on)
+{
+    made_on = on;
+    made_with = "room for the largest card";
+    visit(TEXT);
+}
+
+static void each_text(void (*visit)(unsigned call))
+{
+    stripe_as_text(&text);
+    on_text(visit, "the stripe card's text");
+    full_text(&text);
+    on_text(visit, "a text of many lines");
+    deep_text(&text, 32);
+    on_text(visit, "brackets and ! 32 deep");
+    deep_text(&text, 34);
+    on_text(visit, "brackets and ! 34 deep");
+    brackets_text(&text, 32);
+    on_text(visit, "32 brackets");
+    brackets_text(&text, 33);
+    on_text(visit, "33 brackets");
+    nots_text(&text, 32);
+    on_text(visit, "32 !");
+    nots_text(&text, 33);
+    on_text(visit, "33 !");
+    open_text(&text, 60000);
+    on_text(visit, "60,000 open brackets");
+}
+
+void each_case(void (*visit)(unsigned call))
+{
+    stripe_card(&card);
+    on_card(visit, "the stripe card");
+    endless_stripe_card(&card);
+    on_card(visit, "the endless stripe card");
+    typical_card(&card);
+    on_card(visit, "the typical card");
+    worst_card(&card, 0);
+    on_card(visit, "the worst card that revises");
+    worst_card(&card, 1);
+    on_card(visit, "the worst card that acts");
+    shared_nodes_card(&card);
+    on_card(visit, "the shared-nodes card");
+    deepest_card(&card);
+    on_card(visit, "the deepest card");
+    card.len = 64;
+    on_card(visit, "a card cut to its header");
+    printed_list_card(&card);
+    each_node(visit, "the card that prints a list");
+    printed_deep_card(&card);
+    each_node(visit, "the card that prints 32 deep");
+    each_text(visit);
+}

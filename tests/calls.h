@@ -1,0 +1,48 @@
+/*
+ * The ten calls of include/rigtemple.h, each as a function without arguments, and the cases in
+ * which they are made: tests/stack.c measures the stack of these, and tests/bound.c holds these to
+ * their bounds.
+ */
+#ifndef RIGTEMPLE_TESTS_CALLS_H
+#define RIGTEMPLE_TESTS_CALLS_H
+
+#include "../include/rigtemple.h"
+
+enum { CALLS = 10 };
+
+/* A call through the header: `make` answers what it answers. */
+struct call {
+    const char *name;
+    uint16_t (*make)(void);
+};
+extern const struct call calls[CALLS];
+
+/* All that the calls may write; `made` is what load and restore make. */
+struct lent {
+    struct rigtemple_configuration c, made;
+    uint16_t list[RIGTEMPLE_MOST_LIST_ENTRIES], entries;
+    uint8_t verdict, offender, ending;
+    uint16_t number, node, moves;
+    uint8_t place[RIGTEMPLE_MOST_PLACE_BYTES];
+    uint8_t card[RIGTEMPLE_MOST_CARD_BYTES];
+    uint8_t text[RIGTEMPLE_MOST_PRINTED_BYTES];
+    uint16_t bytes;
+    size_t wrong;
+};
+extern struct lent lent;
+
+/* Lends it anew: `c` is the configuration of the case at hand, all else is filled. */
+void lend(void);
+
+/* The case at hand, in words: the card or text, and what else is given with it. */
+extern const char *made_on, *made_with;
+
+/* Visits every call, by its number in `calls`, in each of its cases. For the eight calls these are
+ * the stripe card, that one made endless, the typical card, the two worst, the shared-nodes card,
+ * the deepest card and a refused one, each with its first configuration, with no plan and with one
+ * of 1,024 actions, in each phase, with beliefs and without, and with a configuration that is
+ * refused; for print every node of these cards and of two that print much; for text texts with few
+ * and many lines, nested 32 to 34 deep, and 60,000 brackets deep. */
+void each_case(void (*visit)(unsigned call));
+
+#endif
