@@ -97,8 +97,8 @@ fn no_plan() -> [u8; 1024]
     [0u8; 1024]
 }
 
-// "An image of a configuration: beliefs, goals (16 bytes each …), plan length (2), phase (1), … the finished count (2), m (2, at most
-// 1,024), and the first m bytes of the plan's array; the rest of the array is zero."
+// "An image of a configuration: beliefs, goals (16 bytes each …), plan length (2), phase (1), … the finished count (2), m (2, at
+// most 1,024), and the first m bytes of the plan's array; the rest of the array is zero."
 fn next_image() -> Asked {
     let mut head = [0u8; 39];
     let mut plan = no_plan();

@@ -53,7 +53,8 @@ pub fn read_parts(p: &[u8]) -> PlaceParts
     }
 }
 
-// "Bytes 33 50 hex; edition 1 at 2; plan length L at 4; plan offset 44 at 6; phase at 8", and the finished count "in bytes 10 and 11".
+// "Bytes 33 50 hex; edition 1 at 2; plan length L at 4; plan offset 44 at 6; phase at 8", and the finished count "in bytes 10 and
+// 11".
 fn header_of(n: u16, phase: u8, finished: u16) -> [u8; 12]
     ensures { λ r. ⌜ r ≡ placeHeader n phase finished ⌝ }
 {

@@ -19,7 +19,7 @@ use meaning::Answer;
 use meaning::Checked;
 use meaning::Mind;
 
-// "plan length L at 4; … phase at 8; … beliefs at 12; goals at 28; the plan's L bytes at 44." The finished count stands "in bytes 10
+// "plan length L at 4; … phase at 8; … beliefs at 12; goals at 28; the plan's L bytes at 44.", and the finished count "in bytes 10
 // and 11".
 fn read(p: &[u8], plan: &mut [u8; 1024]) -> Mind
     requires { ⌜ Sized (now p) × (length (now plan) ≡ 1024) ⌝ }
