@@ -26,18 +26,18 @@ enum { ROOM = RIGTEMPLE_MOST_LIST_ENTRIES };
 struct calls {
     uint16_t (*check)(const uint8_t *, size_t);
     uint16_t (*load)(const uint8_t *, size_t, uint8_t *, uint8_t *, uint8_t *, uint16_t *,
-                     uint8_t *);
+                     uint8_t *, uint16_t *);
     uint16_t (*grade)(const uint8_t *, size_t, uint8_t *, uint8_t *, uint16_t *);
     uint16_t (*list)(const uint8_t *, size_t, const uint8_t *, const uint8_t *, const uint8_t *,
-                     uint16_t, uint8_t, uint16_t *, size_t, uint16_t *);
+                     uint16_t, uint8_t, uint16_t, uint16_t *, size_t, uint16_t *);
     uint16_t (*take)(const uint8_t *, size_t, uint8_t *, uint8_t *, uint8_t *, uint16_t *,
-                     uint8_t *, uint16_t, uint16_t *);
+                     uint8_t *, uint16_t *, uint16_t, uint16_t *);
     uint16_t (*run)(const uint8_t *, size_t, uint8_t *, uint8_t *, uint8_t *, uint16_t *, uint8_t *,
-                    uint16_t, uint16_t *, uint8_t *);
+                    uint16_t *, uint16_t, uint16_t *, uint8_t *);
     uint16_t (*save)(const uint8_t *, size_t, const uint8_t *, const uint8_t *, const uint8_t *,
-                     uint16_t, uint8_t, uint8_t *, size_t, uint16_t *);
+                     uint16_t, uint8_t, uint16_t, uint8_t *, size_t, uint16_t *);
     uint16_t (*restore)(const uint8_t *, size_t, const uint8_t *, size_t, uint8_t *, uint8_t *,
-                        uint8_t *, uint16_t *, uint8_t *);
+                        uint8_t *, uint16_t *, uint8_t *, uint16_t *);
 };
 
 static const struct calls ours = {
@@ -69,8 +69,8 @@ struct left {
 };
 
 /* The parts of the configuration `c` points to, as the calls take them. */
-#define PARTS(c) (c)->beliefs, (c)->goals, (c)->plan, &(c)->length, &(c)->phase
-#define PARTS_READ(c) (c)->beliefs, (c)->goals, (c)->plan, (c)->length, (c)->phase
+#define PARTS(c) (c)->beliefs, (c)->goals, (c)->plan, &(c)->length, &(c)->phase, &(c)->finished
+#define PARTS_READ(c) (c)->beliefs, (c)->goals, (c)->plan, (c)->length, (c)->phase, (c)->finished
 #define CARD(in) (in)->card.bytes, (in)->card.len
 
 /* ---- batches: each makes a call so many times ---- */

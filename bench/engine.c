@@ -1,5 +1,5 @@
 /*
- * The engine: document 01's eight calls in plain C, with document 02's wish 1.
+ * The engine: document 01's eight calls in plain C, with document 02's wishes 1 and 4.
  *
  * A card is checked once a call; after that nothing is tested that its acceptance settles. All
  * conditions are judged in one pass over the nodes, one mark a node, and again only when beliefs
@@ -39,6 +39,7 @@ enum { NONE, INITIAL_PLAN, SELECTION_RULE, REVISION_RULE };    /* the offenders 
 enum { NODE_BYTES = 4, SPECIFICATION_BYTES = 36, SELECTION_BYTES = 8, REVISION_BYTES = 12 };
 enum { SET_BYTES = 16, HEADER_BYTES = 64, PLACE_BYTES = 44 };
 enum { MOST_ENTRIES = 256, LONGEST_PLAN = 1024, LARGEST_POOL = 8192, MOST_CHOICES = 768 };
+enum { MOST_FINISHED = 65535 };
 enum { NO_MOVE = -1 };
 
 /* What a condition is made of; a number past the last node is UNKNOWN. */
@@ -62,6 +63,7 @@ struct parts {
     uint8_t *beliefs, *goals, *plan;
     uint16_t *length;
     uint8_t *phase;
+    uint16_t *finished;
 };
 
 /* ---- bytes ---- */
@@ -312,7 +314,7 @@ static int known_configuration(const struct card *c, const uint8_t *beliefs, con
 
 /* ---- load and grade ---- */
 
-/* The empty configuration: no atoms, empty plan, phase 0. */
+/* The empty configuration: no atoms, empty plan, phase 0, nothing finished. */
 static void empty(struct parts d)
 {
     memset(d.beliefs, 0, SET_BYTES);
@@ -320,11 +322,12 @@ static void empty(struct parts d)
     memset(d.plan, 0, LONGEST_PLAN);
     *d.length = 0;
     *d.phase = 0;
+    *d.finished = 0;
 }
 
 /* Writes a configuration. */
 static void fill(struct parts d, const uint8_t *beliefs, const uint8_t *goals, const uint8_t *plan,
-                 unsigned length, unsigned phase)
+                 unsigned length, unsigned phase, unsigned finished)
 {
     memcpy(d.beliefs, beliefs, SET_BYTES);
     memcpy(d.goals, goals, SET_BYTES);
@@ -332,18 +335,19 @@ static void fill(struct parts d, const uint8_t *beliefs, const uint8_t *goals, c
     memset(d.plan + length, 0, LONGEST_PLAN - length);
     *d.length = (uint16_t)length;
     *d.phase = (uint8_t)phase;
+    *d.finished = (uint16_t)finished;
 }
 
 uint16_t engine_load(const uint8_t *card, size_t card_len, uint8_t *beliefs, uint8_t *goals,
-                     uint8_t *plan, uint16_t *length, uint8_t *phase)
+                     uint8_t *plan, uint16_t *length, uint8_t *phase, uint16_t *finished)
 {
     struct card c;
-    struct parts d = {beliefs, goals, plan, length, phase};
+    struct parts d = {beliefs, goals, plan, length, phase, finished};
     uint16_t answer = check(card, card_len, &c);
     if (answer != DONE)
         empty(d);
     else
-        fill(d, card + 32, card + 48, c.pool + number(card + 28), number(card + 30), 0);
+        fill(d, card + 32, card + 48, c.pool + number(card + 28), number(card + 30), 0, 0);
     return answer;
 }
 
@@ -515,12 +519,13 @@ static int next_of_kind(const struct card *c, const uint8_t *mark, unsigned kind
 
 uint16_t engine_list(const uint8_t *card, size_t card_len, const uint8_t *beliefs,
                      const uint8_t *goals, const uint8_t *plan, uint16_t length, uint8_t phase,
-                     uint16_t *list, size_t list_len, uint16_t *count)
+                     uint16_t finished, uint16_t *list, size_t list_len, uint16_t *count)
 {
     struct card c;
     uint8_t mark[MOST_ENTRIES];
     uint16_t found[MOST_CHOICES];
     unsigned n = 0;
+    (void)finished;
     *count = 0;
     uint16_t answer = check(card, card_len, &c);
     if (answer != DONE)
@@ -541,6 +546,13 @@ uint16_t engine_list(const uint8_t *card, size_t card_len, const uint8_t *belief
 
 /* ---- moves ---- */
 
+/* "How many transitions have left the plan empty since load, stopping at 65,535", after one that
+ * leaves a plan of that length. */
+static inline unsigned finished_after(unsigned finished, unsigned length)
+{
+    return finished + (length == 0 && finished < MOST_FINISHED);
+}
+
 /* "Beliefs become (beliefs with Add) without Del. Goals become goals without Add." Whether either
  * has changed. */
 static int act(const uint8_t *specification, uint8_t *beliefs, uint8_t *goals)
@@ -556,7 +568,8 @@ static int act(const uint8_t *specification, uint8_t *beliefs, uint8_t *goals)
 }
 
 /* Puts `body` in the place of the plan's first `head_length` actions; what is left of a longer
- * plan at the end becomes zero. Whether it fits; if not, nothing changes. */
+ * plan at the end becomes zero, and a plan that is empty then is counted. Whether it fits; if not,
+ * nothing changes. */
 static int replace(struct parts d, unsigned head_length, const uint8_t *body, unsigned body_length)
 {
     unsigned old = *d.length, rest = old - head_length, new = rest + body_length;
@@ -567,6 +580,7 @@ static int replace(struct parts d, unsigned head_length, const uint8_t *body, un
     if (new < old)
         memset(d.plan + new, 0, old - new);
     *d.length = (uint16_t)new;
+    *d.finished = (uint16_t)finished_after(*d.finished, new);
     return 1;
 }
 
@@ -650,11 +664,11 @@ static uint16_t take_revision(const struct card *c, struct parts d, unsigned i, 
 }
 
 uint16_t engine_take(const uint8_t *card, size_t card_len, uint8_t *beliefs, uint8_t *goals,
-                     uint8_t *plan, uint16_t *length, uint8_t *phase, uint16_t choice,
-                     uint16_t *node)
+                     uint8_t *plan, uint16_t *length, uint8_t *phase, uint16_t *finished,
+                     uint16_t choice, uint16_t *node)
 {
     struct card c;
-    struct parts d = {beliefs, goals, plan, length, phase};
+    struct parts d = {beliefs, goals, plan, length, phase, finished};
     *node = 0;
     uint16_t answer = check(card, card_len, &c);
     if (answer != DONE)
@@ -679,7 +693,7 @@ uint16_t engine_take(const uint8_t *card, size_t card_len, uint8_t *beliefs, uin
 struct walk {
     const struct card *card;
     uint8_t *beliefs, *goals, *end;
-    unsigned length, phase;
+    unsigned length, phase, finished;
     uint8_t mark[MOST_ENTRIES];
 };
 
@@ -710,6 +724,7 @@ static inline int move(struct walk *w, unsigned kind, unsigned i)
             return 0;
     }
     w->phase = kind == REVISE ? SELECT : kind + 1;
+    w->finished = finished_after(w->finished, w->length);
     return 1;
 }
 
@@ -744,8 +759,8 @@ static unsigned walk(struct walk *w, unsigned budget, uint8_t *ending)
 }
 
 uint16_t engine_run(const uint8_t *card, size_t card_len, uint8_t *beliefs, uint8_t *goals,
-                    uint8_t *plan, uint16_t *length, uint8_t *phase, uint16_t budget,
-                    uint16_t *count, uint8_t *ending)
+                    uint8_t *plan, uint16_t *length, uint8_t *phase, uint16_t *finished,
+                    uint16_t budget, uint16_t *count, uint8_t *ending)
 {
     struct card c;
     struct walk w = {.card = &c, .beliefs = beliefs, .goals = goals, .end = plan + LONGEST_PLAN};
@@ -758,6 +773,7 @@ uint16_t engine_run(const uint8_t *card, size_t card_len, uint8_t *beliefs, uint
         return CONFIGURATION;
     w.length = *length;
     w.phase = *phase;
+    w.finished = *finished;
     memmove(w.end - w.length, plan, w.length);
     judge(&c, c.nodes, beliefs, goals, w.mark);
     *count = (uint16_t)walk(&w, budget, ending);
@@ -765,16 +781,17 @@ uint16_t engine_run(const uint8_t *card, size_t card_len, uint8_t *beliefs, uint
     memset(plan + w.length, 0, LONGEST_PLAN - w.length);
     *length = (uint16_t)w.length;
     *phase = (uint8_t)w.phase;
+    *finished = (uint16_t)w.finished;
     return DONE;
 }
 
 /* ---- save and restore ---- */
 
-/* "Bytes 33 50 hex; edition 1 at 2; plan length L at 4; plan offset 44 at 6; phase at 8; zero at
- * 10; beliefs at 12; goals at 28; the plan's L bytes at 44." */
+/* "Bytes 33 50 hex; edition 1 at 2; plan length L at 4; plan offset 44 at 6; phase at 8", the
+ * finished count "in bytes 10 and 11", "beliefs at 12; goals at 28; the plan's L bytes at 44". */
 uint16_t engine_save(const uint8_t *card, size_t card_len, const uint8_t *beliefs,
                      const uint8_t *goals, const uint8_t *plan, uint16_t length, uint8_t phase,
-                     uint8_t *place, size_t place_len, uint16_t *count)
+                     uint16_t finished, uint8_t *place, size_t place_len, uint16_t *count)
 {
     struct card c;
     *count = 0;
@@ -791,7 +808,7 @@ uint16_t engine_save(const uint8_t *card, size_t card_len, const uint8_t *belief
     put_number(place + 4, length);
     put_number(place + 6, PLACE_BYTES);
     put_number(place + 8, phase);
-    put_number(place + 10, 0);
+    put_number(place + 10, finished);
     memcpy(place + 12, beliefs, SET_BYTES);
     memcpy(place + 28, goals, SET_BYTES);
     memcpy(place + PLACE_BYTES, plan, length);
@@ -807,7 +824,7 @@ static uint16_t check_place(const struct card *c, const uint8_t *place, size_t p
     if (place[0] != 0x33 || place[1] != 0x50 || number(place + 2) != 1)
         return MARK;
     unsigned length = number(place + 4);
-    if (length > LONGEST_PLAN || number(place + 8) > 2 || number(place + 10) != 0)
+    if (length > LONGEST_PLAN || number(place + 8) > 2)
         return COUNT;
     if (number(place + 6) != PLACE_BYTES || place_len != PLACE_BYTES + length)
         return OFFSETS;
@@ -820,16 +837,17 @@ static uint16_t check_place(const struct card *c, const uint8_t *place, size_t p
 
 uint16_t engine_restore(const uint8_t *card, size_t card_len, const uint8_t *place,
                         size_t place_len, uint8_t *beliefs, uint8_t *goals, uint8_t *plan,
-                        uint16_t *length, uint8_t *phase)
+                        uint16_t *length, uint8_t *phase, uint16_t *finished)
 {
     struct card c;
-    struct parts d = {beliefs, goals, plan, length, phase};
+    struct parts d = {beliefs, goals, plan, length, phase, finished};
     uint16_t answer = check(card, card_len, &c);
     if (answer == DONE)
         answer = check_place(&c, place, place_len);
     if (answer != DONE)
         empty(d);
     else
-        fill(d, place + 12, place + 28, place + PLACE_BYTES, number(place + 4), number(place + 8));
+        fill(d, place + 12, place + 28, place + PLACE_BYTES, number(place + 4), number(place + 8),
+             number(place + 10));
     return answer;
 }

@@ -30,8 +30,8 @@ static uint8_t made[RIGTEMPLE_MOST_CARD_BYTES];
 static size_t wrong;
 
 #define CARD card.bytes, card.len
-#define PARTS c.beliefs, c.goals, c.plan, &c.length, &c.phase
-#define PARTS_READ c.beliefs, c.goals, c.plan, c.length, c.phase
+#define PARTS c.beliefs, c.goals, c.plan, &c.length, &c.phase, &c.finished
+#define PARTS_READ c.beliefs, c.goals, c.plan, c.length, c.phase, c.finished
 
 /* One call by the functions whose names begin and end as told. */
 #define CALL(of, parts)                                                                       \

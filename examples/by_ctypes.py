@@ -1,8 +1,9 @@
 #!/usr/bin/env python3
 """The library from Python, by ctypes: python3 by_ctypes.py LIBRIGTEMPLE.SO CARD
 
-Loads a card and runs it for 1,000 moves at most; saves the place, restores it and says whether it is the same configuration. A refusal
-ends the program with status 1. HOW-TO-LINK.txt of the library's folder makes the shared object from the archive.
+Loads a card, runs it for 1,000 moves at most and says how many bands are finished; saves the place, restores it and says whether it is
+the same configuration. A refusal ends the program with status 1. HOW-TO-LINK.txt of the library's folder makes the shared object from
+the archive.
 
 The symbols of the library are the ten functions `rigtemple_..._parts`, over the parts of a configuration: what rigtemple.h calls
 `rigtemple_load` and so on is made of them in the header. Declare all their types: an undeclared length would be passed as 32 bits.
@@ -15,8 +16,8 @@ from ctypes import POINTER, byref, c_char_p, c_size_t, c_uint8, c_uint16
 ENDINGS = ("spent", "rest", "full")
 CARD = (c_char_p, c_size_t)
 SETS_AND_PLAN = (POINTER(c_uint8), POINTER(c_uint8), POINTER(c_uint8))
-READ = (*SETS_AND_PLAN, c_uint16, c_uint8)
-LENT = (*SETS_AND_PLAN, POINTER(c_uint16), POINTER(c_uint8))
+READ = (*SETS_AND_PLAN, c_uint16, c_uint8, c_uint16)
+LENT = (*SETS_AND_PLAN, POINTER(c_uint16), POINTER(c_uint8), POINTER(c_uint16))
 CALLS = {
     "check": CARD,
     "load": (*CARD, *LENT),
@@ -36,16 +37,17 @@ class Configuration:
 
     def __init__(self):
         self.beliefs, self.goals, self.plan = (c_uint8 * 16)(), (c_uint8 * 16)(), (c_uint8 * 1024)()
-        self.length, self.phase = c_uint16(), c_uint8()
+        self.length, self.phase, self.finished = c_uint16(), c_uint8(), c_uint16()
 
     def read(self):
-        return self.beliefs, self.goals, self.plan, self.length, self.phase
+        return self.beliefs, self.goals, self.plan, self.length, self.phase, self.finished
 
     def lent(self):
-        return self.beliefs, self.goals, self.plan, byref(self.length), byref(self.phase)
+        return self.beliefs, self.goals, self.plan, byref(self.length), byref(self.phase), byref(self.finished)
 
     def whole(self):
-        return bytes(self.beliefs), bytes(self.goals), bytes(self.plan), self.length.value, self.phase.value
+        numbers = self.length.value, self.phase.value, self.finished.value
+        return bytes(self.beliefs), bytes(self.goals), bytes(self.plan), numbers
 
 
 class Guide:
@@ -72,6 +74,7 @@ def main(library, name):
     guide("load", *c.lent())
     guide("run", *c.lent(), 1000, byref(moves), byref(ending))
     print("%s after %d moves" % (ENDINGS[ending.value], moves.value))
+    print("bands finished: %d" % c.finished.value)
     guide("save", *c.read(), place, len(place), byref(size))
     guide("restore", place, size.value, *restored.lent())
     print("a place of %d bytes, restored %s" % (size.value, "the same" if restored.whole() == c.whole() else "as another"))

@@ -1,10 +1,10 @@
 /*
  * A weaving guide in a terminal: turned_screen CARD PLACE
  *
- * It shows the moves that are possible in the card and makes one for each line of input: an empty
- * line for the guide's own, the code of a choice for that one; of a choice that is closed it tells
- * why. The end of the input is the turn of the screen: the program ends, and the next one goes on
- * from the file PLACE.
+ * It shows how many bands are finished and the moves that are possible in the card, and makes one
+ * for each line of input: an empty line for the guide's own, the code of a choice for that one; of
+ * a choice that is closed it tells why. The end of the input is the turn of the screen: the program
+ * ends, and the next one goes on from the file PLACE.
  *
  * Nothing is shown before it is kept. Where there is no file PLACE the card begins; a file that is
  * there is restored, an empty one too, and one that is refused is told and left as it is.
@@ -150,7 +150,7 @@ static int save(const char *name, const struct rigtemple_configuration *c)
     return why == 0 ? 0 : failed("the place is not kept in", name, why);
 }
 
-/* Shows the choices: the room of a list is in entries. */
+/* Shows the finished count and the choices: the room of a list is in entries. */
 static int show(const struct rigtemple_configuration *c)
 {
     static const char *const kinds[] = {"select", "act", "revise"};
@@ -159,6 +159,7 @@ static int show(const struct rigtemple_configuration *c)
         rigtemple_list(card, card_len, c, list, sizeof list / sizeof list[0], &entries);
     if (answer != RIGTEMPLE_ANSWER_DONE)
         return refused("the list", answer);
+    printf("bands finished: %d\n", c->finished);
     printf("%d actions in the plan\n", c->length);
     for (i = 0; i < entries; i++)
         printf("  %d: %s %d\n", list[i], kinds[RIGTEMPLE_KIND_OF(list[i])],

@@ -3,10 +3,11 @@
  *
  * A card is a pattern: the bytes of a file, which the guide only reads. A configuration
  * is where a weaver stands in it: what is believed of the warp, which goals are open, the
- * plan of actions still to be done, and the phase. A place is a configuration as bytes to
- * keep. The ten calls below check and grade a card, make the first configuration, list the
- * moves that are possible, take one, run by themselves, save and restore a place, make a card
- * from a designer's text, and print a condition of a card as such text.
+ * plan of actions still to be done, the phase, and how many plans are finished. A place is a
+ * configuration as bytes to keep. The ten calls below check and grade a card, make the first
+ * configuration, list the moves that are possible, take one, run by themselves, save and
+ * restore a place, make a card from a designer's text, and print a condition of a card as such
+ * text.
  *
  * What holds for every call:
  *
@@ -23,13 +24,13 @@
  *  - A card may be any bytes at all: it is judged anew in each call, and a card that is
  *    not good is refused with 1 to 9.
  *
- * Memory to lend: the card (RIGTEMPLE_MOST_CARD_BYTES), a configuration (1,060 bytes), a list
+ * Memory to lend: the card (RIGTEMPLE_MOST_CARD_BYTES), a configuration (1,062 bytes), a list
  * of RIGTEMPLE_MOST_LIST_ENTRIES (1,536 bytes) and a place of RIGTEMPLE_MOST_PLACE_BYTES are
- * always enough: 27,792 bytes together. To print takes RIGTEMPLE_MOST_PRINTED_BYTES; a text to be
+ * always enough: 27,794 bytes together. To print takes RIGTEMPLE_MOST_PRINTED_BYTES; a text to be
  * read has no limit.
  *
- * Bytes of stack, as tests/stack.sh measures them on x86-64: check 560, load 688, grade 2,000,
- * list 1,168, take 1,296, run 1,408, save 688, restore 768, text 33,536 (24,976 where nothing
+ * Bytes of stack, as tests/stack.sh measures them on x86-64: check 560, load 720, grade 2,000,
+ * list 1,184, take 1,328, run 1,408, save 704, restore 768, text 33,536 (24,976 where nothing
  * nests, 128 more for the first bracket and 272 for each further one), print 1,904. All but text
  * run on a stack of 2,048.
  *
@@ -50,9 +51,9 @@ extern "C" {
 
 /* The version of this header's interface. The first number rises with a change that an app has
  * to follow, and the second is then 0; the second rises with what is only added. */
-#define RIGTEMPLE_VERSION "2.1"
-#define RIGTEMPLE_VERSION_FIRST 2
-#define RIGTEMPLE_VERSION_SECOND 1
+#define RIGTEMPLE_VERSION "3.0"
+#define RIGTEMPLE_VERSION_FIRST 3
+#define RIGTEMPLE_VERSION_SECOND 0
 
 /* Marks an answer that must not be ignored, for the compilers that know it. */
 #if defined(__cplusplus) && __cplusplus >= 201703L
@@ -117,7 +118,7 @@ static inline const char *rigtemple_answer_sentence(uint16_t answer)
         "the first two bytes are not 33 41 hex (a card) or 33 50 hex (a place), or the edition "
         "is not 1",
         "the number of atoms, of actions or of a section's entries or bytes is out of range; in a "
-        "place the plan is over 1,024, the phase over 2, or bytes 10 and 11 are not zero",
+        "place the plan is over 1,024 or the phase over 2",
         "an offset or the total length is not the required one",
         "an action's weight is 0 or over 1,024",
         "a node has an unknown kind, an unknown atom, a child that is not lower, or a field that "
@@ -180,16 +181,21 @@ static inline const char *rigtemple_answer_sentence(uint16_t answer)
 /* A configuration. Atom k is in a set if bit (k modulo 8) of byte (k divided by 8) is 1. The
  * plan is the first `length` bytes of `plan`, one action each, next action first; all bytes
  * after them are zero. The phase (0, 1 or 2) is the kind of move that the guide tries first:
- * it is part of the place as much as the plan is. The empty configuration is all zeros, and
- * every good card accepts it: after a refused load or restore a run from it may rest at once,
- * like a pattern that is done, so look at the answer first. Compare two by their members: the
- * struct may end with padding that no call writes. */
+ * it is part of the place as much as the plan is. `finished` is how many moves have left the
+ * plan empty since the card was loaded, and an app shows it as it is: "bands finished". It counts
+ * an action that was the plan's last and a revision that leaves nothing, the guide's own and
+ * chosen ones alike; at 65,535 it stays, and moves are taken all the same. No move depends on it,
+ * and no value of it is refused. The empty configuration is all zeros, and every good card
+ * accepts it: after a refused load or restore a run from it may rest at once, like a pattern that
+ * is done, so look at the answer first. Compare two by their members: the struct may have padding
+ * that no call writes. */
 struct rigtemple_configuration {
     uint8_t beliefs[RIGTEMPLE_SET_BYTES];
     uint8_t goals[RIGTEMPLE_SET_BYTES];
     uint8_t plan[RIGTEMPLE_MOST_PLAN_ACTIONS];
     uint16_t length;
     uint8_t phase;
+    uint16_t finished;
 };
 
 /* ---- the functions of the library: the ten calls over the parts of a configuration.
@@ -200,7 +206,8 @@ uint16_t rigtemple_check_parts(const uint8_t *card, size_t card_len);
 
 RIGTEMPLE_LOOK_AT_ANSWER
 uint16_t rigtemple_load_parts(const uint8_t *card, size_t card_len, uint8_t *beliefs,
-                              uint8_t *goals, uint8_t *plan, uint16_t *length, uint8_t *phase);
+                              uint8_t *goals, uint8_t *plan, uint16_t *length, uint8_t *phase,
+                              uint16_t *finished);
 
 RIGTEMPLE_LOOK_AT_ANSWER
 uint16_t rigtemple_grade_parts(const uint8_t *card, size_t card_len, uint8_t *verdict,
@@ -209,29 +216,31 @@ uint16_t rigtemple_grade_parts(const uint8_t *card, size_t card_len, uint8_t *ve
 RIGTEMPLE_LOOK_AT_ANSWER
 uint16_t rigtemple_list_parts(const uint8_t *card, size_t card_len, const uint8_t *beliefs,
                               const uint8_t *goals, const uint8_t *plan, uint16_t length,
-                              uint8_t phase, uint16_t *list, size_t room_in_entries,
-                              uint16_t *entries);
+                              uint8_t phase, uint16_t finished, uint16_t *list,
+                              size_t room_in_entries, uint16_t *entries);
 
 RIGTEMPLE_LOOK_AT_ANSWER
 uint16_t rigtemple_take_parts(const uint8_t *card, size_t card_len, uint8_t *beliefs,
                               uint8_t *goals, uint8_t *plan, uint16_t *length, uint8_t *phase,
-                              uint16_t choice, uint16_t *node);
+                              uint16_t *finished, uint16_t choice, uint16_t *node);
 
 RIGTEMPLE_LOOK_AT_ANSWER
 uint16_t rigtemple_run_parts(const uint8_t *card, size_t card_len, uint8_t *beliefs,
                              uint8_t *goals, uint8_t *plan, uint16_t *length, uint8_t *phase,
-                             uint16_t budget, uint16_t *moves, uint8_t *ending);
+                             uint16_t *finished, uint16_t budget, uint16_t *moves,
+                             uint8_t *ending);
 
 RIGTEMPLE_LOOK_AT_ANSWER
 uint16_t rigtemple_save_parts(const uint8_t *card, size_t card_len, const uint8_t *beliefs,
                               const uint8_t *goals, const uint8_t *plan, uint16_t length,
-                              uint8_t phase, uint8_t *place, size_t room_in_bytes,
-                              uint16_t *bytes);
+                              uint8_t phase, uint16_t finished, uint8_t *place,
+                              size_t room_in_bytes, uint16_t *bytes);
 
 RIGTEMPLE_LOOK_AT_ANSWER
 uint16_t rigtemple_restore_parts(const uint8_t *card, size_t card_len, const uint8_t *place,
                                  size_t place_len, uint8_t *beliefs, uint8_t *goals,
-                                 uint8_t *plan, uint16_t *length, uint8_t *phase);
+                                 uint8_t *plan, uint16_t *length, uint8_t *phase,
+                                 uint16_t *finished);
 
 RIGTEMPLE_LOOK_AT_ANSWER
 uint16_t rigtemple_text_parts(const uint8_t *text, size_t text_len, uint8_t *card,
@@ -252,7 +261,7 @@ static inline uint16_t rigtemple_check(const uint8_t *card, size_t card_len)
 }
 
 /* Makes the configuration that a weaver begins with: the card's initial beliefs, goals and
- * plan, and phase 0.
+ * plan, phase 0, and nothing finished, also where the initial plan is empty.
  * Answers 0, or 1 to 9. `c` is written in each case; a refusal leaves the empty
  * configuration in it. */
 RIGTEMPLE_LOOK_AT_ANSWER
@@ -260,7 +269,7 @@ static inline uint16_t rigtemple_load(const uint8_t *card, size_t card_len,
                                       struct rigtemple_configuration *c)
 {
     return rigtemple_load_parts(card, card_len, c->beliefs, c->goals, c->plan, &c->length,
-                                &c->phase);
+                                &c->phase, &c->finished);
 }
 
 /* Grades a card: bounded or open, and if open what the first offender is: the initial plan,
@@ -276,8 +285,8 @@ static inline uint16_t rigtemple_grade(const uint8_t *card, size_t card_len, uin
     return rigtemple_grade_parts(card, card_len, verdict, offender, number);
 }
 
-/* Lists every enabled choice, as codes, rising, each once. The phase does not matter to it, nor
- * whether the plan that a choice leaves would fit.
+/* Lists every enabled choice, as codes, rising, each once. The phase and `finished` do not matter
+ * to it, nor whether the plan that a choice leaves would fit.
  * `room_in_entries` is how many codes `list` can hold, not its bytes;
  * RIGTEMPLE_MOST_LIST_ENTRIES are always enough. The codes are written to the front of `list`
  * and their number to `entries`; what lies after them stays.
@@ -289,10 +298,11 @@ static inline uint16_t rigtemple_list(const uint8_t *card, size_t card_len,
                                       size_t room_in_entries, uint16_t *entries)
 {
     return rigtemple_list_parts(card, card_len, c->beliefs, c->goals, c->plan, c->length,
-                                c->phase, list, room_in_entries, entries);
+                                c->phase, c->finished, list, room_in_entries, entries);
 }
 
-/* Takes the move that the weaver chose, and changes `c` to what it leaves.
+/* Takes the move that the weaver chose, and changes `c` to what it leaves; where that is an empty
+ * plan, `finished` is one more.
  * Answers 0, or 1 to 9, 13, or why the move is closed: 14 if the card has no rule or specification
  * of that number (any code may be given), 15 if the front of the plan is not the one that the move
  * needs, 16 if a condition is false; or 11 if the plan would get too long. A move is closed, and
@@ -308,10 +318,11 @@ static inline uint16_t rigtemple_take(const uint8_t *card, size_t card_len,
                                       uint16_t *node)
 {
     return rigtemple_take_parts(card, card_len, c->beliefs, c->goals, c->plan, &c->length,
-                                &c->phase, choice, node);
+                                &c->phase, &c->finished, choice, node);
 }
 
-/* Runs by itself, for `budget` moves at most, and changes `c` to the configuration reached.
+/* Runs by itself, for `budget` moves at most, and changes `c` to the configuration reached;
+ * `finished` is one more for each move that left the plan empty.
  * `moves` becomes the number of moves taken and `ending` why it stopped: spent, rest or full.
  * The budget is looked at first: a run of budget 0 is spent, at rest too. To know which move a
  * run of budget 1 made: its kind is the phase afterwards minus 1, modulo 3, and its number the
@@ -324,13 +335,13 @@ static inline uint16_t rigtemple_run(const uint8_t *card, size_t card_len,
                                      uint16_t *moves, uint8_t *ending)
 {
     return rigtemple_run_parts(card, card_len, c->beliefs, c->goals, c->plan, &c->length,
-                               &c->phase, budget, moves, ending);
+                               &c->phase, &c->finished, budget, moves, ending);
 }
 
 /* Saves a configuration as a place. `room_in_bytes` is how many bytes `place` has;
  * RIGTEMPLE_MOST_PLACE_BYTES are always enough. Writes 44 bytes and one for each action of the
- * plan, no others, and their number to `bytes`. A place does not say which card it came from:
- * keep that beside it.
+ * plan, no others, and their number to `bytes`. `finished` stands in bytes 10 and 11 of them, low
+ * byte first. A place does not say which card it came from: keep that beside it.
  * Answers 0, or 1 to 9, 13, or 12 if the room is too short. A refusal writes nothing to
  * `place`, and 0 to `bytes`. */
 RIGTEMPLE_LOOK_AT_ANSWER
@@ -339,12 +350,13 @@ static inline uint16_t rigtemple_save(const uint8_t *card, size_t card_len,
                                       size_t room_in_bytes, uint16_t *bytes)
 {
     return rigtemple_save_parts(card, card_len, c->beliefs, c->goals, c->plan, c->length,
-                                c->phase, place, room_in_bytes, bytes);
+                                c->phase, c->finished, place, room_in_bytes, bytes);
 }
 
-/* Restores the configuration that was saved: `place_len` is the number that rigtemple_save
- * gave as its bytes, no more and no less. The place may be any bytes at all and is judged
- * against the card it is given with.
+/* Restores the configuration that was saved, `finished` too: `place_len` is the number that
+ * rigtemple_save gave as its bytes, no more and no less. The place may be any bytes at all and is
+ * judged against the card it is given with; bytes 10 and 11 may have any value, and a place in
+ * which they are zero has nothing finished.
  * Answers 0, or 1 to 9 for the card, or 1, 2, 3, 4, 8 or 9 for the place; ask rigtemple_check
  * which of the two it was. `c` is written in each case; a refusal leaves the empty
  * configuration in it. */
@@ -354,7 +366,7 @@ static inline uint16_t rigtemple_restore(const uint8_t *card, size_t card_len,
                                          struct rigtemple_configuration *c)
 {
     return rigtemple_restore_parts(card, card_len, place, place_len, c->beliefs, c->goals, c->plan,
-                                   &c->length, &c->phase);
+                                   &c->length, &c->phase, &c->finished);
 }
 
 /* Makes a card from a text, as docs/TEXT.md has its grammar. `room_in_bytes` is how many bytes

@@ -188,8 +188,9 @@ def card(description):
 @dataclass
 class PlaceDescription:
     """A place: "bytes 33 50 hex; edition 1 at 2; plan length L at 4; plan offset
-    44 at 6; phase at 8; zero at 10; beliefs at 12; goals at 28; the plan's L
-    bytes at 44". `length` stands for L where it is not the plan's own."""
+    44 at 6; phase at 8; ... beliefs at 12; goals at 28; the plan's L bytes at 44",
+    and the finished count "in bytes 10 and 11". `length` stands for L where it is not
+    the plan's own."""
 
     plan: bytes = b""
     phase: int = 0
@@ -199,7 +200,7 @@ class PlaceDescription:
     edition: int = 1
     length: int = None
     offset: int = 44
-    zero: int = 0
+    finished: int = 0
     rest: bytes = b""
     cut: int = None
 
@@ -207,7 +208,8 @@ class PlaceDescription:
 def place(description):
     """The bytes of a place."""
     length = len(description.plan) if description.length is None else description.length
-    numbers = (description.edition, length, description.offset, description.phase, description.zero)
+    numbers = (description.edition, length, description.offset)
+    numbers += (description.phase, description.finished)
     whole = description.mark + struct.pack("<5H", *numbers)
     whole += description.beliefs + description.goals + description.plan + description.rest
     return whole if description.cut is None else whole[:description.cut]

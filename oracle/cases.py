@@ -138,6 +138,7 @@ def random_configuration(random, accepted):
         damage.padded(plan),
         len(plan),
         random.randrange(3),
+        damage.random_count(random),
     )
 
 
@@ -148,13 +149,16 @@ def some_configurations(random, card, accepted):
     met = walk(random, card, loaded, random.choice((1, 3, 8, 25)))
     far = walk(random, card, other, random.choice((1, 2, 6)))
     chosen = [random.choice(met), random.choice(far), met[-1]]
-    return [loaded] + [varied_phase(random, held) for held in chosen]
+    return [loaded] + [varied(random, held) for held in chosen]
 
 
-def varied_phase(random, configuration):
-    """The configuration, now and then in another phase."""
+def varied(random, configuration):
+    """The configuration, now and then in another phase or with another finished
+    count."""
     if random.random() < 0.3:
-        return configuration._replace(phase=random.randrange(3))
+        configuration = configuration._replace(phase=random.randrange(3))
+    if random.random() < 0.3:
+        configuration = configuration._replace(finished=damage.random_count(random))
     return configuration
 
 
@@ -249,6 +253,20 @@ def closed_requests(random, accepted):
     return made
 
 
+def emptying_requests(random, accepted):
+    """Takes of an action and of a revision that leave the plan empty, and now and then
+    a run from there, with counts up to the most."""
+    made = []
+    for kind in (guide.ACTION, guide.REVISION):
+        found = damage.emptying_configuration(random, accepted, kind)
+        if found is not None:
+            made.append(request_about(random, drill.TAKE, *found))
+            if random.random() < 0.3:
+                budget = random.choice((1, 2, 7))
+                made.append(request_about(random, drill.RUN, found[0], budget))
+    return made
+
+
 def call_of_kind(random, kind, configuration):
     """A list, take, run or save on a configuration, with some number."""
     value = {
@@ -284,6 +302,7 @@ def place_description(configuration):
         phase=configuration.phase,
         beliefs=configuration.beliefs,
         goals=configuration.goals,
+        finished=configuration.finished,
     )
 
 
@@ -311,6 +330,7 @@ def good_requests(random, card):
     held = some_configurations(random, card, accepted)
     made += full_requests(random, accepted)
     made += closed_requests(random, accepted)
+    made += emptying_requests(random, accepted)
     made += damaged_configuration_requests(random, accepted, held)
     made += damaged_place_requests(random, accepted, held)
     for configuration in held:

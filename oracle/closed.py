@@ -23,10 +23,11 @@ class Closed(NamedTuple):
     node: int
 
 
-def configuration(beliefs=(), goals=(), plan=(), phase=0):
+def configuration(beliefs=(), goals=(), plan=(), phase=0, finished=0):
     """A configuration from atoms and actions."""
     array = bytes(plan).ljust(guide.PLAN_LIMIT, b"\0")
-    return guide.Configuration(cards.atoms_set(*beliefs), cards.atoms_set(*goals), array, len(plan), phase)
+    sets = cards.atoms_set(*beliefs), cards.atoms_set(*goals)
+    return guide.Configuration(*sets, array, len(plan), phase, finished)
 
 
 # --- the cards --------------------------------------------------------------

@@ -894,17 +894,17 @@ PLACE_DAMAGES = (
         for phase in (3, 4, 255, 256, 258, 512, 65535)
     ]
     + [
-        Damage("place count: zero %d" % zero, 3, place_put(zero=zero))
-        for zero in (1, 255, 256, 65280, 65535)
-    ]
-    + [
         Damage("place offsets: offset %d" % offset, 4, place_put(offset=offset))
         for offset in (0, 43, 45, 256, 300, 65535)
     ]
     + [
         Damage("place offsets: one byte more", 4, place_put(rest=b"\0")),
         Damage("place offsets: many bytes more", 4, place_put(rest=bytes(1500))),
-        Damage("place offsets: L one more", 4, place_put(length=plan_length(1))),
+        Damage(
+            "place offsets: L one more",
+            4,
+            place_put(plan=lambda d: d.plan[:1023], length=plan_length(1)),
+        ),
         Damage("place offsets: L one less", 4, place_put(plan=lambda d: d.plan or b"\0", length=plan_length(-1))),
         Damage("place offsets: L 256 more", 4, place_put(plan=lambda d: d.plan[:700], length=plan_length(256))),
         Damage("place offsets: header alone, L 1", 4, place_put(plan=b"", length=1)),
@@ -932,10 +932,16 @@ def place_long(length):
     return change
 
 
+# Finished counts: each of bytes 10 and 11 zero and not zero, and around 65,535.
+COUNTS = (0, 1, 2, 255, 256, 257, 65280, 65533, 65534, 65535)
+
+
 PLACE_RANGES = [
     Damage("place range: plan of %d" % length, 0, place_long(length)) for length in (0, 1, 1023, 1024)
 ] + [
     Damage("place range: phase %d" % phase, 0, place_put(phase=phase)) for phase in (0, 1, 2)
+] + [
+    Damage("place range: finished %d" % count, 0, place_put(finished=count)) for count in COUNTS
 ] + [
     Damage("place range: the last atom believed", 0, place_atom("beliefs", -1)),
     Damage("place range: the last atom a goal", 0, place_atom("goals", -1)),
@@ -973,6 +979,11 @@ def with_length(length):
 def with_phase(phase):
     """The same configuration in another phase."""
     return lambda random, card, held: held._replace(phase=phase)
+
+
+def with_finished(count):
+    """The same configuration with another finished count."""
+    return lambda random, card, held: held._replace(finished=count)
 
 
 def with_action(above):
@@ -1064,6 +1075,9 @@ CONFIGURATION_RANGES = [
 ] + [
     Damage("configuration range: phase %d" % phase, 0, with_phase(phase)) for phase in (0, 1, 2)
 ] + [
+    Damage("configuration range: finished %d" % count, 0, with_finished(count))
+    for count in (1, 256, 65534, 65535)
+] + [
     Damage("configuration range: length 1,024 over the same array", 0, with_length(1024)),
     Damage("configuration range: the last action", 0, with_action(-1)),
     Damage("configuration range: the last atom believed", 0, with_belief_or_goal("beliefs", -1)),
@@ -1102,7 +1116,8 @@ def fitting_configuration(random, card, kind, n):
     the card's atoms."""
     plan = fitting_plan(random, card, kind, n)
     sets = random_atoms(random, card.atoms), random_atoms(random, card.atoms)
-    return guide.Configuration(*sets, padded(plan), len(plan), random.randrange(3))
+    phase, finished = random.randrange(3), random_count(random)
+    return guide.Configuration(*sets, padded(plan), len(plan), phase, finished)
 
 
 def closed_configuration(random, card, kind):
@@ -1118,6 +1133,22 @@ def closed_configuration(random, card, kind):
         if false is not None:
             found[false - guide.judged(card, held, false).settled] = held, 256 * kind + n
     return found[max(found)] if found else None
+
+
+def emptying_configuration(random, card, kind):
+    """A configuration whose plan some transition of a kind leaves empty, with the
+    transition's code: a last action, or a whole plan revised to nothing. None where no
+    entry of the kind does so under the beliefs tried."""
+    entries = guide.entries_of_kind(card, kind)
+    fitting = [n for n in range(len(entries)) if kind == guide.ACTION or entries[n].body == b""]
+    for _ in range(4 if fitting else 0):
+        n = random.choice(fitting)
+        plan = bytes([entries[n].action]) if kind == guide.ACTION else entries[n].head
+        held = fitting_configuration(random, card, kind, n)
+        held = held._replace(plan=padded(plan), length=len(plan))
+        if guide.is_enabled(card, held, kind, n):
+            return held, 256 * kind + n
+    return None
 
 
 def rooms_around(needed, most):
@@ -1140,9 +1171,9 @@ def full_configuration(random, card, over):
     rest = bytes(random.randrange(card.actions) for _ in range(length - len(rule.head)))
     for _ in range(6):
         beliefs = random_atoms(random, card.atoms)
-        held = guide.Configuration(
-            beliefs, card.goals, padded(rule.head + rest), length, random.randrange(3)
-        )
+        phase, finished = random.randrange(3), random_count(random)
+        plan = padded(rule.head + rest)
+        held = guide.Configuration(beliefs, card.goals, plan, length, phase, finished)
         if guide.is_enabled(card, held, guide.REVISION, n):
             return held, 512 + n
     return None
@@ -1152,3 +1183,15 @@ def random_atoms(random, count):
     """Any set of the card's atoms."""
     share = random.choice((0.1, 0.5, 0.9))
     return cards.atoms_set(*(k for k in range(count) if random.random() < share))
+
+
+def random_count(random):
+    """A finished count: none, any, one around which it ends, or any of `COUNTS`."""
+    style = random.random()
+    if style < 0.3:
+        return 0
+    if style < 0.4:
+        return random.randrange(guide.FINISHED_LIMIT + 1)
+    if style < 0.7:
+        return guide.FINISHED_LIMIT - random.randrange(3)
+    return random.choice(COUNTS)

@@ -1,7 +1,7 @@
 """The drill: requests on standard input, an answer for each on standard output.
 
-The requests and answers are those of drill.md, with what the requests 1 and 2 add to
-them; numbers of two or four bytes are low byte first.
+The requests and answers are those of drill.md, with what the requests 1, 2 and 4 of
+document 02 add to them; numbers of two or four bytes are low byte first.
 """
 
 import struct
@@ -58,13 +58,13 @@ class Reader:
         return value
 
     def image(self):
-        """An image: "beliefs (16 bytes), goals (16), plan length (2), phase (1),
-        m (2, at most 1,024), and the first m bytes of the plan's array; the rest
-        of the array is zero"."""
+        """An image: "beliefs, goals (16 bytes each), plan length (2), phase (1), the
+        finished count (2), m (2, at most 1,024), and the first m bytes of the plan's
+        array; the rest of the array is zero"."""
         beliefs, goals = self.next_bytes(16), self.next_bytes(16)
-        length, phase = self.number(), self.byte()
+        length, phase, finished = self.number(), self.byte(), self.number()
         plan = self.next_bytes(self.number(IMAGE_LIMIT)).ljust(guide.PLAN_LIMIT, b"\0")
-        return guide.Configuration(beliefs, goals, plan, length, phase)
+        return guide.Configuration(beliefs, goals, plan, length, phase, finished)
 
 
 def two(value):
@@ -80,9 +80,10 @@ def four(value):
 def image(configuration, m=0):
     """The image of a configuration. "In an answer m is the least that serves";
     a request may say a greater one."""
-    beliefs, goals, plan, length, phase = configuration
+    beliefs, goals, plan, length, phase, finished = configuration
     m = max(m, len(plan.rstrip(b"\0")))
-    return beliefs + goals + two(length) + bytes([phase]) + two(m) + plan[:m]
+    numbers = two(length) + bytes([phase]) + two(finished) + two(m)
+    return beliefs + goals + numbers + plan[:m]
 
 
 def answer_check(card, reader):

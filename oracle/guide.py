@@ -1,5 +1,5 @@
-"""The eight calls of document 01 over plain values, with request 1 of document
-02 ("say why a move is closed").
+"""The eight calls of document 01 over plain values, with the requests 1 ("say why a
+move is closed") and 4 ("count the picks") of document 02.
 
 Written from the two documents alone. Every function says which sentence of them
 it stands for.
@@ -43,6 +43,9 @@ NO_OFFENDER, INITIAL_PLAN, SELECTION_RULE, REVISION_RULE = 0, 1, 2, 3
 PLAN_LIMIT = 1024
 WEIGHT_LIMIT = 1024
 
+# "Stopping at 65,535."
+FINISHED_LIMIT = 65535
+
 CARD_HEADER = 64
 PLACE_HEADER = 44
 CARD_MARK = b"\x33\x41"
@@ -73,17 +76,20 @@ COUNT_RANGES = (
 class Configuration(NamedTuple):
     """ "A configuration is a set of believed atoms, a set of goal atoms, a plan
     (0 to 1,024 action numbers) and a phase 0, 1 or 2." The plan is the whole
-    array of 1,024 bytes; its first `length` bytes are the plan."""
+    array of 1,024 bytes; its first `length` bytes are the plan. Request 4: "let the
+    configuration hold how many transitions have left the plan empty since load"."""
 
     beliefs: bytes
     goals: bytes
     plan: bytes
     length: int
     phase: int
+    finished: int
 
 
-# "The empty one (no atoms, empty plan, phase 0)."
-EMPTY = Configuration(bytes(16), bytes(16), bytes(PLAN_LIMIT), 0, 0)
+# "The empty one (no atoms, empty plan, phase 0)", of which no transition has left the
+# plan empty.
+EMPTY = Configuration(bytes(16), bytes(16), bytes(PLAN_LIMIT), 0, 0, 0)
 
 
 class Node(NamedTuple):
@@ -513,9 +519,9 @@ def place_mark_differs(place, card):
 
 
 def place_count_is_out_of_range(place, card):
-    """3 count: "in a place L over 1,024, phase over 2, or bytes 10 and 11 not
-    zero"."""
-    return number(place, 4) > PLAN_LIMIT or number(place, 8) > 2 or number(place, 10) != 0
+    """3 count: "in a place L over 1,024, phase over 2". Bytes 10 and 11 hold the
+    finished count, which may be any number."""
+    return number(place, 4) > PLAN_LIMIT or number(place, 8) > 2
 
 
 def place_offset_differs(place, card):
@@ -558,8 +564,8 @@ def judge_place(place, card):
 def configuration_is_wrong(configuration, card):
     """13 configuration: "the configuration handed in has a plan over 1,024, an
     action or atom unknown to the card, a phase over 2, or anything but zero
-    after the plan's end"."""
-    beliefs, goals, plan, length, phase = configuration
+    after the plan's end". It has no rule for the finished count."""
+    beliefs, goals, plan, length, phase, _ = configuration
     return (
         length > PLAN_LIMIT
         or has_unknown_action(plan[:length], card.actions)
@@ -671,6 +677,12 @@ def revised(card, configuration, n):
 TAKEN = (selected, acted, revised)
 
 
+def finished_after(finished, plan):
+    """The finished count after a transition to a plan: "how many transitions have
+    left the plan empty since load, stopping at 65,535"."""
+    return min(finished + 1, FINISHED_LIMIT) if plan == b"" else finished
+
+
 def after(card, configuration, kind, n):
     """The configuration after an enabled transition, or None when it "would
     leave more than 1,024 actions". "After any transition the phase is the kind
@@ -678,8 +690,8 @@ def after(card, configuration, kind, n):
     beliefs, goals, plan = TAKEN[kind](card, configuration, n)
     if len(plan) > PLAN_LIMIT:
         return None
-    array = plan.ljust(PLAN_LIMIT, b"\0")
-    return Configuration(beliefs, goals, array, len(plan), (kind + 1) % 3)
+    array, finished = plan.ljust(PLAN_LIMIT, b"\0"), finished_after(configuration.finished, plan)
+    return Configuration(beliefs, goals, array, len(plan), (kind + 1) % 3, finished)
 
 
 def guides_choice(card, configuration):
@@ -753,13 +765,14 @@ def check(card):
 
 def load(card):
     """ "Loading answers the card's initial beliefs, goals and plan with phase
-    0, and strikes no goal." A refusal answers the empty configuration."""
+    0, and strikes no goal." The finished count is of transitions "since load": 0.
+    A refusal answers the empty configuration."""
     refusal, accepted = judge(card)
     if refusal != DONE:
         return refusal, EMPTY
     plan = accepted.plan
     array = plan.ljust(PLAN_LIMIT, b"\0")
-    return DONE, Configuration(accepted.beliefs, accepted.goals, array, len(plan), 0)
+    return DONE, Configuration(accepted.beliefs, accepted.goals, array, len(plan), 0, 0)
 
 
 def grade(card):
@@ -825,21 +838,23 @@ def run(card, configuration, budget):
 
 def save(card, configuration, room):
     """ "Saving writes 44 + L bytes and no others." The place: "bytes 33 50 hex;
-    edition 1 at 2; plan length L at 4; plan offset 44 at 6; phase at 8; zero at
-    10; beliefs at 12; goals at 28; the plan's L bytes at 44"."""
+    edition 1 at 2; plan length L at 4; plan offset 44 at 6; phase at 8; ...
+    beliefs at 12; goals at 28; the plan's L bytes at 44". The finished count "stands
+    in bytes 10 and 11 of the place"."""
     refusal, _ = judge_both(card, configuration)
     if refusal != DONE:
         return refusal, b""
-    beliefs, goals, plan, length, phase = configuration
+    beliefs, goals, plan, length, phase, finished = configuration
     if PLACE_HEADER + length > room:
         return NO_ROOM, b""
-    header = PLACE_MARK + struct.pack("<HHHHH", EDITION, length, PLACE_HEADER, phase, 0)
+    header = PLACE_MARK + struct.pack("<HHHHH", EDITION, length, PLACE_HEADER, phase, finished)
     return DONE, header + beliefs + goals + plan[:length]
 
 
 def restore(card, place):
     """Restore a place: "the card first with 1 to 9, then a place with 1, 2, 3,
-    4, 8, 9". A refusal answers the empty configuration."""
+    4, 8, 9". "Saving and restoring keep" the finished count. A refusal answers the
+    empty configuration."""
     refusal, accepted = judge(card)
     if refusal == DONE:
         refusal = judge_place(place, accepted)
@@ -847,4 +862,5 @@ def restore(card, place):
         return refusal, EMPTY
     plan = place[PLACE_HEADER:]
     array = plan.ljust(PLAN_LIMIT, b"\0")
-    return DONE, Configuration(place[12:28], place[28:44], array, len(plan), number(place, 8))
+    phase, finished = number(place, 8), number(place, 10)
+    return DONE, Configuration(place[12:28], place[28:44], array, len(plan), phase, finished)

@@ -6,8 +6,8 @@ writes against the second.
     python3 oracle/stored.py --check    # says whether the files are just that
 
 Both files follow from a fixed seed and hold every clause of document 01's refusal
-table and of those of the requests 1 and 2, every range just inside, and the edges of
-plans, rooms and budgets.
+table and of those of the requests 1 and 2, every range just inside, the edges of plans,
+rooms and budgets, and the finished count of request 4.
 """
 
 import argparse
@@ -22,6 +22,7 @@ import cases
 import closed
 import damage
 import drill
+import finished
 import guide
 import prints
 import slips
@@ -217,7 +218,7 @@ def long_plan(length):
     """A configuration of the stripe card with that many actions, the first of
     which revision 0 makes one longer."""
     plan = damage.padded(bytes([4]) + bytes(k % 5 for k in range(length - 1)))
-    return guide.Configuration(cards.atoms_set(0, 3), cards.atoms_set(2), plan, length, 2)
+    return guide.Configuration(cards.atoms_set(0, 3), cards.atoms_set(2), plan, length, 2, 300)
 
 
 def long_plan_case(length):
@@ -281,6 +282,60 @@ def closed_cases():
     yield from map(closed_by_hand, closed.ALL)
     yield every_condition_case()
     yield from map(nested_case, range(20))
+
+
+# --- finished counts --------------------------------------------------------
+
+
+def finished_takes():
+    """Takes that leave the plan empty, that do not, and refused ones, from each
+    count."""
+    for name, card, held, choice, _, _ in finished.each_take():
+        yield Case(name, card, [cases.request_about(random_of(name), drill.TAKE, held, choice)])
+
+
+def finished_runs():
+    """Runs in which the count rises often, stops at its most, or stays."""
+    for card, runs in itertools.groupby(finished.RUNS, key=lambda one: one.card):
+        random = random_of("finished runs", card)
+        made = [cases.request_about(random, drill.RUN, one.held, one.budget) for one in runs]
+        yield Case("finished: runs", card, made)
+
+
+def finished_places():
+    """Places with each of the counts restored, and the configurations that they are
+    listed and saved."""
+    random, made = random_of("finished places"), []
+    for place, held in finished.each_place():
+        made.append(cases.request_restore(place))
+        made.append(cases.request_about(random, drill.LIST, held, 1))
+        made.append(cases.request_about(random, drill.SAVE, held, len(place)))
+        made.append(cases.request_about(random, drill.SAVE, held, len(place) - 1))
+    return Case("finished: places", STRIPE, made)
+
+
+def turned_case(index):
+    """A run in parts with a save and a restore between them: "saving and restoring
+    keep it"."""
+    name = "finished: turned %d" % index
+    random, made = random_of(name), []
+    card = tempered_card(random, cards.temper_endless)
+    held = guide.load(card)[1]._replace(finished=random.choice((0, 65530, 65534)))
+    for budget in (1, 2, 3, 5, 8):
+        made.append(cases.request_about(random, drill.RUN, held, budget))
+        held = guide.run(card, held, budget)[1]
+        place = guide.save(card, held, drill.SAVE_LIMIT)[1]
+        made.append(cases.request_about(random, drill.SAVE, held, len(place)))
+        made.append(cases.request_restore(place))
+    return Case(name, card, made)
+
+
+def finished_cases():
+    """The finished count by hand in takes, runs and places, and in runs in parts."""
+    yield from finished_takes()
+    yield from finished_runs()
+    yield finished_places()
+    yield from map(turned_case, range(8))
 
 
 # --- rooms ------------------------------------------------------------------
@@ -564,6 +619,7 @@ def all_cases():
         set_cases(),
         long_plan_cases(),
         closed_cases(),
+        finished_cases(),
         room_cases(),
         budget_cases(),
         verdict_cases(),

@@ -1,7 +1,7 @@
 """Tests of the oracle: document 01's cases P1 to P13, its program's lines, the
-damages' numbers, the closed moves of request 1, the drill's bytes, that a seed
-gives the same bytes, and what the stored requests hold. Those of request 2 are in
-`test_text.py` and run with these."""
+damages' numbers, the closed moves of request 1, the finished count of request 4, the
+drill's bytes, that a seed gives the same bytes, and what the stored requests hold.
+Those of request 2 are in `test_text.py` and run with these."""
 
 import time
 from collections import Counter
@@ -13,6 +13,7 @@ import cases
 import closed
 import damage
 import drill
+import finished
 import guide
 import program
 import slips
@@ -62,10 +63,11 @@ class MarkedCases(unittest.TestCase):
     """The cases marked P."""
 
     def test_p1_the_six_steps(self):
-        """The six steps end with beliefs {0, 2}, no goals, phase 2."""
+        """The six steps end with beliefs {0, 2}, no goals, phase 2. By request 4 one
+        of them, the last, has left the plan empty."""
         number, reached, count, ending = guide.run(STRIPE, loaded(STRIPE), 1000)
         self.assertEqual((number, count, ending), (0, 6, guide.REST))
-        self.assertEqual(reached, configuration(beliefs=(0, 2), phase=2))
+        self.assertEqual(reached, configuration(beliefs=(0, 2), phase=2, finished=1))
 
     def test_p2_budgets_six_and_seven(self):
         """Budget 6: spent, 6. Budget 7: rest, 6."""
@@ -85,7 +87,8 @@ class MarkedCases(unittest.TestCase):
         card = cards.card(description)
         for beliefs in ((), (2,)):
             held = configuration(beliefs=beliefs, goals=(2,), plan=(1,))
-            self.assertEqual(guide.take(card, held, 257), (0, 0, configuration(phase=2)))
+            after = configuration(phase=2, finished=1)
+            self.assertEqual(guide.take(card, held, 257), (0, 0, after))
 
     def test_p5_head_longer_than_the_plan(self):
         """Plan 3, head 3 0: not enabled. By request 1 it is 15, "other head"."""
@@ -97,7 +100,8 @@ class MarkedCases(unittest.TestCase):
         self.assertEqual(guide.take(card, held, 512), (15, 0, held))
         self.assertNotIn(512, guide.list_choices(card, held, 1024)[2])
         longer = configuration(beliefs=(3,), plan=(3, 0))
-        self.assertEqual(guide.take(card, longer, 512), (0, 0, configuration(beliefs=(3,))))
+        after = configuration(beliefs=(3,), finished=1)
+        self.assertEqual(guide.take(card, longer, 512), (0, 0, after))
 
     def test_p6_condition_fails(self):
         """Plan 3, atom 3 not believed, choice 513: "P6 becomes 16 with node 2"."""
@@ -126,7 +130,7 @@ class MarkedCases(unittest.TestCase):
         description = cards.stripe_card()
         description.revisions[0] = cards.Revision(0, 2, 1, 5, 0)
         found = guide.take(cards.card(description), configuration(plan=(3,)), 512)
-        self.assertEqual(found, (0, 0, configuration()))
+        self.assertEqual(found, (0, 0, configuration(finished=1)))
 
     def test_p10_the_offending_revision(self):
         """Revision 1's body weighing 3: open, revision 1."""
@@ -330,7 +334,8 @@ class ClosedMoves(unittest.TestCase):
         for node, beliefs, holds, settled in closed.settled_table():
             held = configuration(beliefs, (), (0,))
             self.assertEqual(guide.judged(accepted, held, node), (holds, settled))
-            expected = (0, 0, configuration(beliefs, phase=2)) if holds else (16, settled, held)
+            after = configuration(beliefs, phase=2, finished=1)
+            expected = (0, 0, after) if holds else (16, settled, held)
             self.assertEqual(guide.take(closed.CONDITIONS, held, 256 + node), expected)
 
     def test_settling_node_by_words(self):
@@ -361,6 +366,72 @@ class ClosedMoves(unittest.TestCase):
                     self.assertIn(guide.take(card, held, choice)[0], (0, 11) if enabled else (15, 16))
                 for choice in damage.wrong_choices(accepted):
                     self.assertEqual(guide.take(card, held, choice), (14, 0, held))
+
+
+class FinishedCounts(unittest.TestCase):
+    """Request 4 of document 02: "count the picks"."""
+
+    def test_takes_by_hand(self):
+        """Each take has the count written beside it; a refused one hands back the
+        configuration as it came in."""
+        for name, card, held, choice, number, count in finished.each_take():
+            found, _, moved = guide.take(card, held, choice)
+            self.assertEqual((found, moved.finished), (number, count), name)
+            if number != 0:
+                self.assertEqual(moved, held, name)
+
+    def test_runs_by_hand(self):
+        """Each run has the counts and the ending written beside it."""
+        for one in finished.RUNS:
+            number, reached, count, ending = guide.run(one.card, one.held, one.budget)
+            expected = (0, one.count, one.ending, one.finished)
+            self.assertEqual((number, count, ending, reached.finished), expected, one)
+
+    def test_places_by_hand(self):
+        """The count is in bytes 10 and 11, low byte first."""
+        for place, held in finished.each_place():
+            self.assertEqual(guide.restore(STRIPE, place), (0, held))
+            self.assertEqual(guide.save(STRIPE, held, len(place)), (0, place))
+
+    def test_load_and_refusals_have_none(self):
+        """Load answers 0, and so has the empty configuration."""
+        self.assertEqual(loaded(STRIPE).finished, 0)
+        self.assertEqual(guide.EMPTY.finished, 0)
+        self.assertEqual(guide.restore(STRIPE, b""), (1, guide.EMPTY))
+
+    def test_count_of_a_run(self):
+        """After a run the count is the one before and the number of configurations
+        with an empty plan that its transitions led to, or 65,535."""
+        random, risen = Random("count"), Counter()
+        for _ in range(150):
+            card = cards.card(cards.good_card(random, 700))
+            _, accepted = guide.judge(card)
+            for held in cases.some_configurations(random, card, accepted):
+                budget = random.choice((1, 5, 40))
+                _, reached, count, _ = guide.run(card, held, budget)
+                steps = [guide.run(card, held, k)[1] for k in range(1, count + 1)]
+                empty = sum(step.plan[:step.length] == b"" for step in steps)
+                self.assertEqual(reached.finished, min(65535, held.finished + empty))
+                risen[reached.finished - held.finished] += 1
+        self.assertGreater(sum(count for more, count in risen.items() if more > 1), 20)
+
+    def test_count_changes_nothing_else(self):
+        """With another count handed in, every answer is the same but for the count;
+        13 has no rule for it."""
+        random = Random("other counts")
+        for _ in range(60):
+            card = cards.card(cards.good_card(random, 500))
+            _, accepted = guide.judge(card)
+            for held in cases.some_configurations(random, card, accepted):
+                other = held._replace(finished=damage.random_count(random))
+                listed = guide.list_choices(card, held, 1024)
+                self.assertEqual(guide.list_choices(card, other, 1024), listed)
+                for choice in listed[2]:
+                    found, again = guide.take(card, held, choice), guide.take(card, other, choice)
+                    self.assertEqual(found[:2], again[:2])
+                    self.assertEqual(found[2][:5], again[2][:5])
+                place, again = guide.save(card, held, 1068)[1], guide.save(card, other, 1068)[1]
+                self.assertEqual((place[:10], place[12:]), (again[:10], again[12:]))
 
 
 class GoodCards(unittest.TestCase):
@@ -447,6 +518,49 @@ def sorts_of_closed_move(card, request, answer):
     return [(16, kind, holds), where, (16, "settled by", entries[settled].kind)]
 
 
+# What a sort of finished count is called by: the call; for a take that is done the
+# kind, whether the plan is empty afterwards, and how the count was; for a refused one
+# the number, with a count that is not 0; for a run by how many it rises and whether it
+# stops; for a save and a restore whether either byte is not zero.
+SORTS_OF_COUNTS = (
+    {("take", 0, False, how) for how in ("none", "some", "most")}
+    | {("take", 1, empty, how) for empty in (True, False) for how in ("none", "some", "most")}
+    | {("take", 2, empty, how) for empty in (True, False) for how in ("none", "some", "most")}
+    | {("take refused", number) for number in (11, 13, 14, 15, 16)}
+    | {("run", more) for more in ("stays", "rises", "rises often", "stops", "most")}
+    | {("run refused", 13), ("save refused", 12), ("save refused", 13)}
+    | {("save", low, high) for low in (True, False) for high in (True, False)}
+    | {("restore", low, high) for low in (True, False) for high in (True, False)}
+)
+
+
+def how_risen(held, reached):
+    """By how many a run's finished count rises, and whether it stops at its most."""
+    more = reached.finished - held.finished
+    if reached.finished == 65535:
+        return "stops" if more else "most"
+    return ("stays", "rises", "rises often")[min(2, more)]
+
+
+def sorts_of_count(card, request):
+    """The sorts of finished count that a request is."""
+    call = cases.CALL_NAMES[request[0] - 1]
+    number = guide.number(drill.answer(card, request), 0)
+    if call == "restore" and number == 0:
+        return [(call, request[13] != 0, request[14] != 0)]
+    if call not in ("take", "run", "save"):
+        return []
+    _, held, value = cases.read_about(request)
+    if number != 0:
+        return [(call + " refused", number)] if held.finished else []
+    if call == "save":
+        return [(call, held.finished % 256 != 0, held.finished > 255)]
+    if call == "run":
+        return [(call, how_risen(held, guide.run(card, held, value)[1]))]
+    how = {0: "none", 65535: "most"}.get(held.finished, "some")
+    return [(call, value // 256, guide.take(card, held, value)[2].length == 0, how)]
+
+
 class Cases(unittest.TestCase):
     """The cases by seed."""
 
@@ -485,6 +599,15 @@ class Cases(unittest.TestCase):
         self.assertGreaterEqual(min(met.values()), 10, met)
         self.assertLessEqual(SORTS_OF_CLOSED_MOVES, set(sorts))
         self.assertGreaterEqual(min(sorts[sort] for sort in SORTS_OF_CLOSED_MOVES), 10, sorts)
+
+    def test_every_sort_of_count_is_met(self):
+        """Over 250 cards each sort of a finished count is met at least three times."""
+        sorts = Counter()
+        for case in cases.generate(4, 250, 700):
+            for request in case.requests:
+                sorts.update(sorts_of_count(case.card, request))
+        self.assertLessEqual(SORTS_OF_COUNTS, set(sorts))
+        self.assertGreaterEqual(min(sorts[sort] for sort in SORTS_OF_COUNTS), 3, sorts)
 
     def test_node_only_with_16(self):
         """ "With 16 the one that settled it, else 0." """
@@ -534,10 +657,10 @@ class Stored(unittest.TestCase):
 
     def test_same_bytes(self):
         """The bytes are the same each time, 3,000 requests at least, in files of
-        less than a million bytes."""
+        less than 1.6 million bytes."""
         self.assertEqual(stored.make_files(), (self.files, self.met))
         self.assertGreaterEqual(sum(map(sum, self.met)), 3000)
-        self.assertLess(max(map(len, self.files.values())), 1000000)
+        self.assertLess(max(map(len, self.files.values())), 1600000)
 
     def test_one_stream(self):
         """The drill's answers to the one file are the other."""
@@ -665,6 +788,22 @@ class Stored(unittest.TestCase):
             self.assertEqual(case.card, STRIPE_BYTES)
             self.assertEqual(drill.answer(case.card, *case.requests)[:4], b"\x10\0\x02\0")
 
+    def test_finished_counts(self):
+        """Each take, run and place by hand is a case, and each sort of count is met."""
+        for name, card, held, choice, number, count in finished.each_take():
+            case = self.named[name]
+            self.assertEqual(cases.read_about(case.requests[0]), (drill.TAKE, held, choice), name)
+            answer = drill.answer(card, *case.requests)
+            found = guide.number(answer, 0), guide.number(answer, 39)
+            self.assertEqual(found, (number, count), name)
+        runs = [case for case in self.cases if case.name == "finished: runs"]
+        found = [cases.read_about(asked)[1:] for case in runs for asked in case.requests]
+        self.assertEqual(found, [(one.held, one.budget) for one in finished.RUNS])
+        self.assertEqual(set(self.numbers(self.named["finished: places"])), {0, 12})
+        asked = [(case.card, asked) for case in self.cases for asked in case.requests]
+        sorts = {sort for one in asked for sort in sorts_of_count(*one)}
+        self.assertLessEqual(SORTS_OF_COUNTS, sorts)
+
     def test_every_condition(self):
         """All nodes of the conditions card under all sets of beliefs."""
         case = self.named["closed: every condition"]
@@ -758,7 +897,7 @@ class Stored(unittest.TestCase):
 class DrillBytes(unittest.TestCase):
     """The drill's requests and answers, written out by hand."""
 
-    LOADED = b"\x09" + bytes(15) + b"\x04" + bytes(15) + bytes([0, 0, 0, 0, 0])
+    LOADED = b"\x09" + bytes(15) + b"\x04" + bytes(15) + bytes([0, 0, 0, 0, 0, 0, 0])
     CARD = b"\x00\xff\x00" + STRIPE_BYTES
 
     def answers(self, *requests):
@@ -768,7 +907,7 @@ class DrillBytes(unittest.TestCase):
     def test_no_card(self):
         """At first the card is that of no bytes."""
         self.assertEqual(drill.answers(b"\x01"), b"\x01\x00")
-        self.assertEqual(drill.answers(b"\x02"), b"\x01\x00" + bytes(37))
+        self.assertEqual(drill.answers(b"\x02"), b"\x01\x00" + bytes(39))
         self.assertEqual(drill.answers(b"\x03"), b"\x01\x00" + bytes(4))
 
     def test_check_load_grade(self):
@@ -786,7 +925,7 @@ class DrillBytes(unittest.TestCase):
         """Selection 0; a code that is none; action 0, as the plan is empty: number,
         node 0, image."""
         request = b"\x05" + self.LOADED
-        after = self.LOADED[:32] + bytes([1, 0, 1, 1, 0, 4])
+        after = self.LOADED[:32] + bytes([1, 0, 1, 0, 0, 1, 0, 4])
         found = self.answers(request + b"\x00\x00", request + b"\x00\x03", request + b"\x00\x01")
         refused = b"\x0e\0\0\0" + self.LOADED + b"\x0f\0\0\0" + self.LOADED
         self.assertEqual(found, b"\0\0\0\0" + after + refused)
@@ -794,16 +933,25 @@ class DrillBytes(unittest.TestCase):
     def test_take_under_a_false_condition(self):
         """P6: 16 and node 2, and the configuration as it came in, with the least
         m."""
-        held = bytes(32) + bytes([1, 0, 0, 1, 0, 3])
-        wider = bytes(32) + bytes([1, 0, 0, 2, 0, 3, 0])
+        held = bytes(32) + bytes([1, 0, 0, 9, 8, 1, 0, 3])
+        wider = bytes(32) + bytes([1, 0, 0, 9, 8, 2, 0, 3, 0])
         found = self.answers(b"\x05" + wider + b"\x01\x02")
         self.assertEqual(found, b"\x10\0\x02\0" + held)
 
     def test_run(self):
         """Budget 4: the plan 2 0 has m 1, as its last byte is zero."""
         found = self.answers(b"\x06" + self.LOADED + b"\x04\x00")
-        after = b"\x0b" + bytes(15) + b"\x04" + bytes(15) + bytes([2, 0, 0, 1, 0, 2])
+        after = b"\x0b" + bytes(15) + b"\x04" + bytes(15) + bytes([2, 0, 0, 0, 0, 1, 0, 2])
         self.assertEqual(found, b"\0\0" + after + b"\x04\0" + b"\0")
+
+    def test_finished_count(self):
+        """The stripe card's run to its end, from the count 02FF hex: it ends with 0300
+        hex, and its place has that in bytes 10 and 11."""
+        held = self.LOADED[:35] + b"\xff\x02" + bytes(2)
+        after = b"\x05" + bytes(31) + bytes([0, 0, 2, 0, 3, 0, 0])
+        found = self.answers(b"\x06" + held + b"\x09\0", b"\x07" + after + b"\x2c\0")
+        place = bytes.fromhex("3350 0100 0000 2C00 0200 0003") + after[:32]
+        self.assertEqual(found, b"\0\0" + after + b"\x06\0\x01" + b"\0\0" + place)
 
     def test_save_and_restore(self):
         """A save in a room of 45 and of 43, and the place restored."""
@@ -816,8 +964,8 @@ class DrillBytes(unittest.TestCase):
     def test_refused_configuration_comes_back(self):
         """A byte after the plan's end: 13, and the configuration as it came in,
         with the least m."""
-        held = self.LOADED[:32] + bytes([0, 0, 0, 3, 0, 0, 7, 0])
-        back = self.LOADED[:32] + bytes([0, 0, 0, 2, 0, 0, 7])
+        held = self.LOADED[:32] + bytes([0, 0, 0, 5, 1, 3, 0, 0, 7, 0])
+        back = self.LOADED[:32] + bytes([0, 0, 0, 5, 1, 2, 0, 0, 7])
         found = self.answers(b"\x06" + held + b"\x09\0")
         self.assertEqual(found, b"\x0d\0" + back + b"\0\0\0")
 

@@ -91,7 +91,9 @@ trimmed [] = []
 trimmed (x ∷ xs) = before x (trimmed xs)
 
 abbrev withPlan : Configuration → Bytes → Bytes
-withPlan c plan = c .mind .beliefs ++ (c .mind .goals ++ (twoBytes (c .mind .length) ++ (c .mind .phase ∷ (twoBytes (length plan) ++ plan))))
+withPlan c plan =
+    let numbers : Bytes = twoBytes (c .mind .length) ++ (c .mind .phase ∷ twoBytes (c .mind .finished)) in
+    c .mind .beliefs ++ (c .mind .goals ++ (numbers ++ (twoBytes (length plan) ++ plan)))
 
 unfoldable pub image : Configuration → Bytes
 image c = withPlan c (trimmed (c .plan))
@@ -207,13 +209,13 @@ def cut_budget(request):
 
 def image_term(request):
     """The configuration of a request's image, which starts at byte 1, and the place after it."""
-    m = two(request, 36)
-    plan = f"({literal(request[38:38 + m])} ++ replicate {1024 - m} 0)"
+    m = two(request, 38)
+    plan = f"({literal(request[40:40 + m])} ++ replicate {1024 - m} 0)"
     term = (
         f"(record {{ mind = record {{ beliefs = {literal(request[1:17])}; goals = {literal(request[17:33])}; "
-        f"length = {two(request, 33)}; phase = {request[35]} }}; plan = {plan} }})"
+        f"length = {two(request, 33)}; phase = {request[35]}; finished = {two(request, 36)} }}; plan = {plan} }})"
     )
-    return term, 38 + m
+    return term, 40 + m
 
 
 def term(card, request):

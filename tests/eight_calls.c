@@ -36,7 +36,7 @@ static int same(const struct rigtemple_configuration *one,
     return memcmp(one->beliefs, other->beliefs, sizeof one->beliefs) == 0 &&
            memcmp(one->goals, other->goals, sizeof one->goals) == 0 &&
            memcmp(one->plan, other->plan, sizeof one->plan) == 0 && one->length == other->length &&
-           one->phase == other->phase;
+           one->phase == other->phase && one->finished == other->finished;
 }
 
 /* Whether a set is the atoms of `bits`, atom k for bit k. */
@@ -126,6 +126,7 @@ static void test_card(void)
     struct rigtemple_configuration c = begin();
     expect(set_is(c.beliefs, 1 << 0 | 1 << 3) && set_is(c.goals, 1 << 2), "the initial sets");
     expect(c.length == 0 && c.phase == 0, "the initial plan and phase");
+    expect(c.finished == 0, "nothing is finished at load");
 }
 
 /* P10: revision 1's body weighs 3, as much as its head. */
@@ -146,7 +147,7 @@ static void test_open_card(void)
 static void test_refused_card(void)
 {
     struct card_bytes bad = card;
-    struct rigtemple_configuration c = begin(), before = c;
+    struct rigtemple_configuration c = after(6), before = c;
     uint8_t verdict = 0, offender = 0, ending = 9, place[RIGTEMPLE_MOST_PLACE_BYTES] = {0xEE};
     uint16_t number = 9, count = 9, list[2] = {0xEEEE};
     put_node(&bad, 0, NODE_NOT, 0, 0);
@@ -200,13 +201,15 @@ static void test_steps(void)
         expect(takes(&card, &c, choice), "the step is taken");
         expect(c.length == steps[i].length && c.phase == (steps[i].kind + 1) % 3,
                "the plan's length and the phase after it");
+        expect(c.finished == (i == 5), "the last step alone is counted");
         expect(rigtemple_run(card.bytes, card.len, &own, 1, &taken, &ending) ==
                        RIGTEMPLE_ANSWER_DONE &&
                    taken == 1 && ending == RIGTEMPLE_ENDING_SPENT && same(&own, &c),
                "the guide takes the same step");
     }
-    expect(set_is(c.beliefs, 1 << 0 | 1 << 2) && set_is(c.goals, 0) && c.phase == 2,
-           "P1: beliefs {0, 2}, no goals, phase 2");
+    expect(set_is(c.beliefs, 1 << 0 | 1 << 2) && set_is(c.goals, 0) && c.phase == 2 &&
+               c.finished == 1,
+           "P1: beliefs {0, 2}, no goals, phase 2; finished 1");
 }
 
 /* P2 and P3: budgets 6 and 7 from the start, budget 0 at rest. */
@@ -364,6 +367,7 @@ static void test_full_plan(void)
     memset(c.plan, 3, sizeof c.plan);
     c.length = RIGTEMPLE_MOST_PLAN_ACTIONS;
     c.phase = 2;
+    c.finished = 9;
     struct rigtemple_configuration before = c;
     uint16_t count = 9;
     uint8_t ending = 9;
@@ -397,9 +401,127 @@ static void test_list_room(void)
            "nothing to list at rest");
 }
 
+/* ---- how many moves have left the plan empty ---- */
+
+/* Counts to go on from, and what they become. */
+static const struct counted {
+    uint16_t before, after;
+} counted[] = {{0, 1}, {1, 2}, {255, 256}, {256, 257}, {65534, 65535}, {65535, 65535}};
+enum { COUNTED = sizeof counted / sizeof counted[0] };
+
+/* The stripe card with an empty body for its revision 1, of the head "pick": P9. */
+static void empty_body_card(struct card_bytes *to)
+{
+    *to = card;
+    put_revision(to, 1, 2, 2, 1, 0, 0);
+}
+
+/* The last action of a plan, and a revision of the whole plan to an empty body, chosen and by the
+ * guide itself. */
+static void test_finished(const struct counted *count)
+{
+    struct card_bytes other;
+    struct rigtemple_configuration last = standing(BOBBIN, BAND, WEAVE), own;
+    uint16_t taken = 9;
+    uint8_t ending = 9;
+    last.finished = count->before;
+    own = last;
+    expect(takes(&card, &last, 256) && last.length == 0 && set_is(last.goals, 0) &&
+               last.finished == count->after,
+           "a chosen last action is counted");
+    run(&own, 9, &taken, &ending);
+    expect(taken == 1 && ending == RIGTEMPLE_ENDING_REST && own.finished == count->after,
+           "the guide's own last action is counted");
+    empty_body_card(&other);
+    last = standing(BROKEN, 0, PICK);
+    last.finished = count->before;
+    own = last;
+    expect(takes(&other, &last, 513) && last.length == 0 && last.finished == count->after,
+           "a chosen revision to an empty body is counted");
+    expect(rigtemple_run(other.bytes, other.len, &own, 9, &taken, &ending) ==
+                   RIGTEMPLE_ANSWER_DONE &&
+               taken == 1 && ending == RIGTEMPLE_ENDING_REST && own.finished == count->after,
+           "the guide's own revision to an empty body is counted");
+}
+
+/* Moves that leave actions, a refused one, rest, and a run of no moves: the count stays. */
+static void test_not_finished(uint16_t count)
+{
+    struct card_bytes other;
+    struct rigtemple_configuration c = standing(0, BAND, NO_ACTION);
+    uint16_t taken = 9;
+    uint8_t ending = 9;
+    c.finished = count;
+    expect(takes(&card, &c, 0) && c.length == 1 && c.finished == count, "a selection");
+    expect(takes(&card, &c, 512) && c.length == 2 && c.finished == count, "a revision");
+    expect(takes(&card, &c, 257) && c.length == 1 && c.finished == count,
+           "an action before another");
+    expect(refuses(&card, &c, 257, RIGTEMPLE_ANSWER_FRONT, 0) && c.finished == count,
+           "a refused choice");
+    run(&c, 0, &taken, &ending);
+    expect(taken == 0 && c.finished == count, "budget 0");
+    c = standing(0, 0, NO_ACTION);
+    c.finished = count;
+    run(&c, 9, &taken, &ending);
+    expect(taken == 0 && ending == RIGTEMPLE_ENDING_REST && c.finished == count,
+           "rest with an empty plan");
+    empty_body_card(&other);
+    c = standing(BROKEN, 0, PICK);
+    c.plan[1] = PICK;
+    c.length = 2;
+    c.finished = count;
+    expect(takes(&other, &c, 513) && c.length == 1 && c.finished == count,
+           "an empty body before another action");
+}
+
+/* Bands woven one after the other: six moves for the first, whose thread is broken, and five for
+ * each other. */
+static void test_bands(void)
+{
+    struct card_bytes endless;
+    struct rigtemple_configuration c;
+    uint16_t moves = 9;
+    uint8_t ending = 9;
+    endless_stripe_card(&endless);
+    expect(rigtemple_load(endless.bytes, endless.len, &c) == RIGTEMPLE_ANSWER_DONE,
+           "the endless card loads");
+    expect(rigtemple_run(endless.bytes, endless.len, &c, 1000, &moves, &ending) ==
+                   RIGTEMPLE_ANSWER_DONE &&
+               moves == 1000 && c.finished == 1 + (1000 - 6) / 5,
+           "each band of a run is counted");
+    c.finished = 65530;
+    expect(rigtemple_run(endless.bytes, endless.len, &c, 1000, &moves, &ending) ==
+                   RIGTEMPLE_ANSWER_DONE &&
+               moves == 1000 && ending == RIGTEMPLE_ENDING_SPENT && c.finished == 65535,
+           "the count stops in a run, and the run goes on");
+}
+
 /* ---- save, restore, and the turn of the screen ---- */
 
-/* P7 and P8: the place after step 4, byte for byte, and the same with phase 3. */
+/* The count stands in bytes 10 and 11 of a place, low byte first, and comes back from there. */
+static void test_kept_count(uint16_t finished)
+{
+    uint8_t place[RIGTEMPLE_MOST_PLACE_BYTES];
+    struct rigtemple_configuration c = after(6), back;
+    uint16_t count = 9;
+    c.finished = finished;
+    memset(&back, 0xEE, sizeof back);
+    expect(rigtemple_save(card.bytes, card.len, &c, place, sizeof place, &count) ==
+                   RIGTEMPLE_ANSWER_DONE &&
+               count == 44 && place[10] == finished % 256 && place[11] == finished / 256,
+           "the count is in bytes 10 and 11");
+    expect(rigtemple_restore(card.bytes, card.len, place, count, &back) ==
+                   RIGTEMPLE_ANSWER_DONE &&
+               same(&back, &c),
+           "the count is restored");
+    place[10] = place[11] = 0;
+    expect(rigtemple_restore(card.bytes, card.len, place, count, &back) ==
+                   RIGTEMPLE_ANSWER_DONE &&
+               back.finished == 0,
+           "zeros there are count 0");
+}
+
+/* P7 and P8: the place after step 4, byte for byte; and with phase 3, whatever the count. */
 static void test_place(void)
 {
     static const uint8_t wanted[46] = {0x33, 0x50, 1, 0, 2, 0, 0x2C, 0, 0, 0, 0, 0, 0x0B,
@@ -416,6 +538,7 @@ static void test_place(void)
                count == 46 && memcmp(place, wanted, 46) == 0 && place[46] == 0xEE,
            "the place after step 4");
     place[8] = 3;
+    c.finished = place[10] = 9;
     expect(rigtemple_restore(card.bytes, card.len, place, 46, &c) == RIGTEMPLE_ANSWER_COUNT &&
                is_empty(&c),
            "a place with phase 3 is refused");
@@ -464,6 +587,12 @@ int main(void)
     test_empty_configuration();
     test_full_plan();
     test_list_room();
+    for (unsigned i = 0; i < COUNTED; i++) {
+        test_finished(&counted[i]);
+        test_not_finished(counted[i].before);
+        test_kept_count(counted[i].before);
+    }
+    test_bands();
     test_place();
     for (uint16_t before = 0; before < 7; before++)
         test_turn(before);

@@ -43,17 +43,22 @@ holds() { # WHAT COMMAND...
 
 not() { ! "$@"; }
 
-# The screen is turned after each move, and the place is the same as without a turn.
+# The screen is turned after each move, and the place is the same as without a turn. The sixth move
+# finishes a band.
 turned() {
     card=$root/cards/stripe.card
     for moves in 1 2 3 4 5 6; do
-        expect "move $moves, then a turn" 0 'actions in the plan' "$card" "$place" '\n'
+        expect "move $moves, then a turn" 0 'bands finished: 0' "$card" "$place" '\n'
+        holds 'the plan was shown' grep -qF 'actions in the plan' "$room/said"
     done
+    expect 'a band is finished after six' 0 'bands finished: 1' "$card" "$place" ''
     expect 'the guide rests after six' 0 'rest: no move is possible' "$card" "$place" '\n'
     expect 'seven moves without a turn' 0 'rest: no move is possible' "$card" "$place.straight" \
         '\n\n\n\n\n\n\n'
     holds 'both places are the same' cmp "$place" "$place.straight"
     holds 'nothing lies beside the place' test ! -e "$place.beside"
+    printf '\002\001' | dd of="$place" bs=1 seek=10 conv=notrunc 2>/dev/null
+    expect 'the count is that of the kept place' 0 'bands finished: 258' "$card" "$place" ''
 }
 
 choices() {

@@ -16,11 +16,12 @@
  *                                       number (2), place (4), length (2), the lent card (room)
  *  10 print    node (2), room (2)       number (2), length (2), the lent text (room bytes)
  *
- * An image: beliefs (16), goals (16), plan length (2), phase (1), m (2), m bytes of the plan's
- * array; the rest of it is zero. In an answer m is the least that serves. The node of a take is
- * with 16 the one that settled the condition, else 0; the place of a text with 17 that of the first
- * wrong byte, else 0. Lent buffers are lent filled with EE hex. What a refused grading says beside
- * its number is written as 0. A request that breaks these rules ends the program.
+ * An image: beliefs (16), goals (16), plan length (2), phase (1), finished count (2), m (2), m
+ * bytes of the plan's array; the rest of it is zero. In an answer m is the least that serves. The
+ * node of a take is with 16 the one that settled the condition, else 0; the place of a text with 17
+ * that of the first wrong byte, else 0. Lent buffers are lent filled with EE hex. What a refused
+ * grading says beside its number is written as 0. A request that breaks these rules ends the
+ * program.
  */
 #include <stdlib.h>
 #include <string.h>
@@ -130,6 +131,7 @@ static void get_image(struct rigtemple_configuration *c)
     get_bytes(c->goals, sizeof c->goals);
     c->length = get_number(65535);
     c->phase = get_byte();
+    c->finished = get_number(65535);
     get_bytes(c->plan, get_number(sizeof c->plan));
 }
 
@@ -142,6 +144,7 @@ static void put_image(const struct rigtemple_configuration *c)
     put_bytes(c->goals, sizeof c->goals);
     put_number(c->length);
     put_byte(c->phase);
+    put_number(c->finished);
     put_number((uint16_t)m);
     put_bytes(c->plan, m);
 }

@@ -67,7 +67,8 @@ python() {
 }
 stripe() {
     python "$root/cards/stripe.card" >"$room/lines" &&
-        printf 'rest after 6 moves\na place of 44 bytes, restored the same\n' | cmp - "$room/lines"
+        printf '%s\n' 'rest after 6 moves' 'bands finished: 1' \
+            'a place of 44 bytes, restored the same' | cmp - "$room/lines"
 }
 refused() { ! python "$root/cards/loop.card" && grep -q 'load is refused with 6' "$room/said"; }
 if [ -n "$linked" ]; then

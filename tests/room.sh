@@ -35,7 +35,7 @@ END
 
 # What an app lends: the largest card, a configuration as the header lays it out, a list of every choice, the largest place.
 card=24128
-configuration=1060
+configuration=1062
 list=$((2 * 768))
 place=$((44 + 1024))
 printf '%-42s %6d bytes\n' 'the largest card' "$card" 'a configuration' "$configuration" 'a list of 768 choices' "$list" \

@@ -25,11 +25,12 @@ determined =
             e .2 .1 ∙ ap answerCarried a ∙ sym (f .2 .1),
           );
       print = λ card node text left left′ n n′ k k′ e f. (same (e .0) (f .0), same (e .2) (f .2), same (e .1) (f .1));
-      parts = λ b b′ g g′ p p′ n n′ f f′ e. (
+      parts = λ b b′ g g′ p p′ n n′ f f′ m m′ e. (
         ap (λ (c : Configuration). c .mind .beliefs) e,
         ap (λ (c : Configuration). c .mind .goals) e,
         ap (λ (c : Configuration). c .plan) e,
         ap (λ (c : Configuration). c .mind .length) e,
         ap (λ (c : Configuration). c .mind .phase) e,
+        ap (λ (c : Configuration). c .mind .finished) e,
       );
     }

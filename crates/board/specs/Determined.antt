@@ -1,5 +1,5 @@
 -- The contract of each of the ten functions for C, by the one name that its `ensures` cites, and that it leaves one answer
--- (proved in proofs/). n is the return value. What is lent to be written is named as it is left: c for a configuration's five
+-- (proved in proofs/). n is the return value. What is lent to be written is named as it is left: c for a configuration's six
 -- parts, left for a list, a place, a card or a text, the others as in include/rigtemple.h. What is lent to be read stays as it is.
 use mathlib.Core.Path.{_≡_}
 use mathlib.Core.List.{List}
@@ -88,7 +88,7 @@ pub record DeterminedParts : Type 0 where
       → (n ≡ n′) × (left ≡ left′) × (count ≡ count′) × (place ≡ place′)
   pub print : (card : Bytes) (node : ℕ) (text left left′ : Bytes) (n n′ count count′ : ℕ)
       → Prints card node text n left count → Prints card node text n′ left′ count′ → (n ≡ n′) × (left ≡ left′) × (count ≡ count′)
-  -- the same sentence, "every byte and number in lent buffers": equal configurations are equal in each of the five lent parts.
-  pub parts : (beliefs beliefs′ goals goals′ plan plan′ : Bytes) (length length′ phase phase′ : ℕ)
-      → whole beliefs goals plan length phase ≡ whole beliefs′ goals′ plan′ length′ phase′
-      → (beliefs ≡ beliefs′) × (goals ≡ goals′) × (plan ≡ plan′) × (length ≡ length′) × (phase ≡ phase′)
+  -- the same sentence, "every byte and number in lent buffers": equal configurations are equal in each of the six lent parts.
+  pub parts : (beliefs beliefs′ goals goals′ plan plan′ : Bytes) (length length′ phase phase′ finished finished′ : ℕ)
+      → whole beliefs goals plan length phase finished ≡ whole beliefs′ goals′ plan′ length′ phase′ finished′
+      → (beliefs ≡ beliefs′) × (goals ≡ goals′) × (plan ≡ plan′) × (length ≡ length′) × (phase ≡ phase′) × (finished ≡ finished′)

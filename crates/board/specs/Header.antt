@@ -13,8 +13,8 @@ use Rattle.meaning.specs.Refusals.{answerNumber, answerCarried}
 use Rattle.meaning.specs.Numbers.{endingNumber, verdictNumber, verdictOffender, verdictRule}
 
 -- A configuration from its parts: "`beliefs` and `goals` are 16 bytes each, `plan` is 1,024 bytes."
-abbrev pub whole : Bytes → Bytes → Bytes → ℕ → ℕ → Configuration
-whole b g p n f = record { mind = record { beliefs = b; goals = g; length = n; phase = f }; plan = p }
+abbrev pub whole : Bytes → Bytes → Bytes → ℕ → ℕ → ℕ → Configuration
+whole b g p n f m = record { mind = record { beliefs = b; goals = g; length = n; phase = f; finished = m }; plan = p }
 
 -- ---- what a call tells: n is its return value, the answer's number; c is what the lent parts hold when it returns
 

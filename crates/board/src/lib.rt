@@ -1,4 +1,4 @@
-// The board: the guide's ten calls for C, as include/rigtemple.h declares them. A configuration is lent in its five parts;
+// The board: the guide's ten calls for C, as include/rigtemple.h declares them. A configuration is lent in its six parts;
 // the return value is the answer's number.
 ghost use mathlib.Core.Path.{_≡_};
 ghost use Rattle.board.specs.Header.{whole};
@@ -14,21 +14,29 @@ use meaning::Checked;
 use meaning::Mind;
 
 // The mind of a configuration that is lent in its parts.
-fn mind(beliefs: &[u8; 16], goals: &[u8; 16], length: u16, phase: u8) -> Mind
-    ensures { λ r. ⌜ r ≡ record { beliefs = now (beliefs .entry); goals = now (goals .entry); length = length; phase = phase } ⌝ }
+fn mind(beliefs: &[u8; 16], goals: &[u8; 16], length: u16, phase: u8, finished: u16) -> Mind
+    ensures { λ r. ⌜ r ≡ record { beliefs = now (beliefs .entry); goals = now (goals .entry); length = length; phase = phase; finished = finished } ⌝ }
 {
     Mind {
         beliefs: *beliefs,
         goals: *goals,
         length: length,
         phase: phase,
+        finished: finished,
     }
 }
 
 // A mind into the lent parts.
-fn put(m: Mind, beliefs: &mut [u8; 16], goals: &mut [u8; 16], length: &mut u16, phase: &mut u8)
+fn put(
+    m: Mind,
+    beliefs: &mut [u8; 16],
+    goals: &mut [u8; 16],
+    length: &mut u16,
+    phase: &mut u8,
+    finished: &mut u16,
+)
     ensures { λ r. ⌜ (now (beliefs .exit) ≡ m .beliefs) × (now (goals .exit) ≡ m .goals)
-        × (now (length .exit) ≡ m .length) × (now (phase .exit) ≡ m .phase) ⌝ }
+        × (now (length .exit) ≡ m .length) × (now (phase .exit) ≡ m .phase) × (now (finished .exit) ≡ m .finished) ⌝ }
 {
     let b = m.beliefs;
     let g = m.goals;
@@ -36,6 +44,7 @@ fn put(m: Mind, beliefs: &mut [u8; 16], goals: &mut [u8; 16], length: &mut u16, 
     *goals = g;
     *length = m.length;
     *phase = m.phase;
+    *finished = m.finished;
 }
 
 // Whether a card is good.
@@ -59,13 +68,15 @@ pub extern "C" fn rigtemple_load_parts(
     plan: &mut [u8; 1024],
     length: &mut u16,
     phase: &mut u8,
+    finished: &mut u16,
 ) -> u16
     ensures { λ r. ⌜ Loads (now (card .entry)) r
-        (whole (now (beliefs .exit)) (now (goals .exit)) (now (plan .exit)) (now (length .exit)) (now (phase .exit))) ⌝ }
+        (whole (now (beliefs .exit)) (now (goals .exit)) (now (plan .exit)) (now (length .exit)) (now (phase .exit))
+        (now (finished .exit))) ⌝ }
 {
     let loaded = place::load::load(card, plan);
     let m = loaded.mind;
-    put(m, beliefs, goals, length, phase);
+    put(m, beliefs, goals, length, phase, finished);
     let a = loaded.answer;
     answer_number(a)
 }
@@ -79,17 +90,25 @@ pub extern "C" fn rigtemple_take_parts(
     plan: &mut [u8; 1024],
     length: &mut u16,
     phase: &mut u8,
+    finished: &mut u16,
     choice: u16,
     node: &mut u16,
 ) -> u16
     ensures { λ r. ⌜ Takes (now (card .entry))
-        (whole (now (beliefs .entry)) (now (goals .entry)) (now (plan .entry)) (now (length .entry)) (now (phase .entry))) choice r
-        (whole (now (beliefs .exit)) (now (goals .exit)) (now (plan .exit)) (now (length .exit)) (now (phase .exit)))
+        (whole (now (beliefs .entry)) (now (goals .entry)) (now (plan .entry)) (now (length .entry)) (now (phase .entry))
+        (now (finished .entry))) choice r
+        (whole (now (beliefs .exit)) (now (goals .exit)) (now (plan .exit)) (now (length .exit)) (now (phase .exit))
+        (now (finished .exit)))
         (now (node .exit)) ⌝ }
 {
-    let taken = moves::take::take(card, mind(beliefs, goals, *length, *phase), plan, choice);
+    let taken = moves::take::take(
+        card,
+        mind(beliefs, goals, *length, *phase, *finished),
+        plan,
+        choice,
+    );
     let m = taken.mind;
-    put(m, beliefs, goals, length, phase);
+    put(m, beliefs, goals, length, phase, finished);
     let a = taken.answer;
     *node = answer_carried(a) as u16;
     answer_number(a)
@@ -104,18 +123,26 @@ pub extern "C" fn rigtemple_run_parts(
     plan: &mut [u8; 1024],
     length: &mut u16,
     phase: &mut u8,
+    finished: &mut u16,
     budget: u16,
     count: &mut u16,
     ending: &mut u8,
 ) -> u16
     ensures { λ r. ⌜ Runs (now (card .entry))
-        (whole (now (beliefs .entry)) (now (goals .entry)) (now (plan .entry)) (now (length .entry)) (now (phase .entry))) budget r
-        (whole (now (beliefs .exit)) (now (goals .exit)) (now (plan .exit)) (now (length .exit)) (now (phase .exit)))
+        (whole (now (beliefs .entry)) (now (goals .entry)) (now (plan .entry)) (now (length .entry)) (now (phase .entry))
+        (now (finished .entry))) budget r
+        (whole (now (beliefs .exit)) (now (goals .exit)) (now (plan .exit)) (now (length .exit)) (now (phase .exit))
+        (now (finished .exit)))
         (now (count .exit)) (now (ending .exit)) ⌝ }
 {
-    let ran = moves::run::run(card, mind(beliefs, goals, *length, *phase), plan, budget);
+    let ran = moves::run::run(
+        card,
+        mind(beliefs, goals, *length, *phase, *finished),
+        plan,
+        budget,
+    );
     let m = ran.mind;
-    put(m, beliefs, goals, length, phase);
+    put(m, beliefs, goals, length, phase, finished);
     *count = ran.count;
     let e = ran.ending;
     *ending = ending_number(e);
@@ -133,13 +160,15 @@ pub extern "C" fn rigtemple_restore_parts(
     plan: &mut [u8; 1024],
     length: &mut u16,
     phase: &mut u8,
+    finished: &mut u16,
 ) -> u16
     ensures { λ r. ⌜ Restores (now (card .entry)) (now (place .entry)) r
-        (whole (now (beliefs .exit)) (now (goals .exit)) (now (plan .exit)) (now (length .exit)) (now (phase .exit))) ⌝ }
+        (whole (now (beliefs .exit)) (now (goals .exit)) (now (plan .exit)) (now (length .exit)) (now (phase .exit))
+        (now (finished .exit))) ⌝ }
 {
     let restored = place::restore::restore(card, place, plan);
     let m = restored.mind;
-    put(m, beliefs, goals, length, phase);
+    put(m, beliefs, goals, length, phase, finished);
     let a = restored.answer;
     answer_number(a)
 }
@@ -153,14 +182,20 @@ pub extern "C" fn rigtemple_list_parts(
     plan: &[u8; 1024],
     length: u16,
     phase: u8,
+    finished: u16,
     list: &mut [u16],
     count: &mut u16,
 ) -> u16
     ensures { λ r. ⌜ Lists (now (card .entry))
-        (whole (now (beliefs .entry)) (now (goals .entry)) (now (plan .entry)) length phase) (now (list .entry)) r
+        (whole (now (beliefs .entry)) (now (goals .entry)) (now (plan .entry)) length phase finished) (now (list .entry)) r
         (now (list .exit)) (now (count .exit)) ⌝ }
 {
-    let listed = moves::list::list(card, mind(beliefs, goals, length, phase), plan, list);
+    let listed = moves::list::list(
+        card,
+        mind(beliefs, goals, length, phase, finished),
+        plan,
+        list,
+    );
     *count = listed.count;
     let a = listed.answer;
     answer_number(a)
@@ -175,14 +210,20 @@ pub extern "C" fn rigtemple_save_parts(
     plan: &[u8; 1024],
     length: u16,
     phase: u8,
+    finished: u16,
     place: &mut [u8],
     count: &mut u16,
 ) -> u16
     ensures { λ r. ⌜ Saves (now (card .entry))
-        (whole (now (beliefs .entry)) (now (goals .entry)) (now (plan .entry)) length phase) (now (place .entry)) r
+        (whole (now (beliefs .entry)) (now (goals .entry)) (now (plan .entry)) length phase finished) (now (place .entry)) r
         (now (place .exit)) (now (count .exit)) ⌝ }
 {
-    let saved = place::save::save(card, mind(beliefs, goals, length, phase), plan, place);
+    let saved = place::save::save(
+        card,
+        mind(beliefs, goals, length, phase, finished),
+        plan,
+        place,
+    );
     *count = saved.count;
     let a = saved.answer;
     answer_number(a)

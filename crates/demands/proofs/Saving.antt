@@ -8,6 +8,7 @@ use lib.Dec.{leb, eqb}
 use lib.ListN.{length, take, drop, length-append}
 use lib.Seq.{take-append-seam, drop-append-seam, length-take-le}
 use borrow.Author.Tests.{le-leb, eq-eqb}
+use Rattle.runs.specs.Limits.{mostFinished}
 use Rattle.runs.specs.Order.{State}
 use Rattle.meaning.specs.declared.Answer.the-variants.{Done}
 use Rattle.meaning.specs.declared.Layout.{Layout}
@@ -47,11 +48,12 @@ module _ {X : Type 0} where
 pub record Kept (l : Layout) (s : State) : Type 0 where
   pub beliefs : length (s .mental .σ) ≡ 16
   pub goals : length (s .mental .γ) ≡ 16
+  pub finished : s .finished ≤ mostFinished
   pub known : Known l s
 
 module _ (l : Layout) (s : State) (k : Kept l s) where
   same : placed (place s) ≡ s
-  same = place-laws .saved-restored s (k .beliefs) (k .goals) (k .known .phase)
+  same = place-laws .saved-restored s (k .beliefs) (k .goals) (k .known .phase) (k .finished)
 
   length-place : length (place s) ≡ 44 + length (s .mental .π)
   unfolding place placeHeader
@@ -93,19 +95,15 @@ module _ (l : Layout) (s : State) (k : Kept l s) where
   unfolding place placeHeader
   marked = refl
 
-  zeros : eqb (numberAt (place s) 10) 0 ≡ true
-  unfolding place placeHeader
-  zeros = refl
-
   offset : eqb (numberAt (place s) 6) 44 ≡ true
   unfolding place placeHeader
   offset = refl
 
-  counted : (leb (numberAt (place s) 4) 1024 && (leb (numberAt (place s) 8) 2 && eqb (numberAt (place s) 10) 0)) ≡ true
+  counted : (leb (numberAt (place s) 4) 1024 && leb (numberAt (place s) 8) 2) ≡ true
   counted =
       let a : leb (numberAt (place s) 4) 1024 ≡ true = rw length-at (le-leb _ _ (k .known .fits)) in
       let b : leb (numberAt (place s) 8) 2 ≡ true = rw phase-at (le-leb _ _ (k .known .phase)) in
-      both-true _ _ a (both-true _ _ b zeros)
+      both-true _ _ a b
 
   laid-out : (eqb (numberAt (place s) 6) 44 && eqb (length (place s)) (44 + numberAt (place s) 4)) ≡ true
   laid-out = both-true _ _ offset (eq-eqb _ _ (length-place ∙ ap (λ n. 44 + n) (sym length-at)))
@@ -139,7 +137,7 @@ place-accepted b s e k = ap (λ a. andThen a (firstGiven (placeTable (layout b))
 
 kept : (b : Bytes) (c : Configuration) → OnAccepted b c → Shaped c → Kept (layout b) (stateOf c)
 unfolding stateOf
-kept b c on h = record { beliefs = h .beliefs; goals = h .goals; known = known-of (layout b) c (passed-good b c on) }
+kept b c on h = record { beliefs = h .beliefs; goals = h .goals; finished = h .finished; known = known-of (layout b) c (passed-good b c on) }
 
 pub saved-restored : (b : Bytes) (c : Configuration) → Shaped c → (out left : Bytes) (r : Written) → Writing b c (place (stateOf c)) out r left
     → r .answer ≡ Done → (r′ : Reply) → Restores b (take (r .count) left) r′ → (r′ .answer ≡ Done) × (r′ .configuration ≡ c)

@@ -2,9 +2,9 @@
 -- definitions are meaning's.
 use mathlib.Core.Path.{_≡_}
 use mathlib.Core.List.{List}
-use Prim.Native.Nat.{ℕ}
+use Prim.Native.Nat.{ℕ, _≤_}
 use lib.ListN.{length}
-use Rattle.runs.specs.Limits.{longestPlan}
+use Rattle.runs.specs.Limits.{longestPlan, mostFinished}
 use Rattle.meaning.specs.declared.Configuration.{Configuration}
 use Rattle.meaning.specs.declared.Checked.{Checked}
 use Rattle.meaning.specs.declared.Reply.{Reply}
@@ -46,8 +46,8 @@ Saves b c out r left = (r ≡ saves b c out) × (left ≡ saveLeaves b c out)
 abbrev pub Restores : Bytes → Bytes → Reply → Type 0
 Restores b p r = r ≡ restores b p
 
--- What the types of its fields say of any configuration: how long its sets and its plan are. Load, take, run
--- and restore ensure it of what they answer, and save of what it is handed.
+-- What the types of its fields say of any configuration: how long its sets and its plan are, and that the count is a number of two
+-- bytes. Load, take, run and restore ensure it of what they answer, and save of what it is handed.
 pub record Shaped (c : Configuration) : Type 0 where
   -- 01, "The card, edition 1": "A set of atoms is 16 bytes"
   pub beliefs : length (c .mind .beliefs) ≡ 16
@@ -55,3 +55,5 @@ pub record Shaped (c : Configuration) : Type 0 where
   pub goals : length (c .mind .goals) ≡ 16
   -- 00, the machine: "A plan holds up to 1,024 actions."
   pub plan : length (c .plan) ≡ longestPlan
+  -- 02, Wish 4: "stopping at 65,535"
+  pub finished : c .mind .finished ≤ mostFinished

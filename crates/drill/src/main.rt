@@ -97,17 +97,17 @@ fn no_plan() -> [u8; 1024]
     [0u8; 1024]
 }
 
-// "An image of a configuration: beliefs, goals (16 bytes each …), plan length (2), phase (1), … m (2, at most 1,024), and the first
-// m bytes of the plan's array; the rest of the array is zero."
+// "An image of a configuration: beliefs, goals (16 bytes each …), plan length (2), phase (1), … the finished count (2), m (2, at
+// most 1,024), and the first m bytes of the plan's array; the rest of the array is zero."
 fn next_image() -> Asked {
-    let mut head = [0u8; 37];
+    let mut head = [0u8; 39];
     let mut plan = no_plan();
     let mut whole = false;
     let got = io::read_full(0, &mut head);
-    let m = joined(head[35], head[36]);
+    let m = joined(head[37], head[38]);
     if m <= 1024 {
         let filled = fill(&mut plan[..m as usize]);
-        whole = (37 <= got) & filled;
+        whole = (39 <= got) & filled;
     }
     let beliefs = set_at(&head, 0);
     let goals = set_at(&head, 16);
@@ -119,6 +119,7 @@ fn next_image() -> Asked {
                 goals: goals,
                 length: joined(head[32], head[33]),
                 phase: head[34],
+                finished: joined(head[35], head[36]),
             },
             plan: plan,
         },
@@ -177,7 +178,16 @@ fn tell_image(c: Configuration) {
     let plan = c.plan;
     let n = mind.length;
     let m = least(&plan);
-    let rest = [low(n), high(n), mind.phase, low(m as u16), high(m as u16)];
+    let f = mind.finished;
+    let rest = [
+        low(n),
+        high(n),
+        mind.phase,
+        low(f),
+        high(f),
+        low(m as u16),
+        high(m as u16),
+    ];
     io::write_all(1, &beliefs);
     io::write_all(1, &goals);
     io::write_all(1, &rest);

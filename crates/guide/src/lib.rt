@@ -23,6 +23,7 @@ pub fn check(card: &[u8]) -> Checked
 // What was answered in place, with the plan.
 fn reply_with(r: ReplyInPlace, plan: [u8; 1024]) -> Reply
     ensures { λ x. ⌜ x ≡ replyWith r plan ⌝ }
+    ensures { λ x. ⌜ Shaped (x .configuration) ⌝ }
 {
     let a = r.answer;
     let m = r.mind;
@@ -92,6 +93,7 @@ pub fn take(card: &[u8], c: Configuration, choice: u16) -> Reply
 // What a run answered in place, with the plan.
 fn ran_with(r: RanInPlace, plan: [u8; 1024]) -> Ran
     ensures { λ x. ⌜ x ≡ ranWith r plan ⌝ }
+    ensures { λ x. ⌜ Shaped (x .configuration) ⌝ }
 {
     let a = r.answer;
     let e = r.ending;

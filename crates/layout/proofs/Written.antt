@@ -1,7 +1,8 @@
 -- The laws of bytes that are written one part after another.
 use mathlib.Core.Path.{_≡_, sym, ap, ap₂, _∙_}
 use mathlib.Core.List.{List, [], _∷_, _++_, append-assoc}
-use Prim.Native.Nat.{ℕ, _+_, _/_, _%_, _≤_}
+use Prim.Native.Nat.{ℕ, _+_, _/_, _%_, _≤_, _<_}
+use native.Mathlib.Nat.{mod-eq-of-lt}
 use native.Mathlib.Omega.{arith}
 use lib.ListN.{length, take, drop, length-append}
 use lib.Seq.{paste, take-at, drop-at, drop-drop, take-all, length-take-le}
@@ -9,14 +10,18 @@ use Rattle.meaning.specs.declared.Configuration.{Configuration}
 use Rattle.meaning.specs.Place.{placeHeader, place}
 use Rattle.meaning.specs.Configurations.{stateOf}
 
--- a header's bytes, where L and the phase are in range
-pub header-bytes : (n phase : ℕ) → n ≤ 1024 → phase ≤ 2 → 0x33 ∷ 0x50 ∷ 1 ∷ 0 ∷ (n % 256) ∷ (n / 256) ∷ 44 ∷ 0 ∷ phase ∷ 0 ∷ 0 ∷ 0 ∷ [] ≡ placeHeader n phase
+-- the high byte of a number of two bytes
+high-byte : (n : ℕ) → n < 65536 → n / 256 ≡ n / 256 % 256
+high-byte n h = let e : n / 256 < 256 = omega arith in sym (mod-eq-of-lt e)
+
+-- a header's bytes, where its numbers have two bytes and the phase has one
+pub header-bytes : (n phase finished : ℕ) → n < 65536 → phase < 256 → finished < 65536
+    → 0x33 ∷ 0x50 ∷ 1 ∷ 0 ∷ (n % 256) ∷ (n / 256) ∷ 44 ∷ 0 ∷ phase ∷ 0 ∷ (finished % 256) ∷ (finished / 256) ∷ [] ≡ placeHeader n phase finished
 unfolding placeHeader
-header-bytes n phase h k =
-    let e : n / 256 ≡ n / 256 % 256 = omega arith in
+header-bytes n phase finished h k l =
     let f : phase ≡ phase % 256 = omega arith in
     let g : 0 ≡ phase / 256 % 256 = omega arith in
-    λ i. 0x33 ∷ 0x50 ∷ 1 ∷ 0 ∷ (n % 256) ∷ e i ∷ 44 ∷ 0 ∷ f i ∷ g i ∷ 0 ∷ 0 ∷ []
+    λ i. 0x33 ∷ 0x50 ∷ 1 ∷ 0 ∷ (n % 256) ∷ high-byte n h i ∷ 44 ∷ 0 ∷ f i ∷ g i ∷ (finished % 256) ∷ high-byte finished l i ∷ []
 
 -- p is written over d, and then m bytes of s
 part-next : (p d s out : List ℕ) (n m : ℕ) → length p ≡ n → out ≡ p ++ drop n d → paste out n s m ≡ (p ++ take m s) ++ drop (n + m) d
@@ -25,7 +30,7 @@ part-next p d s out n m e q =
 
 module _ (c : Configuration) (d d₁ d₂ d₃ d₄ : List ℕ) (lb : length (c .mind .beliefs) ≡ 16) (lg : length (c .mind .goals) ≡ 16)
     (lp : length (c .plan) ≡ 1024) (fits : c .mind .length ≤ 1024)
-    (h : List ℕ) (e₀ : h ≡ placeHeader (c .mind .length) (c .mind .phase)) (lh : length h ≡ 12) (e₁ : d₁ ≡ paste d 0 h 12)
+    (h : List ℕ) (e₀ : h ≡ placeHeader (c .mind .length) (c .mind .phase) (c .mind .finished)) (lh : length h ≡ 12) (e₁ : d₁ ≡ paste d 0 h 12)
     (e₂ : d₂ ≡ paste d₁ 12 (c .mind .beliefs) 16)
     (e₃ : d₃ ≡ paste d₂ 28 (c .mind .goals) 16)
     (e₄ : d₄ ≡ paste d₃ 44 (c .plan) (c .mind .length)) where
@@ -48,7 +53,7 @@ module _ (c : Configuration) (d d₁ d₂ d₃ d₄ : List ℕ) (lb : length (c 
       let q₃ : d₃ ≡ h₃ ++ drop 44 d = e₃ ∙ part-next h₂ d (c .mind .goals) d₂ 28 16 l₂ q₂ in
       let t : List ℕ = take (c .mind .length) (c .plan) in
       let n : c .mind .length ≡ length (take (c .mind .length) (c .plan)) = sym (length-take-le (c .mind .length) (c .plan) (omega arith)) in
-      let head : h ≡ placeHeader (length (take (c .mind .length) (c .plan))) (c .mind .phase) = e₀ ∙ ap (λ k. placeHeader k (c .mind .phase)) n in
+      let head : h ≡ placeHeader (length (take (c .mind .length) (c .plan))) (c .mind .phase) (c .mind .finished) = e₀ ∙ ap (λ k. placeHeader k (c .mind .phase) (c .mind .finished)) n in
       e₄ ∙ part-next h₃ d (c .plan) d₃ 44 (c .mind .length) l₃ q₃
       ∙ ap (λ (x : List ℕ). x ++ drop (44 + c .mind .length) d) (
       ap₂ (λ (x y : List ℕ). ((h ++ x) ++ y) ++ t) b g

@@ -6,7 +6,14 @@ use Rattle.layout.specs.declared.place.PlaceParts.{PlaceParts}
 
 -- all of a place but its mark and its plan
 abbrev pub placeParts : Bytes → PlaceParts
-placeParts p = record { length = numberAt p 4; offset = numberAt p 6; phase = numberAt p 8; zero = numberAt p 10; beliefs = part p 12 16; goals = part p 28 16 }
+placeParts p = record {
+  length = numberAt p 4;
+  offset = numberAt p 6;
+  phase = numberAt p 8;
+  finished = numberAt p 10;
+  beliefs = part p 12 16;
+  goals = part p 28 16;
+}
 
 -- a mind and a lent plan's bytes, as one configuration
 abbrev pub lent : Mind → Bytes → Configuration

@@ -1,6 +1,6 @@
-// The three limits of 1,024, each by a name of its own.
+// The limits, each by a name of its own: three are 1,024.
 ghost use mathlib.Core.Path.{_≡_};
-ghost use Rattle.runs.specs.Limits.{longestPlan, heaviestAction, heaviestPlan};
+ghost use Rattle.runs.specs.Limits.{longestPlan, heaviestAction, heaviestPlan, mostFinished};
 
 // "a plan (0 to 1,024 action numbers)"
 pub fn longest_plan() -> usize
@@ -21,4 +21,11 @@ pub fn heaviest_plan() -> usize
     ensures { λ r. ⌜ r ≡ heaviestPlan ⌝ }
 {
     1024
+}
+
+// "stopping at 65,535"
+pub fn most_finished() -> u16
+    ensures { λ r. ⌜ r ≡ mostFinished ⌝ }
+{
+    65535
 }

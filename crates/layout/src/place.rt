@@ -11,12 +11,12 @@ use crate::bytes::number_at;
 use crate::bytes::set_at;
 use meaning::Mind;
 
-// "plan length L at 4; plan offset 44 at 6; phase at 8; zero at 10; beliefs at 12; goals at 28".
+// "plan length L at 4; plan offset 44 at 6; phase at 8"; the finished count "in bytes 10 and 11"; "beliefs at 12; goals at 28".
 pub struct PlaceParts {
     pub length: usize,
     pub offset: usize,
     pub phase: usize,
-    pub zero: usize,
+    pub finished: usize,
     pub beliefs: [u8; 16],
     pub goals: [u8; 16],
 }
@@ -39,7 +39,7 @@ pub fn place_size(length: usize) -> usize
 // All of a place but its mark and its plan.
 pub fn read_parts(p: &[u8]) -> PlaceParts
     requires { ⌜ 44 ≤ length (now p) ⌝ }
-    ensures { λ r. ⌜ (r ≡ placeParts (now (p .entry))) × (r .length ≤ 65535) ⌝ }
+    ensures { λ r. ⌜ (r ≡ placeParts (now (p .entry))) × (r .length ≤ 65535) × (r .finished ≤ 65535) ⌝ }
 {
     let beliefs = set_at(p, 12);
     let goals = set_at(p, 28);
@@ -47,16 +47,16 @@ pub fn read_parts(p: &[u8]) -> PlaceParts
         length: number_at(p, 4),
         offset: number_at(p, 6),
         phase: number_at(p, 8),
-        zero: number_at(p, 10),
+        finished: number_at(p, 10),
         beliefs: beliefs,
         goals: goals,
     }
 }
 
-// "Bytes 33 50 hex; edition 1 at 2; plan length L at 4; plan offset 44 at 6; phase at 8; zero at 10"
-fn header_of(n: u16, phase: u8) -> [u8; 12]
-    requires { ⌜ (n ≤ 1024) × (phase ≤ 2) ⌝ }
-    ensures { λ r. ⌜ r ≡ placeHeader n phase ⌝ }
+// "Bytes 33 50 hex; edition 1 at 2; plan length L at 4; plan offset 44 at 6; phase at 8", and the finished count "in bytes 10 and
+// 11".
+fn header_of(n: u16, phase: u8, finished: u16) -> [u8; 12]
+    ensures { λ r. ⌜ r ≡ placeHeader n phase finished ⌝ }
 {
     [
         0x33,
@@ -69,19 +69,19 @@ fn header_of(n: u16, phase: u8) -> [u8; 12]
         0,
         phase,
         0,
-        0,
-        0,
+        (finished % 256) as u8,
+        (finished / 256) as u8,
     ]
 }
 
 // The whole place, where there is room: the header, "beliefs at 12; goals at 28; the plan's L bytes at 44".
 pub fn write_place(m: Mind, plan: &[u8; 1024], out: &mut [u8])
-    requires { ⌜ (m .length ≤ 1024) × (m .phase ≤ 2) × (44 + m .length ≤ length (now out)) × (length (now plan) ≡ 1024) ⌝ }
+    requires { ⌜ (m .length ≤ 1024) × (44 + m .length ≤ length (now out)) × (length (now plan) ≡ 1024) ⌝ }
     ensures { λ r. ⌜ now (out .exit) ≡ place (stateOf (lent m (now (plan .entry)))) ++ drop (44 + m .length) (now (out .entry)) ⌝ }
 {
     let b = m.beliefs;
     let g = m.goals;
-    let h = header_of(m.length, m.phase);
+    let h = header_of(m.length, m.phase, m.finished);
     copy(out, 0, &h, 0, 12);
     copy(out, 12, &b, 0, 16);
     copy(out, 28, &g, 0, 16);

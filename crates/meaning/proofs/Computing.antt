@@ -4,7 +4,7 @@ use Rattle.paper.specs.Transitions.{_⊨_, σ′, γ′}
 use Rattle.paper.specs.Next.{canSelect, selected, canAct, acted, canRevise, revised, outcome, next, enabled}
 use Rattle.runs.specs.Order.{kind, code, numbers, ofKind, inTurn, guide, enabledCodes}
 use Rattle.runs.specs.Order as Order
-use Rattle.runs.specs.Step.{after, fits, step}
+use Rattle.runs.specs.Step.{finishedWith, after, fits, step}
 use Rattle.runs.specs.Run.{run}
 use Rattle.runs.specs.Weight.{weigh, verdict}
 use Rattle.meaning.specs.Card.{part, layout, weights, weight, nodeAt, specificationAt, selectionAt, revisionAt, nodes, conditions, plan, specificationOf, selectionOf, revisionOf, agentOf, agentFor, agent, initialPlan, start}
@@ -15,5 +15,5 @@ use Rattle.meaning.specs.Why.{settlers, why}
 use Rattle.meaning.specs.Calls.{checks, writes, leaves, loads, grades, lists, listLeaves, choice, takes, runs, saves, saveLeaves, restores}
 
 unfoldable pub computing : Unit {0}
-unfolding bit _∈_ _∪_ _∖_ _⊨_ σ′ γ′ canSelect selected canAct acted canRevise revised outcome next enabled kind Order.number code numbers ofKind inTurn guide enabledCodes after fits step run weigh verdict part layout weights weight nodeAt specificationAt selectionAt revisionAt nodes conditions plan specificationOf selectionOf revisionOf agentOf agentFor agent initialPlan start padded stateOf configurationOf empty placeHeader place placed numberOf answerNumber carried answerCarried firstGiven cardLongEnough cardMarkGood countsGood offsetsGood weightsGood nodesGood containing specificationGood selectionGood revisionGood rulesGood actionsGood setGood setsGood cardTable cardAnswer placeTable placeAnswer configurationGood configurationTable configurationAnswer settlers why checks loads grades writes leaves lists listLeaves choice takes runs saves saveLeaves restores
+unfolding bit _∈_ _∪_ _∖_ _⊨_ σ′ γ′ canSelect selected canAct acted canRevise revised outcome next enabled kind Order.number code numbers ofKind inTurn guide enabledCodes finishedWith after fits step run weigh verdict part layout weights weight nodeAt specificationAt selectionAt revisionAt nodes conditions plan specificationOf selectionOf revisionOf agentOf agentFor agent initialPlan start padded stateOf configurationOf empty placeHeader place placed numberOf answerNumber carried answerCarried firstGiven cardLongEnough cardMarkGood countsGood offsetsGood weightsGood nodesGood containing specificationGood selectionGood revisionGood rulesGood actionsGood setGood setsGood cardTable cardAnswer placeTable placeAnswer configurationGood configurationTable configurationAnswer settlers why checks loads grades writes leaves lists listLeaves choice takes runs saves saveLeaves restores
 computing = tt

@@ -57,7 +57,7 @@ good l c e0 =
 
 of-state : (s : State) → length (s .mental .π) ≤ 1024 → stateOf (configurationOf s) ≡ s
 unfolding stateOf configurationOf
-of-state s h = λ i. record { mental = ⟨ s .mental .σ / take-padded (s .mental .π) (length (s .mental .π)) refl i / s .mental .γ ⟩; phase = s .phase }
+of-state s h = λ i. record { mental = ⟨ s .mental .σ / take-padded (s .mental .π) (length (s .mental .π)) refl i / s .mental .γ ⟩; phase = s .phase; finished = s .finished }
 
 of-configuration : (l : Layout) (c : Configuration) → length (c .plan) ≡ 1024 → configurationGood l c ≡ true → configurationOf (stateOf c) ≡ c
 unfolding stateOf configurationOf
@@ -67,7 +67,7 @@ of-configuration l c r e =
     let p : padded (take (m .length) (c .plan)) ≡ c .plan = padded-take (c .plan) (m .length) r (g .fits) (g .zeros) in
     let f = g .fits in
     let n : length (take (m .length) (c .plan)) ≡ m .length = length-take-le (m .length) (c .plan) (omega arith) in
-    λ i. record { mind = record { beliefs = m .beliefs; goals = m .goals; length = n i; phase = m .phase }; plan = p i }
+    λ i. record { mind = record { beliefs = m .beliefs; goals = m .goals; length = n i; phase = m .phase; finished = m .finished }; plan = p i }
 
 pub configuration-laws : ConfigurationLaws
 configuration-laws = record { of-state = of-state; of-configuration = of-configuration }

@@ -12,6 +12,7 @@ use borrow.Author.Tests.{leb-true, eqb-true, not-false}
 use Rattle.paper.specs.Language.{⟨_/_/_⟩}
 use Rattle.paper.specs.Theorems.{AreBytes}
 use Rattle.paper.proofs.Relation.{both}
+use Rattle.runs.specs.Limits.{mostFinished}
 use Rattle.runs.specs.Order.{State}
 use Rattle.meaning.specs.declared.Layout.{Layout}
 use Rattle.meaning.specs.declared.Answer.the-variants.{Done}
@@ -21,9 +22,23 @@ use Rattle.meaning.specs.Refusals.{firstGiven, placeTable, actionsGood, 
 use Rattle.meaning.specs.Theorems.{PlaceLaws}
 use Rattle.meaning.proofs.Tables.{passes}
 
-saved-restored : (s : State) → length (s .mental .σ) ≡ 16 → length (s .mental .γ) ≡ 16 → s .phase ≤ 2 → placed (place s) ≡ s
+-- ---- a number in two bytes, low byte first
+
+two-bytes : (n : ℕ) → n < 65536 → n % 256 + 256 * (n / 256 % 256) ≡ n
+two-bytes n h = let e : n / 256 < 256 = omega arith in let f : n / 256 % 256 ≡ n / 256 = mod-eq-of-lt e in omega arith
+
+-- of the number at a place, each byte
+low-byte : (p : Bytes) (k n : ℕ) → AreBytes p → n ≡ numberAt p k → n % 256 ≡ byte p k
+low-byte p k n bs e = let b = bs k in omega arith
+
+high-byte : (p : Bytes) (k n : ℕ) → AreBytes p → n ≡ numberAt p k → n / 256 % 256 ≡ byte p (k + 1)
+high-byte p k n bs e = let a = bs k in let b = bs (k + 1) in let h : n / 256 ≡ byte p (k + 1) = omega arith in ap (λ m. m % 256) h ∙ mod-eq-of-lt b
+
+-- ---- saved and restored
+
+saved-restored : (s : State) → length (s .mental .σ) ≡ 16 → length (s .mental .γ) ≡ 16 → s .phase ≤ 2 → s .finished ≤ mostFinished → placed (place s) ≡ s
 unfolding placed place placeHeader part
-saved-restored s h g f =
+saved-restored s h g f m =
     let σ = s .mental .σ in
     let γ = s .mental .γ in
     let π = s .mental .π in
@@ -31,8 +46,9 @@ saved-restored s h g f =
     let d : drop 16 (σ ++ (γ ++ π)) ≡ γ ++ π = drop-at σ (γ ++ π) 16 h in
     let e : take 16 (drop 16 (σ ++ (γ ++ π))) ≡ γ = rw d (take-at γ π 16 g) in
     let r : drop 32 (σ ++ (γ ++ π)) ≡ π = sym (drop-drop 16 16 (σ ++ (γ ++ π))) ∙ ap (drop 16) d ∙ drop-at γ π 16 g in
-    let k : s .phase % 256 + 256 * (s .phase / 256 % 256) ≡ s .phase = omega arith in
-    λ i. record { mental = ⟨ a i / r i / e i ⟩; phase = k i }
+    let k : s .phase % 256 + 256 * (s .phase / 256 % 256) ≡ s .phase = two-bytes (s .phase) (omega arith) in
+    let n : s .finished % 256 + 256 * (s .finished / 256 % 256) ≡ s .finished = two-bytes (s .finished) (omega arith) in
+    λ i. record { mental = ⟨ a i / r i / e i ⟩; phase = k i; finished = n i }
 
 -- ---- an accepted place's bytes
 
@@ -56,7 +72,6 @@ pub record GoodPlace (l : Layout) (p : Bytes) : Type 0 where
   pub edition : numberAt p 2 ≡ 1
   pub fits : numberAt p 4 ≤ 1024
   pub phase : numberAt p 8 ≤ 2
-  pub zeros : numberAt p 10 ≡ 0
   pub offset : numberAt p 6 ≡ 44
   pub ends : length p ≡ 44 + numberAt p 4
   pub actions : actionsGood (l .actions) (drop 44 p) ≡ true
@@ -74,8 +89,7 @@ good-place l p e0 =
     let (h6, e6) = passes _ _ p e5 in
     let (m0, m) = both (eqb (byte p 0) 0x33) _ (not-false _ h2) in
     let (m1, m2) = both (eqb (byte p 1) 0x50) _ m in
-    let (n, r) = both (leb (numberAt p 4) 1024) _ (not-false _ h3) in
-    let (f, z) = both (leb (numberAt p 8) 2) _ r in
+    let (n, f) = both (leb (numberAt p 4) 1024) _ (not-false _ h3) in
     let (o, t) = both (eqb (numberAt p 6) 44) _ (not-false _ h4) in
     let (s, g) = both (setGood (l .atoms) (part p 12 16)) _ (not-false _ h6) in
     record {
@@ -85,7 +99,6 @@ good-place l p e0 =
       edition = eqb-true _ _ m2;
       fits = leb-true _ _ n;
       phase = leb-true _ _ f;
-      zeros = eqb-true _ _ z;
       offset = eqb-true _ _ o;
       ends = eqb-true _ _ t;
       actions = not-false _ h5;
@@ -93,35 +106,23 @@ good-place l p e0 =
       goals = g;
     }
 
-same-header : (y : Layout) (p : Bytes) → AreBytes p → GoodPlace y p → (n f : ℕ) → n ≡ numberAt p 4 → f ≡ numberAt p 8 → placeHeader n f ≡ bytesFrom p 0 12
+same-header : (y : Layout) (p : Bytes) → AreBytes p → GoodPlace y p → (n f m : ℕ) → n ≡ numberAt p 4 → f ≡ numberAt p 8 → m ≡ numberAt p 10 → placeHeader n f m ≡ bytesFrom p 0 12
 unfolding placeHeader bytesFrom
-same-header y p bs h n f l k =
-    let d = h .edition in
-    let s = h .fits in
-    let q = h .phase in
-    let z = h .zeros in
-    let o = h .offset in
-    let b4 = bs 4 in
-    let e2 : 1 ≡ byte p 2 = omega arith in
-    let e3 : 0 ≡ byte p 3 = omega arith in
-    let e4 : n % 256 ≡ byte p 4 = omega arith in
-    let high : n / 256 ≡ byte p 5 = omega arith in
-    let small : byte p 5 < 256 = omega arith in
-    let e5 : n / 256 % 256 ≡ byte p 5 = ap (λ m. m % 256) high ∙ mod-eq-of-lt small in
-    let e6 : 44 ≡ byte p 6 = omega arith in
-    let e7 : 0 ≡ byte p 7 = omega arith in
-    let e8 : f % 256 ≡ byte p 8 = omega arith in
-    let e9 : f / 256 % 256 ≡ byte p 9 = omega arith in
-    let e10 : 0 ≡ byte p 10 = omega arith in
-    let e11 : 0 ≡ byte p 11 = omega arith in
-    λ i. sym (h .mark0) i ∷ sym (h .mark1) i ∷ e2 i ∷ e3 i ∷ e4 i ∷ e5 i ∷ e6 i ∷ e7 i ∷ e8 i ∷ e9 i ∷ e10 i ∷ e11 i ∷ []
+same-header y p bs h n f m l k q =
+    let e2 = low-byte p 2 1 bs (sym (h .edition)) in
+    let e3 = high-byte p 2 1 bs (sym (h .edition)) in
+    let e6 = low-byte p 6 44 bs (sym (h .offset)) in
+    let e7 = high-byte p 6 44 bs (sym (h .offset)) in
+    λ i.
+    sym (h .mark0) i ∷ sym (h .mark1) i ∷ e2 i ∷ e3 i ∷ low-byte p 4 n bs l i ∷ high-byte p 4 n bs l i ∷ e6 i ∷ e7 i
+    ∷ low-byte p 8 f bs k i ∷ high-byte p 8 f bs k i ∷ low-byte p 10 m bs q i ∷ high-byte p 10 m bs q i ∷ []
 
 restored-saved : (y : Layout) (p : Bytes) → AreBytes p → firstGiven (placeTable y) p ≡ Done → place (placed p) ≡ p
 unfolding placed place part
 restored-saved y p bs e =
     let h = good-place y p e in
     let l : length (drop 44 p) ≡ numberAt p 4 = length-drop 44 p ∙ (let t = h .ends in omega arith) in
-    let q : placeHeader (length (drop 44 p)) (numberAt p 8) ≡ bytesFrom p 0 12 = same-header y p bs h (length (drop 44 p)) (numberAt p 8) l refl in
+    let q : placeHeader (length (drop 44 p)) (numberAt p 8) (numberAt p 10) ≡ bytesFrom p 0 12 = same-header y p bs h (length (drop 44 p)) (numberAt p 8) (numberAt p 10) l refl refl in
     let r : take 16 (drop 28 p) ++ drop 44 p ≡ drop 28 p = ap (λ x. take 16 (drop 28 p) ++ x) (sym (drop-drop 16 28 p)) ∙ take-append-drop 16 (drop 28 p) in
     let s : take 16 (drop 12 p) ++ drop 28 p ≡ drop 12 p = ap (λ x. take 16 (drop 12 p) ++ x) (sym (drop-drop 16 12 p)) ∙ take-append-drop 16 (drop 12 p) in
     let n = h .long-enough in

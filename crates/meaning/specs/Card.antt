@@ -192,6 +192,6 @@ abbrev pub initialGoals : Bytes → Bytes
 initialGoals b = part b 48 16
 
 -- 01, "A configuration and its transitions": "Loading answers the card's initial beliefs, goals and plan with phase 0, and
--- strikes no goal."
+-- strikes no goal."; 02, Wish 4: "since load"
 unfoldable pub start : Bytes → State
-start b = record { mental = ⟨ initialBeliefs b / initialPlan b / initialGoals b ⟩; phase = 0 }
+start b = record { mental = ⟨ initialBeliefs b / initialPlan b / initialGoals b ⟩; phase = 0; finished = 0 }

@@ -9,6 +9,7 @@ use lib.ListN as ListN
 use Rattle.paper.specs.Language.{⟨_/_/_⟩}
 use Rattle.runs.specs.Order.{code, guide}
 use Rattle.runs.specs.Weight.{weigh}
+use Rattle.meaning.specs.declared.Answer.{Answer}
 use Rattle.meaning.specs.declared.Configuration.{Configuration}
 use Rattle.meaning.specs.declared.Checked.{Checked}
 use Rattle.meaning.specs.declared.Reply.{Reply}
@@ -60,7 +61,7 @@ shownRun r = answerNumber (r .answer) ∷ endingNumber (r .ending) ∷ r .count 
 
 -- A configuration of beliefs, goals, a phase and a plan, as a case has it. Serves PCases.
 unfoldable pub configuration : Bytes → Bytes → ℕ → List ℕ → Configuration
-configuration beliefs goals phase π = configurationOf (record { mental = ⟨ beliefs / π / goals ⟩; phase = phase })
+configuration beliefs goals phase π = configurationOf (record { mental = ⟨ beliefs / π / goals ⟩; phase = phase; finished = 0 })
 
 -- 01, P12: "At the start": the stripe card, loaded.
 unfoldable pub loaded : Configuration
@@ -161,3 +162,34 @@ pub record ClosedCases : Type 0 where
   -- 02, Wish 1: "14 no such rule or specification": specification 3, and a kind that there is not.
   pub no-specification : shownTake (takes stripe (configuration (set 8) (set 4) 0 (0 ∷ [])) 259) ≡ 14 ∷ 0 ∷ (set 8 ++ (set 4 ++ (0 ∷ 0 ∷ [])))
   pub no-kind : shownTake (takes stripe (configuration (set 8) (set 4) 0 (0 ∷ [])) 768) ≡ 14 ∷ 0 ∷ (set 8 ++ (set 4 ++ (0 ∷ 0 ∷ [])))
+
+-- A configuration in which n transitions have left the plan empty. Serves FinishedCases.
+unfoldable pub havingFinished : ℕ → Configuration → Configuration
+havingFinished n c = configurationOf (record { mental = stateOf c .mental; phase = stateOf c .phase; finished = n })
+
+-- What take, run and restore answer of the count: the number, then how many transitions have left the plan empty. Serves
+-- FinishedCases.
+unfoldable pub shownFinished : Answer → Configuration → List ℕ
+shownFinished a c = answerNumber a ∷ c .mind .finished ∷ []
+
+-- 02, Wish 4: "how many transitions have left the plan empty since load, stopping at 65,535", on the stripe card unless said.
+pub record FinishedCases : Type 0 where
+  -- "since load"
+  pub at-load : loaded .mind .finished ≡ 0
+  -- 01, "The stripe card": "6 act 0 0 0": of the six steps the last alone leaves the plan empty.
+  pub five-steps : afterSteps 5 .mind .finished ≡ 0
+  pub six-steps : afterSteps 6 .mind .finished ≡ 1
+  -- the same six as chosen moves
+  pub six-taken : takenInTurn loaded (0 ∷ 512 ∷ 257 ∷ 513 ∷ 258 ∷ 256 ∷ []) .mind .finished ≡ 1
+  -- 01, P9: "a revision of 3 to the empty body: empty plan"
+  pub empty-body : (let r = takes stripe-P9 (configuration (set 8) (set 4) 0 (3 ∷ [])) 513 in shownFinished (r .answer) (r .configuration)) ≡ 0 ∷ 1 ∷ []
+  -- "stopping at 65,535": the move is taken
+  pub stops : (let r = takes stripe-P9 (havingFinished 65535 (configuration (set 8) (set 4) 0 (3 ∷ []))) 513 in
+      shownFinished (r .answer) (r .configuration) ++ shown (r .configuration)) ≡ 0 ∷ 65535 ∷ (set 8 ++ (set 4 ++ (0 ∷ [])))
+  -- "It stands in bytes 10 and 11 of the place", low byte first
+  pub in-place : ListN.take 2 (ListN.drop 10 (saveLeaves stripe (havingFinished 259 (afterSteps 6)) (replicate 44 0xEE))) ≡ 3 ∷ 1 ∷ []
+  -- "Saving and restoring keep it"
+  pub kept : (let r = restores stripe (saveLeaves stripe (havingFinished 259 (afterSteps 6)) (replicate 44 0xEE)) in
+      shownFinished (r .answer) (r .configuration)) ≡ 0 ∷ 259 ∷ []
+  -- "old places read as count 0"
+  pub old-place : (let r = restores stripe (placeP7 0) in shownFinished (r .answer) (r .configuration)) ≡ 0 ∷ 0 ∷ []

@@ -15,18 +15,29 @@ unfoldable pub padded : Plan → Bytes
 padded π = π ++ replicate (longestPlan - length π) 0
 
 -- 01, "A configuration and its transitions": "A configuration is a set of believed atoms, a set of goal atoms, a plan (0 to
--- 1,024 action numbers) and a phase 0, 1 or 2.": the one that is handed in.
+-- 1,024 action numbers) and a phase 0, 1 or 2.", and 02, Wish 4, the count: the one that is handed in.
 unfoldable pub stateOf : Configuration → State
-stateOf c = record { mental = ⟨ c .mind .beliefs / take (c .mind .length) (c .plan) / c .mind .goals ⟩; phase = c .mind .phase }
+stateOf c = record {
+  mental = ⟨ c .mind .beliefs / take (c .mind .length) (c .plan) / c .mind .goals ⟩;
+  phase = c .mind .phase;
+  finished = c .mind .finished;
+}
 
 -- The same sentence: all of the one that is handed out but its plan's actions. Serves configurationOf.
 abbrev pub mindOf : State → Mind
-mindOf s = record { beliefs = s .mental .σ; goals = s .mental .γ; length = length (s .mental .π); phase = s .phase }
+mindOf s = record {
+  beliefs = s .mental .σ;
+  goals = s .mental .γ;
+  length = length (s .mental .π);
+  phase = s .phase;
+  finished = s .finished;
+}
 
 -- The same sentence: the one that is handed out, its plan with zeros after its end.
 unfoldable pub configurationOf : State → Configuration
 configurationOf s = record { mind = mindOf s; plan = padded (s .mental .π) }
 
--- 01, "Numbers the guide may answer": "the empty one (no atoms, empty plan, phase 0)"
+-- 01, "Numbers the guide may answer": "the empty one (no atoms, empty plan, phase 0)". No transition has left its plan empty
+-- (docs/DECISIONS.md, "Where the count begins").
 unfoldable pub empty : Configuration
-empty = configurationOf (record { mental = ⟨ replicate 16 0 / [] / replicate 16 0 ⟩; phase = 0 })
+empty = configurationOf (record { mental = ⟨ replicate 16 0 / [] / replicate 16 0 ⟩; phase = 0; finished = 0 })

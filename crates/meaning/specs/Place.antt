@@ -10,15 +10,17 @@ use Rattle.meaning.specs.Card.{Bytes, numberAt, part}
 abbrev pub twoBytes : ℕ → Bytes
 twoBytes n = n % 256 ∷ n / 256 % 256 ∷ []
 
--- 01, "The place": "Bytes 33 50 hex; edition 1 at 2; plan length L at 4; plan offset 44 at 6; phase at 8; zero at 10"
-unfoldable pub placeHeader : ℕ → ℕ → Bytes
-placeHeader L phase = 0x33 ∷ 0x50 ∷ (twoBytes 1 ++ (twoBytes L ++ (twoBytes 44 ++ (twoBytes phase ++ twoBytes 0))))
+-- 01, "The place": "Bytes 33 50 hex; edition 1 at 2; plan length L at 4; plan offset 44 at 6; phase at 8"; 02, Wish 4: "It stands
+-- in bytes 10 and 11 of the place, which were zero"
+unfoldable pub placeHeader : ℕ → ℕ → ℕ → Bytes
+placeHeader L phase finished =
+    0x33 ∷ 0x50 ∷ (twoBytes 1 ++ (twoBytes L ++ (twoBytes 44 ++ (twoBytes phase ++ twoBytes finished))))
 
 -- 01, "The place": "beliefs at 12; goals at 28; the plan's L bytes at 44. Exactly 44 + L bytes."
 unfoldable pub place : State → Bytes
-place s = placeHeader (length (s .mental .π)) (s .phase) ++ (s .mental .σ ++ (s .mental .γ ++ s .mental .π))
+place s = placeHeader (length (s .mental .π)) (s .phase) (s .finished) ++ (s .mental .σ ++ (s .mental .γ ++ s .mental .π))
 
 -- 01, "The place": "phase at 8; …; beliefs at 12; goals at 28; the plan's L bytes at 44": the state that a place's bytes stand
--- for.
+-- for. 02, Wish 4: "old places read as count 0".
 unfoldable pub placed : Bytes → State
-placed p = record { mental = ⟨ part p 12 16 / drop 44 p / part p 28 16 ⟩; phase = numberAt p 8 }
+placed p = record { mental = ⟨ part p 12 16 / drop 44 p / part p 28 16 ⟩; phase = numberAt p 8; finished = numberAt p 10 }

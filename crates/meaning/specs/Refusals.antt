@@ -293,9 +293,10 @@ placeLongEnough p = leb 44 (length p)
 abbrev pub placeMarkGood : Bytes → Bool
 placeMarkGood p = marked 0x50 p
 
--- Not 01, "Numbers the guide may answer", row 3: "in a place L over 1,024, phase over 2, or bytes 10 and 11 not zero"
+-- Not 01, "Numbers the guide may answer", row 3: "in a place L over 1,024, phase over 2"; 02, Wish 4: "3 no longer looks at those
+-- bytes", 10 and 11.
 abbrev pub placeCountsGood : Bytes → Bool
-placeCountsGood p = leb (numberAt p 4) longestPlan && (leb (numberAt p 8) 2 && eqb (numberAt p 10) 0)
+placeCountsGood p = leb (numberAt p 4) longestPlan && leb (numberAt p 8) 2
 
 -- Not 01, "Numbers the guide may answer", row 4: "an offset or the total length is not the required one". 01, "The place": "plan
 -- offset 44 at 6", "Exactly 44 + L bytes."
@@ -310,7 +311,7 @@ placeTable l =
     (Refusal.Short given-when (λ p. not (placeLongEnough p)))
     -- 01, "Numbers the guide may answer", row 2: "first two bytes or edition differ"
     ∷ (Refusal.Mark given-when (λ p. not (placeMarkGood p)))
-    -- 01, "Numbers the guide may answer", row 3: "in a place L over 1,024, phase over 2, or bytes 10 and 11 not zero"
+    -- 01, "Numbers the guide may answer", row 3: "in a place L over 1,024, phase over 2"
     ∷ (Refusal.Count given-when (λ p. not (placeCountsGood p)))
     -- 01, "Numbers the guide may answer", row 4: "an offset or the total length is not the required one"
     ∷ (Refusal.Offsets given-when (λ p. not (placeOffsetsGood p)))

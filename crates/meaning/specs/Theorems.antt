@@ -8,7 +8,7 @@ use lib.ListN.{length, getD}
 use Rattle.paper.specs.Language.{Letter, Config}
 use Rattle.paper.specs.Transitions.{_⊨_}
 use Rattle.paper.specs.Theorems.{AreBytes}
-use Rattle.runs.specs.Limits.{longestPlan}
+use Rattle.runs.specs.Limits.{longestPlan, mostFinished}
 use Rattle.runs.specs.Order.{State}
 use Rattle.runs.specs.Theorems.{Numbered, GradeLaws}
 use Rattle.meaning.specs.declared.Refusal.{Refusal}
@@ -131,7 +131,9 @@ pub record ConfigurationLaws : Type 0 where
 -- 00, demand 2: "A place saved and restored is the same configuration; an accepted place, restored and saved, is the same
 -- bytes", of the bytes and states themselves.
 pub record PlaceLaws : Type 0 where
-  -- 00, demand 2: "A place saved and restored is the same configuration", with sets of 16 bytes and a phase of at most 2.
-  pub saved-restored : (s : State) → length (s .mental .σ) ≡ 16 → length (s .mental .γ) ≡ 16 → s .phase ≤ 2 → placed (place s) ≡ s
+  -- 00, demand 2: "A place saved and restored is the same configuration", with sets of 16 bytes, a phase of at most 2 and a count
+  -- of at most 65,535: 02, Wish 4: "demand 2's round trip now covers it".
+  pub saved-restored : (s : State) → length (s .mental .σ) ≡ 16 → length (s .mental .γ) ≡ 16 → s .phase ≤ 2 → s .finished ≤ mostFinished
+      → placed (place s) ≡ s
   -- 00, demand 2: "an accepted place, restored and saved, is the same bytes"
   pub restored-saved : (l : Layout) (p : Bytes) → AreBytes p → firstGiven (placeTable l) p ≡ Done → place (placed p) ≡ p

@@ -94,12 +94,14 @@ pub struct RevisionEntry {
 }
 
 // 01, "A configuration and its transitions": "a set of believed atoms, a set of goal atoms, a plan (0 to 1,024 action numbers)
-// and a phase 0, 1 or 2": all of it but the plan's actions. What a caller hands in may be out of range: row 13.
+// and a phase 0, 1 or 2": all of it but the plan's actions. What a caller hands in may be out of range: row 13. 02, Wish 4: "how
+// many transitions have left the plan empty since load", which has no such rule.
 pub struct Mind {
     pub beliefs: [u8; 16],
     pub goals: [u8; 16],
     pub length: u16,
     pub phase: u8,
+    pub finished: u16,
 }
 
 // 01, "A configuration and its transitions": "A configuration is …": a mind, and the plan, whose first `length` bytes are its

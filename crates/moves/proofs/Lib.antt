@@ -1,3 +1,4 @@
+pub mod Finished
 pub mod Stepping
 pub mod Running
 pub mod Taking

@@ -92,7 +92,7 @@ unfolding stateOf configurationOf
 ready-back l b c h =
     let m = c .mind in
     let n : length (take (m .length) (c .plan)) ≡ m .length = length-take-le (m .length) (c .plan) (let f = h .fits in let r = h .room in omega arith) in
-    λ i. record { mind = record { beliefs = m .beliefs; goals = m .goals; length = n i; phase = m .phase }; plan = sym (h .zeros) i }
+    λ i. record { mind = record { beliefs = m .beliefs; goals = m .goals; length = n i; phase = m .phase; finished = m .finished }; plan = sym (h .zeros) i }
 
 ready-after : (l : Layout) (b : Bytes) → GoodCard l b → (s : State) → length (s .mental .π) ≤ 1024 → s .phase ≤ 2 → Ready l b (configurationOf s)
 unfolding configurationOf

@@ -14,7 +14,7 @@ use Rattle.paper.specs.Transitions.{Choice, select, act, revise, σ′, γ′}
 use Rattle.paper.specs.Next.{isEmpty, startsWith, isPrefix, canSelect, selected, canAct, acted, canRevise, revised, outcome, next, isSome, enabled}
 use Rattle.paper.proofs.Relation.{both, prefix-split, false≢true, outcome-yes, outcome-no}
 use Rattle.runs.specs.Order.{State, kind}
-use Rattle.runs.specs.Step.{after, full, to, step}
+use Rattle.runs.specs.Step.{finishedWith, after, full, to, step}
 use Rattle.runs.proofs.Step.{step-to, step-full}
 use Rattle.meaning.specs.declared.Layout.{Layout}
 use Rattle.meaning.specs.declared.Span.{Span}
@@ -76,7 +76,7 @@ module _ (l : Layout) (b : Bytes) (c : Configuration) (ready : Ready l b c) (i :
     abbrev pub newPlan : List ℕ
     newPlan = plan l b (selectionAt l b i .plan)
 
-    pub selects-to : step (agentFor l b) s (select i) ≡ to (select i) (record { mental = ⟨ c .mind .beliefs / newPlan / c .mind .goals ⟩; phase = 1 })
+    pub selects-to : step (agentFor l b) s (select i) ≡ to (select i) (record { mental = ⟨ c .mind .beliefs / newPlan / c .mind .goals ⟩; phase = 1; finished = finishedWith (c .mind .finished) newPlan })
     unfolding next selected selectionOf after kind stateOf
     selects-to =
         let f : next (agentFor l b) (s .mental) (select i) ≡ some (selected (s .mental) (selectionFor l b i)) =
@@ -106,7 +106,11 @@ module _ (l : Layout) (b : Bytes) (c : Configuration) (ready : Ready l b c) (i :
     acted-length = length-drop 1 π ∙ ap (λ k. k - 1) front-length
 
     pub acts-to : step (agentFor l b) s (act i)
-        ≡ to (act i) (record { mental = ⟨ σ′ (c .mind .beliefs) (specificationFor l b i) / drop 1 π / γ′ (c .mind .goals) (specificationFor l b i) ⟩; phase = 2 })
+        ≡ to (act i) (record {
+          mental = ⟨ σ′ (c .mind .beliefs) (specificationFor l b i) / drop 1 π / γ′ (c .mind .goals) (specificationFor l b i) ⟩;
+          phase = 2;
+          finished = finishedWith (c .mind .finished) (drop 1 π);
+        })
     unfolding next acted after kind stateOf
     acts-to =
         let f : next (agentFor l b) (s .mental) (act i) ≡ some (acted (s .mental) (specificationFor l b i)) =
@@ -153,7 +157,7 @@ module _ (l : Layout) (b : Bytes) (c : Configuration) (ready : Ready l b c) (i :
     revised-length = length-append (plan l b body) (drop (head .length) π) ∙ ap₂ _+_ body-length (length-drop (head .length) π ∙ ap (λ k. k - head .length) front-length)
 
     abbrev pub revisedState : State
-    revisedState = record { mental = ⟨ c .mind .beliefs / revisedPlan / c .mind .goals ⟩; phase = 0 }
+    revisedState = record { mental = ⟨ c .mind .beliefs / revisedPlan / c .mind .goals ⟩; phase = 0; finished = finishedWith (c .mind .finished) revisedPlan }
 
     leads : next (agentFor l b) (s .mental) (revise i) ≡ some (revisedState .mental)
     unfolding next revised revisionOf stateOf
@@ -163,7 +167,7 @@ module _ (l : Layout) (b : Bytes) (c : Configuration) (ready : Ready l b c) (i :
         ∙ ap (λ k. some ⟨ c .mind .beliefs / plan l b body ++ drop k π / c .mind .goals ⟩) head-length
 
     pub revises-to : body .length + (n - head .length) ≤ 1024 → step (agentFor l b) s (revise i) ≡ to (revise i) revisedState
-    unfolding after kind
+    unfolding after kind stateOf
     revises-to k = step-to (agentFor l b) s (revise i) _ leads (rw revised-length k)
 
     pub revises-full : 1024 < body .length + (n - head .length) → step (agentFor l b) s (revise i) ≡ full

@@ -2,11 +2,12 @@
 use mathlib.Core.Path.{_≡_}
 use mathlib.Core.List.{List}
 use mathlib.Core.Option.{Option, none, some}
-use Prim.Native.Nat.{ℕ, _+_, _%_}
+use Prim.Native.Nat.{ℕ, zero, suc, _+_, _%_}
 use Rattle.paper.specs.Language.{Agent, Config}
 use Rattle.paper.specs.Transitions.{Choice}
+use Rattle.runs.specs.Limits.{mostFinished}
 use Rattle.runs.specs.Order.{kind, number, guide}
-use Rattle.runs.specs.Step.{Reached, nothing, full, to, step, stepBy}
+use Rattle.runs.specs.Step.{upTo, Reached, nothing, full, to, step, stepBy}
 use Rattle.meaning.specs.declared.Refusal.{Refusal}
 use Rattle.meaning.specs.declared.Answer.{Answer}
 use Rattle.meaning.specs.declared.Answer.the-variants.{Done, Refused}
@@ -55,9 +56,17 @@ ownMove b c = elim (configurationAnswer b c) [ Done ↦ stepBy (agent b) (stateO
 abbrev pub Open : Layout → Bytes → Configuration → Choice → Type 0
 Open l b c k = asked (agentFor l b) (stateOf c .mental) k ≡ Asked.Open
 
--- a transition taken: its sets, the plan's length, and the kind and number of the choice
-abbrev pub takenTo : List ℕ → List ℕ → ℕ → ℕ → ℕ → Stepped
-takenTo b g n k i = record { mind = record { beliefs = b; goals = g; length = n; phase = (k + 1) % 3 }; transition = Transition.Taken k i }
+-- the finished count after a transition that leaves so many actions, where it was f before: finishedWith, by the plan's length
+abbrev pub finishedAt : ℕ → ℕ → ℕ
+finishedAt f zero = upTo mostFinished (suc f)
+finishedAt f (suc n) = f
+
+-- a transition taken: its sets, the plan's length, the finished count before, and the kind and number of the choice
+abbrev pub takenTo : List ℕ → List ℕ → ℕ → ℕ → ℕ → ℕ → Stepped
+takenTo b g n f k i = record {
+  mind = record { beliefs = b; goals = g; length = n; phase = (k + 1) % 3; finished = finishedAt f n };
+  transition = Transition.Taken k i;
+}
 
 -- 01, "Numbers the guide may answer", rows 0 and 11; q is the refusal of a choice that has no transition
 abbrev pub answerTo : Refusal → Transition → Answer

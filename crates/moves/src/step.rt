@@ -5,12 +5,13 @@ ghost use Rattle.paper.specs.Transitions.{select, act, revise};
 ghost use Rattle.layout.specs.PlaceParts.{lent};
 ghost use Rattle.choices.specs.Ready.{Ready};
 ghost use Rattle.choices.specs.Asking.{choiceAt};
-ghost use Rattle.moves.specs.Steps.{Open, StepsBy, takenTo};
+ghost use Rattle.moves.specs.Steps.{Open, StepsBy, finishedAt, takenTo};
 use layout::entries::pool_at;
 use layout::entries::read_revision;
 use layout::entries::read_selection;
 use layout::entries::read_specification;
 use layout::limits::longest_plan;
+use layout::limits::most_finished;
 use meaning::Layout;
 use meaning::Mind;
 
@@ -28,10 +29,24 @@ pub struct Stepped {
     pub transition: Transition,
 }
 
+// "how many transitions have left the plan empty since load, stopping at 65,535": after one more, which leaves n actions.
+fn finished_with(finished: u16, n: usize) -> u16
+    ensures { λ r. ⌜ r ≡ finishedAt finished n ⌝ }
+{
+    if 0 < n {
+        return finished;
+    }
+    let most = most_finished();
+    if finished < most {
+        return finished + 1;
+    }
+    most
+}
+
 // "After any transition, the guide's or a chosen one, the phase is the kind taken plus 1, modulo 3."
-fn taken(beliefs: [u8; 16], goals: [u8; 16], n: usize, kind: u8, i: usize) -> Stepped
+fn taken(beliefs: [u8; 16], goals: [u8; 16], n: usize, finished: u16, kind: u8, i: usize) -> Stepped
     requires { ⌜ (n ≤ 1024) × (kind < 3) ⌝ }
-    ensures { λ r. ⌜ r ≡ takenTo beliefs goals n kind i ⌝ }
+    ensures { λ r. ⌜ r ≡ takenTo beliefs goals n finished kind i ⌝ }
 {
     Stepped {
         mind: Mind {
@@ -39,6 +54,7 @@ fn taken(beliefs: [u8; 16], goals: [u8; 16], n: usize, kind: u8, i: usize) -> St
             goals: goals,
             length: n as u16,
             phase: (kind + 1) % 3,
+            finished: finished_with(finished, n),
         },
         transition: Transition::Taken(kind, i),
     }
@@ -55,7 +71,7 @@ fn step_selection(card: &[u8], l: Layout, m: Mind, plan: &mut [u8; 1024], i: usi
     let b = m.beliefs;
     let g = m.goals;
     plans::replace_front(plan, 0, 0, card, at, s.length);
-    taken(b, g, s.length, 0, i)
+    taken(b, g, s.length, m.finished, 0, i)
 }
 
 // Specification i: "Beliefs become (beliefs with Add) without Del. Goals become goals without Add. The first action leaves the
@@ -73,7 +89,7 @@ fn step_action(card: &[u8], l: Layout, m: Mind, plan: &mut [u8; 1024], i: usize)
     let beliefs = sets::difference(sets::union(b, add), del);
     let goals = sets::difference(g, add);
     plans::drop_front(plan, n, 1);
-    taken(beliefs, goals, n - 1, 1, i)
+    taken(beliefs, goals, n - 1, m.finished, 1, i)
 }
 
 // Revision rule i: "The body takes the head's place; the rest stays." A plan that would be too long is not made.
@@ -96,7 +112,7 @@ fn step_revision(card: &[u8], l: Layout, m: Mind, plan: &mut [u8; 1024], i: usiz
     let g = m.goals;
     let at = pool_at(l, body.start);
     plans::replace_front(plan, n, head.length, card, at, body.length);
-    taken(b, g, after, 2, i)
+    taken(b, g, after, m.finished, 2, i)
 }
 
 // The transition of an open choice, by its kind and number.

@@ -70,12 +70,12 @@ fn from_offsets(l: Layout, p: &[u8], h: PlaceParts) -> Answer
     from_plan(l, p, h)
 }
 
-// Not row 3: "in a place L over 1,024, phase over 2, or bytes 10 and 11 not zero".
+// Not row 3: "in a place L over 1,024, phase over 2". The finished count, which any two bytes are, has no rule.
 fn counts_good(p: &[u8], h: PlaceParts) -> bool
     requires { ⌜ h ≡ placeParts (now p) ⌝ }
     ensures { λ r. ⌜ r ≡ placeCountsGood (now (p .entry)) ⌝ }
 {
-    (h.length <= longest_plan()) & ((h.phase <= 2) & (h.zero == 0))
+    (h.length <= longest_plan()) & (h.phase <= 2)
 }
 
 // Row 3, then 4, 8 and 9.

@@ -35,6 +35,7 @@ fn first(card: &[u8], l: Layout, plan: &mut [u8; 1024]) -> Mind
         goals: goals,
         length: n as u16,
         phase: 0,
+        finished: 0,
     }
 }
 
@@ -49,6 +50,7 @@ pub fn empty_mind(plan: &mut [u8; 1024]) -> Mind
         goals: [0u8; 16],
         length: 0,
         phase: 0,
+        finished: 0,
     }
 }
 

@@ -19,7 +19,8 @@ use meaning::Answer;
 use meaning::Checked;
 use meaning::Mind;
 
-// "plan length L at 4; … phase at 8; … beliefs at 12; goals at 28; the plan's L bytes at 44."
+// "plan length L at 4; … phase at 8; … beliefs at 12; goals at 28; the plan's L bytes at 44.", and the finished count "in bytes 10
+// and 11".
 fn read(p: &[u8], plan: &mut [u8; 1024]) -> Mind
     requires { ⌜ Sized (now p) × (length (now plan) ≡ 1024) ⌝ }
     ensures { λ r. ⌜ lent r (now (plan .exit)) ≡ configurationOf (placed (now (p .entry))) ⌝ }
@@ -30,12 +31,14 @@ fn read(p: &[u8], plan: &mut [u8; 1024]) -> Mind
     let goals = h.goals;
     let length = n as u16;
     let phase = h.phase as u8;
+    let finished = h.finished as u16;
     plans::fill(plan, p, plan_at(), n);
     Mind {
         beliefs: beliefs,
         goals: goals,
         length: length,
         phase: phase,
+        finished: finished,
     }
 }
 

@@ -2,5 +2,6 @@ pub mod Numbers
 pub mod Order
 pub mod Step
 pub mod Listing
+pub mod Finished
 pub mod Run
 pub mod Weight

@@ -12,10 +12,11 @@ use Rattle.paper.specs.Transitions.{Choice, Step}
 use Rattle.runs.specs.declared.Ending.{Ending}
 use Rattle.runs.specs.Order.{State, guide}
 use Rattle.runs.specs.Step.{after, Reached, nothing, full, to, stepBy}
-use Rattle.runs.specs.Run.{Chain, stay, _then_, Outcome, ended, oneMore, run}
+use Rattle.runs.specs.Run.{Outcome, ended, oneMore, run}
 use Rattle.runs.specs.Theorems.{AtRest, Guided, ends, goes, Because, is-spent, is-rest, is-full, RunLaw, counted, StopLaw}
 use Rattle.runs.proofs.Order.{guide-takes, rests}
 use Rattle.runs.proofs.Step.{StepsTo, none-there, too-long, taken, steps-to}
+use Rattle.runs.proofs.Finished.{guided-chain, guided-finished}
 
 -- ---- a run's three ways to go on, as equations
 
@@ -51,13 +52,6 @@ module _ (A : Agent) (s : State) where
       go : (o : Option Choice) → guide A s ≡ o → OwnStep (stepBy A s (guide A s))
       go none e = rw e (own-rest (rests A s .0 e))
       go (some k) e = subst (λ o. OwnStep (stepBy A s o)) (sym e) (by k e (steps-to A s k))
-
--- ---- the guide's chain is a chain of the definition
-
-guided-chain : {A : Agent} {s s′ : State} {ks : List Choice} → Guided A s ks s′ → Chain A (s .mental) ks (s′ .mental)
-unfolding after
-guided-chain ends = stay
-guided-chain (goes e x l r) = _then_ x (guided-chain r)
 
 -- ---- rest exactly when no transition exists
 
@@ -110,6 +104,7 @@ run-law A b s =
       counted = t .counted;
       because = t .because;
       rests-exactly = rest-exactly (t .because);
+      finished = guided-finished (t .guided);
     }
 
 -- ---- a run that is stopped goes on

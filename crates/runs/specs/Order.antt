@@ -15,6 +15,8 @@ pub record State : Type 0 where
   pub mental : Config
   -- 01, "A configuration and its transitions": "a phase 0, 1 or 2. The phase is ours"
   pub phase : ℕ
+  -- 02, Wish 4: "Let the configuration hold how many transitions have left the plan empty since load, stopping at 65,535."
+  pub finished : ℕ
 
 -- 01, "A configuration and its transitions": "the kind (0 selection, 1 action, 2 revision)"
 unfoldable pub kind : Choice → ℕ

@@ -1,19 +1,21 @@
 -- What is proved of the guide's order, of a run and of a card's grade (in proofs/).
 use mathlib.Core.Path.{_≡_}
 use mathlib.Core.Logic.{_↔_}
+use mathlib.Core.Bool.{true, false}
 use mathlib.Core.List.{List, [], _∷_, _++_, List·Memᴰ}
 use mathlib.Core.Option.{none, some}
-use Prim.Native.Nat.{ℕ, _+_, _*_, _%_, _≤_, _<_}
+use Prim.Native.Nat.{ℕ, suc, _+_, _*_, _%_, _≤_, _<_}
 use lib.ListN.{length}
 use Rattle.paper.specs.Language.{Plan, Selection, Revision, Agent, Config}
 use Rattle.paper.specs.Transitions.{Choice, Entry, Step}
-use Rattle.runs.specs.Limits.{longestPlan, heaviestPlan}
+use Rattle.paper.specs.Next.{isEmpty}
+use Rattle.runs.specs.Limits.{longestPlan, heaviestPlan, mostFinished}
 use Rattle.runs.specs.declared.Ending.{Ending}
 use Rattle.runs.specs.declared.Offender.{Offender}
 use Rattle.runs.specs.declared.Verdict.{Verdict}
 use Rattle.runs.specs.Order.{State, kind, inTurn, guide, code, enabledCodes}
-use Rattle.runs.specs.Step.{after, to, step}
-use Rattle.runs.specs.Run.{Chain, Outcome, run}
+use Rattle.runs.specs.Step.{upTo, after, to, step}
+use Rattle.runs.specs.Run.{Chain, stay, _then_, Outcome, run}
 use Rattle.runs.specs.Weight.{weigh, Bounded, verdict, selections}
 
 -- 01, "A configuration and its transitions": "no transition exists"
@@ -98,6 +100,12 @@ pub data Because (A : Agent) (budget n : ℕ) (s : State) : Ending → Type 0 wh
   is-full : n < budget → (k : Choice) (c : Config) → guide A s ≡ some k → Step A (s .mental) k c → longestPlan < length (c .π)
       → Because A budget n s Ending.Full
 
+-- 02, Wish 4: "how many transitions have left the plan empty": how many of a chain's led to a configuration with an empty plan.
+-- Serves Traced.
+unfoldable pub emptied : {A : Agent} {c c′ : Config} {ks : List Choice} → Chain A c ks c′ → ℕ
+emptied stay = 0
+emptied (_then_ {c′ = c′} x r) = elim (isEmpty (c′ .π)) [ true ↦ suc (emptied r) | false ↦ emptied r ]
+
 -- 01, "A configuration and its transitions": "A run … answers the configuration reached, how many transitions were taken, and
 -- one of three endings."
 pub record Traced (A : Agent) (budget : ℕ) (s : State) (o : Outcome) : Type 0 where
@@ -113,6 +121,8 @@ pub record Traced (A : Agent) (budget : ℕ) (s : State) (o : Outcome) : Type 0 
   pub because : Because A budget (o .count) (o .state) (o .ending)
   -- 00, demand 2: "With budget left it says "rest" exactly when no transition exists."
   pub rests-exactly : o .count < budget → (o .ending ≡ Ending.Rest) ↔ AtRest A (o .state .mental)
+  -- 02, Wish 4: "how many transitions have left the plan empty since load, stopping at 65,535"
+  pub finished : s .finished ≤ mostFinished → o .state .finished ≡ upTo mostFinished (s .finished + emptied chain)
 
 -- 01, "What the contracts settle": "it fixes result and count by the definition's chain": for every agent, budget and state.
 abbrev pub RunLaw : Type 0

@@ -16,7 +16,8 @@ pub const MOST_PLACE_BYTES: usize = 1068;
 pub const MOST_LIST_ENTRIES: usize = 768;
 pub const MOST_PRINTED_BYTES: usize = 894;
 
-/// Where a weaver stands in a card; the plan is the first `length` bytes of `plan`.
+/// Where a weaver stands in a card; the plan is the first `length` bytes of `plan`, and `finished`
+/// is how many moves have left it empty, to be shown as "bands finished".
 #[derive(Clone, Debug, PartialEq, Eq)]
 pub struct Configuration {
     pub beliefs: [u8; SET_BYTES],
@@ -24,16 +25,18 @@ pub struct Configuration {
     pub plan: [u8; MOST_PLAN_ACTIONS],
     pub length: u16,
     pub phase: u8,
+    pub finished: u16,
 }
 
 impl Configuration {
-    /// No atoms, empty plan, phase 0.
+    /// No atoms, empty plan, phase 0, nothing finished.
     pub const EMPTY: Configuration = Configuration {
         beliefs: [0; SET_BYTES],
         goals: [0; SET_BYTES],
         plan: [0; MOST_PLAN_ACTIONS],
         length: 0,
         phase: 0,
+        finished: 0,
     };
 }
 
@@ -61,6 +64,7 @@ pub fn load(card: &[u8]) -> Result<Configuration, Refusal> {
             c.plan.as_mut_ptr(),
             &mut c.length,
             &mut c.phase,
+            &mut c.finished,
         )
     })?;
     Ok(c)
@@ -93,6 +97,7 @@ pub fn list(card: &[u8], c: &Configuration, list: &mut [u16]) -> Result<usize, R
             c.plan.as_ptr(),
             c.length,
             c.phase,
+            c.finished,
             list.as_mut_ptr(),
             list.len(),
             &mut entries,
@@ -113,6 +118,7 @@ pub fn take(card: &[u8], c: &mut Configuration, choice: u16) -> Result<(), Refus
             c.plan.as_mut_ptr(),
             &mut c.length,
             &mut c.phase,
+            &mut c.finished,
             choice,
             &mut node,
         )
@@ -132,6 +138,7 @@ pub fn run(card: &[u8], c: &mut Configuration, budget: u16) -> Result<Ran, Refus
             c.plan.as_mut_ptr(),
             &mut c.length,
             &mut c.phase,
+            &mut c.finished,
             budget,
             &mut moves,
             &mut ending,
@@ -155,6 +162,7 @@ pub fn save(card: &[u8], c: &Configuration, place: &mut [u8]) -> Result<usize, R
             c.plan.as_ptr(),
             c.length,
             c.phase,
+            c.finished,
             place.as_mut_ptr(),
             place.len(),
             &mut bytes,
@@ -177,6 +185,7 @@ pub fn restore(card: &[u8], place: &[u8]) -> Result<Configuration, Refusal> {
             c.plan.as_mut_ptr(),
             &mut c.length,
             &mut c.phase,
+            &mut c.finished,
         )
     })?;
     Ok(c)

@@ -12,6 +12,7 @@ extern "C" {
         plan: *mut u8,
         length: *mut u16,
         phase: *mut u8,
+        finished: *mut u16,
     ) -> u16;
 
     pub fn rigtemple_grade_parts(
@@ -30,6 +31,7 @@ extern "C" {
         plan: *const u8,
         length: u16,
         phase: u8,
+        finished: u16,
         list: *mut u16,
         room_in_entries: usize,
         entries: *mut u16,
@@ -43,6 +45,7 @@ extern "C" {
         plan: *mut u8,
         length: *mut u16,
         phase: *mut u8,
+        finished: *mut u16,
         choice: u16,
         node: *mut u16,
     ) -> u16;
@@ -55,6 +58,7 @@ extern "C" {
         plan: *mut u8,
         length: *mut u16,
         phase: *mut u8,
+        finished: *mut u16,
         budget: u16,
         moves: *mut u16,
         ending: *mut u8,
@@ -68,6 +72,7 @@ extern "C" {
         plan: *const u8,
         length: u16,
         phase: u8,
+        finished: u16,
         place: *mut u8,
         room_in_bytes: usize,
         bytes: *mut u16,
@@ -83,6 +88,7 @@ extern "C" {
         plan: *mut u8,
         length: *mut u16,
         phase: *mut u8,
+        finished: *mut u16,
     ) -> u16;
 
     pub fn rigtemple_text_parts(

@@ -41,6 +41,7 @@ impl<'a> Requests<'a> {
         c.goals.copy_from_slice(self.bytes(SET_BYTES));
         c.length = self.number();
         c.phase = self.byte();
+        c.finished = self.number();
         let plan = self.counted();
         c.plan[..plan.len()].copy_from_slice(plan);
         c
@@ -79,6 +80,7 @@ impl Answers {
         self.0.extend(c.goals);
         self.number(c.length);
         self.byte(c.phase);
+        self.number(c.finished);
         self.number(most as u16);
         self.0.extend(&c.plan[..most]);
     }

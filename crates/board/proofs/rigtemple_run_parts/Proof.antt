@@ -28,12 +28,12 @@ answer-number-requires c κs = search needs
 
 returns : tie.Need-returns
 returns c =
-    let a = c .before .before .before .before .before .before .before .before .before .before .before .before .before .before .before .before .args in
-    let t = c .before .before .before .before .before .before .before .before .run in
+    let a = c .before .before .before .before .before .before .before .before .before .before .before .before .before .before .before .before .before .before .args in
+    let t = c .before .before .before .before .before .before .before .before .before .run in
     let u = c .before .before .put .ensures in
-    let e = t .ensures ∙ ap (λ (x : Mind). runs (now (a .card)) (lent x (now (a .plan))) (a .budget)) (c .before .before .before .before .before .before .before .before .before .before .mind .ensures) in (
+    let e = t .ensures ∙ ap (λ (x : Mind). runs (now (a .card)) (lent x (now (a .plan))) (a .budget)) (c .before .before .before .before .before .before .before .before .before .before .before .mind .ensures) in (
       c .answer-number .ensures ∙ ap (λ (x : Ran). answerNumber (x .answer)) e,
-      (λ i. whole (u .0 i) (u .1 i) (t .last .1 .1 .0) (u .2 i) (u .3 i)) ∙ ap (λ (x : Ran). x .configuration) e,
+      (λ i. whole (u .0 i) (u .1 i) (t .last .1 .1 .0) (u .2 i) (u .3 i) (u .4 i)) ∙ ap (λ (x : Ran). x .configuration) e,
       ap (λ (x : Ran). x .count) e,
       c .before .ending-number .ensures ∙ ap (λ (x : Ran). endingNumber (x .ending)) e,
     )

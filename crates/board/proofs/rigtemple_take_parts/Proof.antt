@@ -27,8 +27,8 @@ answer-carried-requires c κs = search needs
 
 cast-node : tie.Need-cast-node
 cast-node c =
-    let a = c .before .before .before .before .before .before .before .before .before .before .before .before .before .before .before .args in
-    let e = c .before .before .before .before .before .before .before .take .ensures ∙ ap (λ (x : Mind). takes (now (a .card)) (lent x (now (a .plan))) (a .choice)) (c .before .before .before .before .before .before .before .before .before .mind .ensures) in
+    let a = c .before .before .before .before .before .before .before .before .before .before .before .before .before .before .before .before .before .args in
+    let e = c .before .before .before .before .before .before .before .before .take .ensures ∙ ap (λ (x : Mind). takes (now (a .card)) (lent x (now (a .plan))) (a .choice)) (c .before .before .before .before .before .before .before .before .before .before .mind .ensures) in
     let h = node-narrow (now (a .card)) _ (a .choice) _ e in
     omega (arith, c .answer-carried .ensures)
 
@@ -37,12 +37,12 @@ answer-number-requires c κs = search needs
 
 returns : tie.Need-returns
 returns c =
-    let a = c .before .before .before .before .before .before .before .before .before .before .before .before .before .before .before .before .args in
-    let t = c .before .before .before .before .before .before .before .before .take in
+    let a = c .before .before .before .before .before .before .before .before .before .before .before .before .before .before .before .before .before .before .args in
+    let t = c .before .before .before .before .before .before .before .before .before .take in
     let u = c .before .before .put .ensures in
-    let e = t .ensures ∙ ap (λ (x : Mind). takes (now (a .card)) (lent x (now (a .plan))) (a .choice)) (c .before .before .before .before .before .before .before .before .before .before .mind .ensures) in (
+    let e = t .ensures ∙ ap (λ (x : Mind). takes (now (a .card)) (lent x (now (a .plan))) (a .choice)) (c .before .before .before .before .before .before .before .before .before .before .before .mind .ensures) in (
       c .answer-number .ensures ∙ ap (λ (x : Reply). answerNumber (x .answer)) e,
-      (λ i. whole (u .0 i) (u .1 i) (t .last .1 .1 .0) (u .2 i) (u .3 i)) ∙ ap (λ (x : Reply). x .configuration) e,
+      (λ i. whole (u .0 i) (u .1 i) (t .last .1 .1 .0) (u .2 i) (u .3 i) (u .4 i)) ∙ ap (λ (x : Reply). x .configuration) e,
       c .before .answer-carried .ensures ∙ ap (λ (x : Reply). answerCarried (x .answer)) e,
     )
 

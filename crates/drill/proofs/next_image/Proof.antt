@@ -64,6 +64,15 @@ joined-requires-2 c κs = search needs
 array-read-t34 : tie.Need-array-read-t34
 array-read-t34 c = search needs
 
+array-read-joined-5 : tie.Need-array-read-joined-5
+array-read-joined-5 c = search needs
+
+array-read-joined-6 : tie.Need-array-read-joined-6
+array-read-joined-6 c = search needs
+
+joined-requires-3 : tie.Need-joined-requires-3
+joined-requires-3 c κs = search needs
+
 returns : tie.Need-returns
 returns c = search needs
 
@@ -89,4 +98,7 @@ next-image-spec =
     array-read-joined-4
     joined-requires-2
     array-read-t34
+    array-read-joined-5
+    array-read-joined-6
+    joined-requires-3
     returns)

@@ -10,7 +10,7 @@ reply-with-requires : tie.Need-reply-with-requires
 reply-with-requires c κs = search needs
 
 returns : tie.Need-returns
-returns c = (c .reply-with .ensures ∙ c .before .load .ensures, search needs)
+returns c = (c .reply-with .ensures .0 ∙ c .before .load .ensures, c .reply-with .ensures .1)
 
 pub load-spec : {M : Type 1} → statement M
 load-spec = tie.close (tie.spec load-requires reply-with-requires returns)

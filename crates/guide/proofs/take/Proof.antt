@@ -11,7 +11,7 @@ reply-with-requires : tie.Need-reply-with-requires
 reply-with-requires c κs = search needs
 
 returns : tie.Need-returns
-returns c = (c .reply-with .ensures ∙ c .before .take .ensures, search needs)
+returns c = (c .reply-with .ensures .0 ∙ c .before .take .ensures, c .reply-with .ensures .1)
 
 pub take-spec : {M : Type 1} → statement M
 take-spec = tie.close (tie.spec take-requires reply-with-requires returns)

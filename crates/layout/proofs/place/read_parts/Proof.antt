@@ -28,8 +28,8 @@ returns c =
     let n = c .before .before .before .number-at .ensures in
     let o = c .before .before .number-at2 .ensures .0 in
     let f = c .before .number-at3 .ensures .0 in
-    let z = c .number-at4 .ensures .0 in
-    (λ i. record { length = n .0 i; offset = o i; phase = f i; zero = z i; beliefs = b i; goals = g i }, n .1)
+    let m = c .number-at4 .ensures in
+    (λ i. record { length = n .0 i; offset = o i; phase = f i; finished = m .0 i; beliefs = b i; goals = g i }, n .1, m .1)
 
 pub read-parts-spec : {M : Type 1} → statement M
 read-parts-spec =

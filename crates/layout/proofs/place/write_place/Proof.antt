@@ -47,7 +47,7 @@ cast-copy c = search needs
 copy-requires-4 : tie.Need-copy-requires-4
 copy-requires-4 c κs =
     let s = c .before .before .before .before .before .before .before .before .before .before .before .before .before .before .before .before .before .before .before .before .before .before in
-    (omega (arith, c .before .before .before .before .before .copy3 .kept .0, c .before .before .before .before .before .before .before .before .before .before .copy2 .kept .0, c .before .before .before .before .before .before .before .before .before .before .before .before .before .before .before .copy .kept .0, s .pre .2), omega (arith, s .pre .3, s .pre .0))
+    (omega (arith, c .before .before .before .before .before .copy3 .kept .0, c .before .before .before .before .before .before .before .before .before .before .copy2 .kept .0, c .before .before .before .before .before .before .before .before .before .before .before .before .before .before .before .copy .kept .0, s .pre .1), omega (arith, s .pre .2, s .pre .0))
 
 same-length : tie.Need-same-length
 same-length c = search needs
@@ -58,7 +58,7 @@ returns c =
     let s = c .before .before .before .before .before .before .before .before .before .before .before .before .before .before .before .before .before .before .before .before .before .before .before .before .before in
     let a = s .args in
     let h = c .before .before .before .before .before .before .before .before .before .before .before .before .before .before .before .before .before .before .before .before .before .header-of in
-    place-written (lent (a .m) (now (a .plan))) (now (a .out)) (c .before .before .before .before .before .before .before .before .before .before .before .before .before .before .before .before .before .before .copy .last .0) (c .before .before .before .before .before .before .before .before .before .before .before .before .before .copy2 .last .0) (c .before .before .before .before .before .before .before .before .copy3 .last .0) (c .before .before .copy4 .last .0) (lb s) (lg s) (s .pre .3) (s .pre .0)
+    place-written (lent (a .m) (now (a .plan))) (now (a .out)) (c .before .before .before .before .before .before .before .before .before .before .before .before .before .before .before .before .before .before .copy .last .0) (c .before .before .before .before .before .before .before .before .before .before .before .before .before .copy2 .last .0) (c .before .before .before .before .before .before .before .before .copy3 .last .0) (c .before .before .copy4 .last .0) (lb s) (lg s) (s .pre .2) (s .pre .0)
     (h .result) (h .ensures) (ap length (h .ensures)) (c .before .before .before .before .before .before .before .before .before .before .before .before .before .before .before .before .before .before .copy .ensures) (c .before .before .before .before .before .before .before .before .before .before .before .before .before .copy2 .ensures) (c .before .before .before .before .before .before .before .before .copy3 .ensures) (c .before .before .copy4 .ensures)
 
 pub write-place-spec : {M : Type 1} → statement M

@@ -7,6 +7,7 @@ use Rattle.runs.specs.Order.{kind, number}
 use Rattle.runs.specs.Step.{Reached}
 use Rattle.meaning.specs.declared.SpecificationEntry.{SpecificationEntry}
 use Rattle.moves.specs.Steps.{transitionOf, configurationAfter}
+use Rattle.moves.proofs.Finished.{finished-at}
 use Rattle.moves.proofs.Stepping.{specification-known, plan-not-empty, acted-length, acts-to}
 use Rattle.layout.specs.PlaceParts.{lent}
 use mathlib.Core.Path.{sym, ap, ap₂, _∙_}
@@ -60,9 +61,10 @@ returns c =
     let beliefs = c .before .before .before .before .difference .ensures ∙ ap₂ _∖_ (c .before .before .before .before .before .union .ensures ∙ ap (λ x. a .m .beliefs ∪ x) add) del in
     let goals = c .before .before .before .difference2 .ensures ∙ ap (λ x. a .m .goals ∖ x) add in
     let n = sym (acted-length (a .l) (now (a .card)) (lent (a .m) (now (a .plan))) (c .before .before .before .before .before .before .before .before .before .before .before .before .before .pre .0) (a .i) (c .before .before .before .before .before .before .before .before .before .before .before .before .before .pre .1)) in
+    let f = finished-at (a .m .finished) _ _ n in
     let r = c .taken .ensures in (
       ap (λ (x : Stepped). x .transition) r ∙ ap transitionOf (sym t),
-      (λ j. lent (r j .mind) (c .before .drop-front .ensures j)) ∙ (λ j. lent (record { beliefs = beliefs j; goals = goals j; length = n j; phase = 2 }) (padded (drop 1 (take (a .m .length) (now (a .plan)))))) ∙ ap (λ (x : Reached). configurationAfter x d) (sym t),
+      (λ j. lent (r j .mind) (c .before .drop-front .ensures j)) ∙ (λ j. lent (record { beliefs = beliefs j; goals = goals j; length = n j; phase = 2; finished = f j }) (padded (drop 1 (take (a .m .length) (now (a .plan)))))) ∙ ap (λ (x : Reached). configurationAfter x d) (sym t),
     )
 
 pub step-action-spec : {M : Type 1} → statement M

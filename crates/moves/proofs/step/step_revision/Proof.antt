@@ -6,6 +6,7 @@ use Rattle.runs.specs.Step.{Reached}
 use Rattle.card.specs.GoodCard.{GoodSpan}
 use Rattle.meaning.specs.declared.RevisionEntry.{RevisionEntry}
 use Rattle.moves.specs.Steps.{transitionOf, configurationAfter}
+use Rattle.moves.proofs.Finished.{finished-at}
 use Rattle.moves.proofs.Stepping.{revision-known, head-fits, revised-length, revises-to, revises-full}
 use Rattle.layout.specs.PlaceParts.{lent}
 use mathlib.Core.Path.{sym, ap, _∙_, subst}
@@ -77,9 +78,10 @@ returns-2 c =
     let n = ap (λ (x : RevisionEntry). x .body .length + (a .m .length - x .head .length)) e ∙ sym (revised-length (a .l) (now (a .card)) (lent (a .m) (now (a .plan))) (c .before .before .before .before .before .before .before .before .before .before .before .before .before .before .before .pre .0) (a .i) (c .before .before .before .before .before .before .before .before .before .before .before .before .before .before .before .pre .1)) in
     let moved = drop (c .before .before .before .before .before .before .before .before .before .before .before .before .before .read-revision .result .head .length) (take (a .m .length) (now (a .plan))) in
     let q = c .before .replace-front .ensures ∙ (λ j. padded (part b (c .before .before .before .pool-at .ensures j) (c .before .before .before .before .before .before .before .before .before .before .before .before .before .read-revision .result .body .length) ++ moved)) ∙ ap (λ (x : RevisionEntry). padded (plan (a .l) b (x .body) ++ drop (x .head .length) (take (a .m .length) (now (a .plan))))) e in
+    let f = finished-at (a .m .finished) _ _ n in
     let r = c .taken .ensures in (
       ap (λ (x : Stepped). x .transition) r ∙ ap transitionOf (sym t),
-      (λ j. lent (r j .mind) (q j)) ∙ (λ j. lent (record { beliefs = a .m .beliefs; goals = a .m .goals; length = n j; phase = 0 }) (padded (plan (a .l) b (revisionAt (a .l) b (a .i) .body) ++ drop (revisionAt (a .l) b (a .i) .head .length) (take (a .m .length) (now (a .plan)))))) ∙ ap (λ (x : Reached). configurationAfter x d) (sym t),
+      (λ j. lent (r j .mind) (q j)) ∙ (λ j. lent (record { beliefs = a .m .beliefs; goals = a .m .goals; length = n j; phase = 0; finished = f j }) (padded (plan (a .l) b (revisionAt (a .l) b (a .i) .body) ++ drop (revisionAt (a .l) b (a .i) .head .length) (take (a .m .length) (now (a .plan)))))) ∙ ap (λ (x : Reached). configurationAfter x d) (sym t),
     )
 
 pub step-revision-spec : {M : Type 1} → statement M

@@ -6,6 +6,7 @@ use Rattle.runs.specs.Step.{Reached}
 use Rattle.card.specs.GoodCard.{GoodSpan}
 use Rattle.meaning.specs.declared.SelectionEntry.{SelectionEntry}
 use Rattle.moves.specs.Steps.{transitionOf, configurationAfter}
+use Rattle.moves.proofs.Finished.{finished-at}
 use Rattle.moves.proofs.Stepping.{selection-known, plan-empty, plan-length, selects-to}
 use Rattle.layout.specs.PlaceParts.{lent}
 use mathlib.Core.Path.{sym, ap, _∙_, subst}
@@ -56,10 +57,11 @@ returns c =
     let t = selects-to (a .l) (now (a .card)) (lent (a .m) (now (a .plan))) (c .before .before .before .before .before .before .before .before .before .pre .0) (a .i) (c .before .before .before .before .before .before .before .before .before .pre .1) in
     let e = ap (λ (x : SelectionEntry). x .plan) (c .before .before .before .before .before .before .before .read-selection .ensures .0) in
     let n = ap (λ (x : SelectionEntry). x .plan .length) (c .before .before .before .before .before .before .before .read-selection .ensures .0) ∙ sym (plan-length (a .l) b d (c .before .before .before .before .before .before .before .before .before .pre .0) (a .i) 1 (selectionAt (a .l) b (a .i) .plan) (c .before .before .before .before .before .before .before .before .before .pre .0 .card .selections (a .i) k .plan)) in
+    let f = finished-at (a .m .finished) _ _ n in
     let r = c .taken .ensures in
     let q = c .before .replace-front .ensures ∙ ap padded (append-nil _ ∙ (λ j. part b (c .before .before .before .before .before .pool-at .ensures j) (c .before .before .before .before .before .before .before .read-selection .result .plan .length)) ∙ ap (plan (a .l) b) e) in (
       ap (λ (x : Stepped). x .transition) r ∙ ap transitionOf (sym t),
-      (λ j. lent (r j .mind) (q j)) ∙ (λ j. lent (record { beliefs = a .m .beliefs; goals = a .m .goals; length = n j; phase = 1 }) (padded (plan (a .l) b (selectionAt (a .l) b (a .i) .plan)))) ∙ ap (λ (x : Reached). configurationAfter x d) (sym t),
+      (λ j. lent (r j .mind) (q j)) ∙ (λ j. lent (record { beliefs = a .m .beliefs; goals = a .m .goals; length = n j; phase = 1; finished = f j }) (padded (plan (a .l) b (selectionAt (a .l) b (a .i) .plan)))) ∙ ap (λ (x : Reached). configurationAfter x d) (sym t),
     )
 
 pub step-selection-spec : {M : Type 1} → statement M

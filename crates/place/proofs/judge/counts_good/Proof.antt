@@ -1,5 +1,5 @@
 use borrow.Author.Needs.{needs}
-use lib.Dec.{leb, eqb}
+use lib.Dec.{leb}
 use mathlib.Core.Bool.{_&&_}
 use Rattle.place.proofs.judge.counts_good.Statement.{statement}
 use Rattle.place.proofs.judge.counts_good.Tie as tie
@@ -8,7 +8,7 @@ longest-plan-requires : tie.Need-longest-plan-requires
 longest-plan-requires c κs = search needs
 
 returns : tie.Need-returns
-returns c = λ i. leb (c .before .before .before .before .before .pre i .length) (c .before .before .before .longest-plan .ensures i) && (leb (c .before .before .before .before .before .pre i .phase) 2 && eqb (c .before .before .before .before .before .pre i .zero) 0)
+returns c = λ i. leb (c .before .before .before .before .pre i .length) (c .before .before .longest-plan .ensures i) && leb (c .before .before .before .before .pre i .phase) 2
 
 pub counts-good-spec : {M : Type 1} → statement M
 counts-good-spec = tie.close (tie.spec longest-plan-requires returns)

@@ -40,7 +40,7 @@ returns c =
     let σ = c .before .before .before .initial-beliefs .ensures in
     let γ = c .before .before .initial-goals .ensures in
     let q = c .fill .ensures ∙ ap padded ((λ i. part b (c .before .before .before .before .pool-at .ensures i) (a .l .initial .length)) ∙ π) in
-    λ i. record { mind = record { beliefs = σ i; goals = γ i; length = n i; phase = 0 }; plan = q i }
+    λ i. record { mind = record { beliefs = σ i; goals = γ i; length = n i; phase = 0; finished = 0 }; plan = q i }
 
 pub first-spec : {M : Type 1} → statement M
 first-spec =

@@ -22,26 +22,29 @@ cast-phase c =
     let e = ap (λ (h : PlaceParts). h .phase) (c .before .before .before .read-parts .ensures .0) in
     search (needs, e)
 
+cast-finished : tie.Need-cast-finished
+cast-finished c = search needs
+
 plan-at-requires : tie.Need-plan-at-requires
 plan-at-requires c κs = search needs
 
 fill-requires : tie.Need-fill-requires
 fill-requires c κs =
-    let e = ap (λ (h : PlaceParts). h .length) (c .before .before .before .before .before .read-parts .ensures .0) in
+    let e = ap (λ (h : PlaceParts). h .length) (c .before .before .before .before .before .before .read-parts .ensures .0) in
     search (needs, e)
 
 returns : tie.Need-returns
 unfolding configurationOf placed part
 returns c =
-    let b = now (c .before .before .before .before .before .before .before .before .args .p) in
-    let t = c .before .before .before .before .before .before .before .before .pre .0 .ends in
-    let h = c .before .before .before .before .before .before .read-parts .ensures .0 in
-    let n = c .before .before .before .before .before .before .read-parts .result .length in
+    let b = now (c .before .before .before .before .before .before .before .before .before .args .p) in
+    let t = c .before .before .before .before .before .before .before .before .before .pre .0 .ends in
+    let h = c .before .before .before .before .before .before .before .read-parts .ensures .0 in
+    let n = c .before .before .before .before .before .before .before .read-parts .result .length in
     let e : n ≡ numberAt b 4 = ap (λ (x : PlaceParts). x .length) h in
     let l : length (drop 44 b) ≡ n = length-drop 44 b ∙ omega arith in
     let π : part b 44 n ≡ drop 44 b = take-all n (drop 44 b) (omega arith) in
     let q = c .fill .ensures ∙ (λ i. padded (part b (c .before .plan-at .ensures i) n)) ∙ ap padded π in
-    λ i. record { mind = record { beliefs = h i .beliefs; goals = h i .goals; length = sym l i; phase = h i .phase }; plan = q i }
+    λ i. record { mind = record { beliefs = h i .beliefs; goals = h i .goals; length = sym l i; phase = h i .phase; finished = h i .finished }; plan = q i }
 
 pub read-spec : {M : Type 1} → statement M
-read-spec = tie.close (tie.spec read-parts-requires cast-length cast-phase plan-at-requires fill-requires returns)
+read-spec = tie.close (tie.spec read-parts-requires cast-length cast-phase cast-finished plan-at-requires fill-requires returns)

@@ -120,7 +120,7 @@ write-place-requires c κs =
     let j = c .before .before .before .before .before .before .before .before .judge-configuration in
     let g = sym (c .before .before .before .before .before .before .before .before .before .before .before .before .check .ensures) ∙ c .before .before .before .before .before .before .before .before .before .before .checked .given .1 in
     let r = is-ready b d _ g (j .result) (j .ensures .0) (c .before .before .before .before .before .before .enum-told2 .given .1) (j .ensures .1) in
-    (r .fits, r .phase, rw (c .before .before .before .before .place-size .ensures) at (is-room (c .before .before .before .before .place-size .result) (length (now (a .out))) (c .before .before .before .judge-room .result) (c .before .before .before .judge-room .ensures) (c .before .enum-told4 .given .1)), r .room)
+    (r .fits, rw (c .before .before .before .before .place-size .ensures) at (is-room (c .before .before .before .before .place-size .result) (length (now (a .out))) (c .before .before .before .judge-room .result) (c .before .before .before .judge-room .ensures) (c .before .enum-told4 .given .1)), r .room)
 
 same-length : tie.Need-same-length
 same-length c = search needs
