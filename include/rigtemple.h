@@ -29,7 +29,7 @@
  * always enough: 27,794 bytes together. To print takes RIGTEMPLE_MOST_PRINTED_BYTES; a text to be
  * read has no limit.
  *
- * Bytes of stack, as tests/stack.sh measures them on x86-64: check 560, load 720, grade 2,000,
+ * Bytes of stack, as tests/stack.sh measures them on x86-64: check 560, load 736, grade 2,000,
  * list 1,184, take 1,328, run 1,408, save 704, restore 768, text 33,536 (24,976 where nothing
  * nests, 128 more for the first bracket and 272 for each further one), print 1,904. All but text
  * run on a stack of 2,048.
