@@ -325,6 +325,12 @@ static void empty(struct parts d)
     *d.finished = 0;
 }
 
+/* "the goals are those not believed": of the goals those that are not in the beliefs. */
+static inline struct set struck_by(struct set beliefs, struct set goals)
+{
+    return (struct set){goals.low & ~beliefs.low, goals.high & ~beliefs.high};
+}
+
 /* Writes a configuration. */
 static void fill(struct parts d, const uint8_t *beliefs, const uint8_t *goals, const uint8_t *plan,
                  unsigned length, unsigned phase, unsigned finished)
@@ -344,10 +350,12 @@ uint16_t engine_load(const uint8_t *card, size_t card_len, uint8_t *beliefs, uin
     struct card c;
     struct parts d = {beliefs, goals, plan, length, phase, finished};
     uint16_t answer = check(card, card_len, &c);
-    if (answer != DONE)
+    if (answer != DONE) {
         empty(d);
-    else
-        fill(d, card + 32, card + 48, c.pool + number(card + 28), number(card + 30), 0, 0);
+        return answer;
+    }
+    fill(d, card + 32, card + 48, c.pool + number(card + 28), number(card + 30), 0, 0);
+    put_set(goals, struck_by(read_set(beliefs), read_set(goals)));
     return answer;
 }
 
@@ -553,14 +561,14 @@ static inline unsigned finished_after(unsigned finished, unsigned length)
     return finished + (length == 0 && finished < MOST_FINISHED);
 }
 
-/* "Beliefs become (beliefs with Add) without Del. Goals become goals without Add." Whether either
- * has changed. */
+/* "Beliefs become (beliefs with Add) without Del."; "after an action the goals are those not
+ * believed". Whether either has changed. */
 static int act(const uint8_t *specification, uint8_t *beliefs, uint8_t *goals)
 {
     struct set add = read_set(specification + 4), del = read_set(specification + 20);
     struct set b = read_set(beliefs), g = read_set(goals);
     struct set believed = {(b.low | add.low) & ~del.low, (b.high | add.high) & ~del.high};
-    struct set wanted = {g.low & ~add.low, g.high & ~add.high};
+    struct set wanted = struck_by(believed, g);
     put_set(beliefs, believed);
     put_set(goals, wanted);
     return ((b.low ^ believed.low) | (b.high ^ believed.high) | (g.low ^ wanted.low) |

@@ -29,7 +29,7 @@
  * always enough: 27,794 bytes together. To print takes RIGTEMPLE_MOST_PRINTED_BYTES; a text to be
  * read has no limit.
  *
- * Bytes of stack, as tests/stack.sh measures them on x86-64: check 560, load 720, grade 2,000,
+ * Bytes of stack, as tests/stack.sh measures them on x86-64: check 560, load 736, grade 2,000,
  * list 1,184, take 1,328, run 1,408, save 704, restore 768, text 33,536 (24,976 where nothing
  * nests, 128 more for the first bracket and 272 for each further one), print 1,904. All but text
  * run on a stack of 2,048.
@@ -260,8 +260,9 @@ static inline uint16_t rigtemple_check(const uint8_t *card, size_t card_len)
     return rigtemple_check_parts(card, card_len);
 }
 
-/* Makes the configuration that a weaver begins with: the card's initial beliefs, goals and
- * plan, phase 0, and nothing finished, also where the initial plan is empty.
+/* Makes the configuration that a weaver begins with: the card's initial beliefs, those of its
+ * initial goals that are not believed, its initial plan, phase 0, and nothing finished, also where
+ * the initial plan is empty.
  * Answers 0, or 1 to 9. `c` is written in each case; a refusal leaves the empty
  * configuration in it. */
 RIGTEMPLE_LOOK_AT_ANSWER
@@ -302,7 +303,8 @@ static inline uint16_t rigtemple_list(const uint8_t *card, size_t card_len,
 }
 
 /* Takes the move that the weaver chose, and changes `c` to what it leaves; where that is an empty
- * plan, `finished` is one more.
+ * plan, `finished` is one more. After an action the goals are those that are not believed then: a
+ * goal falls when its fact is believed. No other move changes a goal.
  * Answers 0, or 1 to 9, 13, or why the move is closed: 14 if the card has no rule or specification
  * of that number (any code may be given), 15 if the front of the plan is not the one that the move
  * needs, 16 if a condition is false; or 11 if the plan would get too long. A move is closed, and

@@ -267,6 +267,15 @@ def emptying_requests(random, accepted):
     return made
 
 
+def believed_requests(random, accepted):
+    """A take and a list that a believed goal decides, and a run from there."""
+    found = damage.believed_configuration(random, accepted)
+    if found is None:
+        return []
+    asked = (drill.TAKE, found[1]), (drill.LIST, 5), (drill.RUN, random.choice((1, 2, 9)))
+    return [request_about(random, kind, found[0], value) for kind, value in asked]
+
+
 def call_of_kind(random, kind, configuration):
     """A list, take, run or save on a configuration, with some number."""
     value = {
@@ -331,6 +340,7 @@ def good_requests(random, card):
     made += full_requests(random, accepted)
     made += closed_requests(random, accepted)
     made += emptying_requests(random, accepted)
+    made += believed_requests(random, accepted)
     made += damaged_configuration_requests(random, accepted, held)
     made += damaged_place_requests(random, accepted, held)
     for configuration in held:

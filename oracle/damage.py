@@ -1151,6 +1151,21 @@ def emptying_configuration(random, card, kind):
     return None
 
 
+def believed_configuration(random, card):
+    """A configuration with believed goals in which some selection is not enabled, or
+    else is enabled, because these are goals still; the selection's code with it. None
+    where the sets tried have none."""
+    count, found = len(card.selections), {}
+    for _ in range(8 if count else 0):
+        n = random.randrange(count)
+        held = fitting_configuration(random, card, guide.SELECTION, n)
+        struck = held._replace(goals=guide.not_believed(held.goals, held.beliefs))
+        enabled = [guide.is_enabled(card, one, guide.SELECTION, n) for one in (held, struck)]
+        if enabled[0] != enabled[1]:
+            found[enabled[0]] = held, n
+    return found.get(False) or found.get(True)
+
+
 def rooms_around(needed, most):
     """Rooms of exactly the number needed, one less, 0, one more, and the most."""
     return [room for room in (needed, needed - 1, 0, needed + 1, most) if 0 <= room <= most]

@@ -1,5 +1,6 @@
 """The eight calls of document 01 over plain values, with the requests 1 ("say why a
-move is closed") and 4 ("count the picks") of document 02.
+move is closed"), 4 ("count the picks") and 5 ("a goal falls when its fact is believed")
+of document 02.
 
 Written from the two documents alone. Every function says which sentence of them
 it stands for.
@@ -656,15 +657,20 @@ def selected(card, configuration, n):
     return configuration.beliefs, configuration.goals, card.selections[n].plan
 
 
+def not_believed(goals, beliefs):
+    """ "Goals are struck by the beliefs": the goals that are "those not believed"."""
+    return (members(goals) & ~members(beliefs)).to_bytes(16, "little")
+
+
 def acted(card, configuration, n):
-    """Action: "beliefs become (beliefs with Add) without Del. Goals become
-    goals without Add. The first action leaves the plan." """
+    """Action: "beliefs become (beliefs with Add) without Del. ... The first action
+    leaves the plan." Request 5: "after an action the goals are those not believed",
+    which "replaces Definition 9's rule for goals"."""
     specification = card.specifications[n]
     add, delete = members(specification.add), members(specification.delete)
-    beliefs = (members(configuration.beliefs) | add) & ~delete
-    goals = members(configuration.goals) & ~add
+    beliefs = ((members(configuration.beliefs) | add) & ~delete).to_bytes(16, "little")
     plan = configuration.plan[1:configuration.length]
-    return beliefs.to_bytes(16, "little"), goals.to_bytes(16, "little"), plan
+    return beliefs, not_believed(configuration.goals, beliefs), plan
 
 
 def revised(card, configuration, n):
@@ -764,15 +770,16 @@ def check(card):
 
 
 def load(card):
-    """ "Loading answers the card's initial beliefs, goals and plan with phase
-    0, and strikes no goal." The finished count is of transitions "since load": 0.
-    A refusal answers the empty configuration."""
+    """ "Loading answers the card's initial beliefs, goals and plan with phase 0";
+    the goals, by request 5, are those not believed, "at load likewise". The finished
+    count is of transitions "since load": 0. A refusal answers the empty
+    configuration."""
     refusal, accepted = judge(card)
     if refusal != DONE:
         return refusal, EMPTY
-    plan = accepted.plan
+    beliefs, goals, plan = accepted.beliefs, accepted.goals, accepted.plan
     array = plan.ljust(PLAN_LIMIT, b"\0")
-    return DONE, Configuration(accepted.beliefs, accepted.goals, array, len(plan), 0, 0)
+    return DONE, Configuration(beliefs, not_believed(goals, beliefs), array, len(plan), 0, 0)
 
 
 def grade(card):
@@ -853,8 +860,8 @@ def save(card, configuration, room):
 
 def restore(card, place):
     """Restore a place: "the card first with 1 to 9, then a place with 1, 2, 3,
-    4, 8, 9". "Saving and restoring keep" the finished count. A refusal answers the
-    empty configuration."""
+    4, 8, 9". "Saving and restoring keep" the finished count, and "restore strikes
+    nothing". A refusal answers the empty configuration."""
     refusal, accepted = judge(card)
     if refusal == DONE:
         refusal = judge_place(place, accepted)

@@ -7,7 +7,7 @@ writes against the second.
 
 Both files follow from a fixed seed and hold every clause of document 01's refusal
 table and of those of the requests 1 and 2, every range just inside, the edges of plans,
-rooms and budgets, and the finished count of request 4.
+rooms and budgets, the finished count of request 4 and the goals struck by request 5.
 """
 
 import argparse
@@ -26,6 +26,7 @@ import finished
 import guide
 import prints
 import slips
+import struck
 import text
 import texts
 from cases import Case
@@ -338,6 +339,49 @@ def finished_cases():
     yield from map(turned_case, range(8))
 
 
+# --- goals that are believed ------------------------------------------------
+
+
+def struck_takes():
+    """Actions that strike goals, and selections and revisions that strike none."""
+    for name, takes in (("actions", struck.each_action()), ("others", struck.OTHERS)):
+        random = random_of("struck", name)
+        made = [cases.request_about(random, drill.TAKE, held, code) for held, code, _ in takes]
+        yield Case("struck: %s" % name, struck.STRIKING, made)
+
+
+def struck_loads():
+    """Cards that begin with believed goals."""
+    for card, _, _ in struck.each_load():
+        yield Case("struck: load", card, [cases.request_plain(drill.LOAD)])
+
+
+def struck_runs():
+    """Runs from believed goals, step by step."""
+    random = random_of("struck runs")
+    made = [cases.request_about(random, drill.RUN, held, budget) for held, budget, _ in struck.RUNS]
+    return Case("struck: runs", struck.STRIKING, made)
+
+
+def struck_places():
+    """Believed goals listed, saved and restored."""
+    random, made = random_of("struck places"), []
+    for held in struck.each_believed():
+        place = cards.place(cases.place_description(held))
+        made.append(cases.request_about(random, drill.LIST, held, 5))
+        made.append(cases.request_about(random, drill.SAVE, held, len(place)))
+        made.append(cases.request_restore(place))
+    return Case("struck: places", struck.STRIKING, made)
+
+
+def struck_cases():
+    """Goals struck after an action and at load, and kept by all else."""
+    yield from struck_takes()
+    yield from struck_loads()
+    yield struck_runs()
+    yield struck_places()
+
+
 # --- rooms ------------------------------------------------------------------
 
 
@@ -620,6 +664,7 @@ def all_cases():
         long_plan_cases(),
         closed_cases(),
         finished_cases(),
+        struck_cases(),
         room_cases(),
         budget_cases(),
         verdict_cases(),

@@ -1,7 +1,7 @@
 """Tests of the oracle: document 01's cases P1 to P13, its program's lines, the
 damages' numbers, the closed moves of request 1, the finished count of request 4, the
-drill's bytes, that a seed gives the same bytes, and what the stored requests hold.
-Those of request 2 are in `test_text.py` and run with these."""
+struck goals of request 5, the drill's bytes, that a seed gives the same bytes, and what
+the stored requests hold. Those of request 2 are in `test_text.py` and run with these."""
 
 import time
 from collections import Counter
@@ -18,6 +18,7 @@ import guide
 import program
 import slips
 import stored
+import struck
 import test_text
 import text
 import texts
@@ -80,14 +81,14 @@ class MarkedCases(unittest.TestCase):
         self.assertEqual(guide.run(STRIPE, reached, 0), (0, reached, 0, guide.SPENT))
 
     def test_p4_add_and_del_overlap(self):
-        """Add {2}, Del {2}, goals {2}: atom 2 is in neither set afterwards."""
+        """Add {2}, Del {2}, goals {2}: "P4 then ends with the goal kept"."""
         description = cards.stripe_card()
         both = cards.Specification(1, 0, add=cards.atoms_set(2), delete=cards.atoms_set(2))
         description.specifications[1] = both
         card = cards.card(description)
         for beliefs in ((), (2,)):
             held = configuration(beliefs=beliefs, goals=(2,), plan=(1,))
-            after = configuration(phase=2, finished=1)
+            after = configuration(goals=(2,), phase=2, finished=1)
             self.assertEqual(guide.take(card, held, 257), (0, 0, after))
 
     def test_p5_head_longer_than_the_plan(self):
@@ -434,6 +435,62 @@ class FinishedCounts(unittest.TestCase):
                 self.assertEqual((place[:10], place[12:]), (again[:10], again[12:]))
 
 
+def both(configuration):
+    """The atoms that are both believed and a goal."""
+    return guide.members(configuration.beliefs) & guide.members(configuration.goals)
+
+
+class StruckGoals(unittest.TestCase):
+    """Request 5 of document 02: "a goal falls when its fact is believed"."""
+
+    def test_takes_by_hand(self):
+        """After each action the goals that stay; after a selection or a revision all
+        of them."""
+        for held, choice, after in [*struck.each_action(), *struck.OTHERS]:
+            self.assertEqual(guide.take(struck.STRIKING, held, choice), (0, 0, after))
+
+    def test_loads_by_hand(self):
+        """ "At load likewise." """
+        for card, beliefs, goals in struck.each_load():
+            self.assertEqual(guide.load(card), (0, configuration(beliefs, goals)))
+
+    def test_runs_by_hand(self):
+        """Each step of the runs written beside it."""
+        for held, budget, after in struck.RUNS:
+            found = guide.run(struck.STRIKING, held, budget)
+            self.assertEqual(found, (0, after, budget, guide.SPENT))
+
+    def test_places_by_hand(self):
+        """ "Restore strikes nothing", and saving neither; "has goal" is true of a
+        believed goal."""
+        for held in struck.each_believed():
+            place = cards.place(cases.place_description(held))
+            self.assertEqual(guide.restore(struck.STRIKING, place), (0, held))
+            self.assertEqual(guide.save(struck.STRIKING, held, 44), (0, place))
+            wanted = [held.goals[0] >> goal & 1 for goal in (0, 1)]
+            codes = [n for n, one in enumerate((wanted[0], wanted[1], not wanted[0])) if one]
+            self.assertEqual(guide.list_choices(struck.STRIKING, held, 5)[2], codes)
+
+    def test_laws_along_walks(self):
+        """After any action and after load no atom is both believed and a goal; from a
+        configuration where none is, no run reaches one where one is; goals never
+        grow."""
+        random, fallen = Random("struck"), 0
+        for _ in range(150):
+            card = cards.card(cards.good_card(random, 500))
+            _, accepted = guide.judge(card)
+            self.assertEqual(both(loaded(card)), 0)
+            for start in (loaded(card), cases.random_configuration(random, accepted)):
+                met = cases.walk(random, card, start, 12)
+                for before, after in zip(met, met[1:]):
+                    goals = guide.members(before.goals), guide.members(after.goals)
+                    self.assertEqual(goals[1] & ~goals[0], 0)
+                    self.assertTrue(both(before) or not both(after))
+                    self.assertTrue(after.phase != 2 or not both(after))
+                    fallen += after.phase == 2 and both(before) != 0
+        self.assertGreater(fallen, 20)
+
+
 class GoodCards(unittest.TestCase):
     """The seeded generator of good cards."""
 
@@ -534,18 +591,17 @@ SORTS_OF_COUNTS = (
 )
 
 
-def how_risen(held, reached):
+def how_risen(before, after):
     """By how many a run's finished count rises, and whether it stops at its most."""
-    more = reached.finished - held.finished
-    if reached.finished == 65535:
-        return "stops" if more else "most"
-    return ("stays", "rises", "rises often")[min(2, more)]
+    if after == 65535:
+        return "stops" if after > before else "most"
+    return ("stays", "rises", "rises often")[min(2, after - before)]
 
 
-def sorts_of_count(card, request):
-    """The sorts of finished count that a request is."""
-    call = cases.CALL_NAMES[request[0] - 1]
-    number = guide.number(drill.answer(card, request), 0)
+def sorts_of_count(card, request, answer):
+    """The sorts of finished count that a request with its answer is. The plan's length
+    is at 32 of an image, and the finished count at 35."""
+    call, number = cases.CALL_NAMES[request[0] - 1], guide.number(answer, 0)
     if call == "restore" and number == 0:
         return [(call, request[13] != 0, request[14] != 0)]
     if call not in ("take", "run", "save"):
@@ -556,9 +612,70 @@ def sorts_of_count(card, request):
     if call == "save":
         return [(call, held.finished % 256 != 0, held.finished > 255)]
     if call == "run":
-        return [(call, how_risen(held, guide.run(card, held, value)[1]))]
+        return [(call, how_risen(held.finished, guide.number(answer, 2 + 35)))]
     how = {0: "none", 65535: "most"}.get(held.finished, "some")
-    return [(call, value // 256, guide.take(card, held, value)[2].length == 0, how)]
+    return [(call, value // 256, guide.number(answer, 4 + 32) == 0, how)]
+
+
+# What a sort of request about goals is called by: for a load whether a goal falls; for
+# an action why a goal falls or stays; for what strikes nothing that a goal is believed.
+SORTS_OF_GOALS = (
+    {("load", falls) for falls in (True, False)}
+    | {("action", "falls", True, add) for add in (True, False)}
+    | {("action", "falls", False, True)}
+    | {("action", "stays", "in Add and Del"), ("action", "stays", "in Del, believed before")}
+    | {("action", "stays", "neither")}
+    | {(call, "believed goal") for call in ("list", "save", "restore", "run")}
+    | {(kind, "believed goal") for kind in ("selection", "revision")}
+    | {("selection", "by a believed goal"), ("selection refused", "by a believed goal")}
+)
+
+
+def sorts_of_action(card, held, n):
+    """Why the goals fall or stay by an action with specification n."""
+    entry = card.specifications[n]
+    found = []
+    for atom in range(card.atoms):
+        sets = (held.goals, held.beliefs, entry.add, entry.delete)
+        goal, before, add, delete = (guide.members(one) >> atom & 1 == 1 for one in sets)
+        if goal and not delete and (before or add):
+            found.append(("action", "falls", before, add))
+        elif goal and add:
+            found.append(("action", "stays", "in Add and Del"))
+        elif goal:
+            found.append(("action", "stays", "in Del, believed before" if before else "neither"))
+    return found
+
+
+def sorts_of_take(card, held, choice, number):
+    """The sorts that a take with its answer's number is. A selection is decided by a
+    believed goal if it were another way with the believed goals struck."""
+    _, accepted = guide.judge(card)
+    kind, n = divmod(choice, 256)
+    if number == 0 and kind == guide.ACTION:
+        return sorts_of_action(accepted, held, n)
+    if number not in (0, 16) or not both(held):
+        return []
+    found = [(("selection", "action", "revision")[kind], "believed goal")] if number == 0 else []
+    other = held._replace(goals=guide.not_believed(held.goals, held.beliefs))
+    if kind == guide.SELECTION and (guide.take(card, other, choice)[0] == 0) != (number == 0):
+        found.append(("selection refused" if number else "selection", "by a believed goal"))
+    return found
+
+
+def sorts_of_goals(card, request, answer):
+    """The sorts of request about goals that a request with its answer is."""
+    call, number = cases.CALL_NAMES[request[0] - 1], guide.number(answer, 0)
+    if call == "load" and number == 0:
+        return [("load", answer[18:34] != card[48:64])]
+    if call == "restore" and number == 0:
+        return [(call, "believed goal")] if both(guide.restore(card, request[3:])[1]) else []
+    if call not in ("list", "take", "run", "save"):
+        return []
+    _, held, value = cases.read_about(request)
+    if call == "take":
+        return sorts_of_take(card, held, value, number)
+    return [(call, "believed goal")] if number == 0 and both(held) else []
 
 
 class Cases(unittest.TestCase):
@@ -587,27 +704,23 @@ class Cases(unittest.TestCase):
 
     def test_every_answer_is_met(self):
         """Over 500 cards each answer is met at least ten times, but for 10, which
-        "gives way to three in its place"; and so is each sort of closed move."""
-        met, sorts = Counter(), Counter()
+        "gives way to three in its place"; and so is each sort of closed move. Each sort
+        of finished count and of request about goals is met at least five times."""
+        met, sorts, others = Counter(), Counter(), Counter()
         for case in cases.generate(1, 500, 700):
             for request in case.requests:
                 answer = drill.answer(case.card, request)
                 met[guide.number(answer, 0)] += 1
+                others.update(sorts_of_count(case.card, request, answer))
+                others.update(sorts_of_goals(case.card, request, answer))
                 if request[0] == drill.TAKE:
                     sorts.update(sorts_of_closed_move(case.card, request, answer))
+        for sort in SORTS_OF_COUNTS | SORTS_OF_GOALS:
+            self.assertGreaterEqual(others[sort], 5, sort)
         self.assertEqual(set(met), set(range(17)) - {10})
         self.assertGreaterEqual(min(met.values()), 10, met)
         self.assertLessEqual(SORTS_OF_CLOSED_MOVES, set(sorts))
         self.assertGreaterEqual(min(sorts[sort] for sort in SORTS_OF_CLOSED_MOVES), 10, sorts)
-
-    def test_every_sort_of_count_is_met(self):
-        """Over 250 cards each sort of a finished count is met at least three times."""
-        sorts = Counter()
-        for case in cases.generate(4, 250, 700):
-            for request in case.requests:
-                sorts.update(sorts_of_count(case.card, request))
-        self.assertLessEqual(SORTS_OF_COUNTS, set(sorts))
-        self.assertGreaterEqual(min(sorts[sort] for sort in SORTS_OF_COUNTS), 3, sorts)
 
     def test_node_only_with_16(self):
         """ "With 16 the one that settled it, else 0." """
@@ -641,6 +754,11 @@ class Stored(unittest.TestCase):
         """The files and the table, the cases, and the first case of each name."""
         cls.files, cls.met = stored.make_files()
         cls.cases = list(stored.stored_cases())
+        cls.answered = [
+            (case.card, asked, drill.answer(case.card, asked))
+            for case in cls.cases
+            for asked in case.requests
+        ]
         cls.named = {case.name: case for case in reversed(cls.cases)}
 
     def numbers(self, case):
@@ -650,10 +768,9 @@ class Stored(unittest.TestCase):
     def each(self, kind):
         """Each request of a kind about a card that is good, and the answer to
         it."""
-        for case in self.cases:
-            for asked in case.requests:
-                if asked[0] == kind and guide.check(case.card) == 0:
-                    yield case.card, asked, drill.answer(case.card, asked)
+        for card, asked, answer in self.answered:
+            if asked[0] == kind and guide.check(card) == 0:
+                yield card, asked, answer
 
     def test_same_bytes(self):
         """The bytes are the same each time, 3,000 requests at least, in files of
@@ -800,9 +917,23 @@ class Stored(unittest.TestCase):
         found = [cases.read_about(asked)[1:] for case in runs for asked in case.requests]
         self.assertEqual(found, [(one.held, one.budget) for one in finished.RUNS])
         self.assertEqual(set(self.numbers(self.named["finished: places"])), {0, 12})
-        asked = [(case.card, asked) for case in self.cases for asked in case.requests]
-        sorts = {sort for one in asked for sort in sorts_of_count(*one)}
+        sorts = {sort for one in self.answered for sort in sorts_of_count(*one)}
         self.assertLessEqual(SORTS_OF_COUNTS, sorts)
+
+    def test_struck_goals(self):
+        """Each take, load, run and place by hand is a case, and each sort of request
+        about goals is met."""
+        taken = [*struck.each_action(), *struck.OTHERS]
+        asked = self.named["struck: actions"].requests + self.named["struck: others"].requests
+        found = [cases.read_about(request)[1:] for request in asked]
+        self.assertEqual(found, [(held, choice) for held, choice, _ in taken])
+        loads = [case.card for case in self.cases if case.name == "struck: load"]
+        self.assertEqual(loads, [card for card, _, _ in struck.each_load()])
+        found = [cases.read_about(request)[1:] for request in self.named["struck: runs"].requests]
+        self.assertEqual(found, [(held, budget) for held, budget, _ in struck.RUNS])
+        self.assertEqual(len(self.named["struck: places"].requests), 3 * 16)
+        sorts = {sort for one in self.answered for sort in sorts_of_goals(*one)}
+        self.assertLessEqual(SORTS_OF_GOALS, sorts)
 
     def test_every_condition(self):
         """All nodes of the conditions card under all sets of beliefs."""
@@ -824,7 +955,6 @@ class Stored(unittest.TestCase):
             self.assertEqual(self.numbers(case)[-end:], expected)
         first = drill.answer(self.named["the maximal card"].card, self.named["the maximal card"].requests[-end])
         self.assertEqual(first[:4], b"\x10\0\x02\0")
-
 
     def test_counts_of_texts_and_prints(self):
         """About 700 texts and 300 prints, each answer several times."""

@@ -306,6 +306,27 @@ static void test_two_conditions(void)
     expect(takes(&two, &c, 0), "both are true");
 }
 
+/* Goals are struck by the beliefs: after an action and at load, and by nothing else. */
+static void test_struck_goals(void)
+{
+    struct card_bytes other = card;
+    struct rigtemple_configuration c = standing(BOBBIN, BAND, WEAVE);
+    other.bytes[other.specification + 20] = BAND; /* weave adds the band and withdraws it: P4 */
+    expect(takes(&other, &c, 256) && set_is(c.beliefs, BOBBIN) && set_is(c.goals, BAND),
+           "P4: a fact that is added and withdrawn leaves its goal");
+    c = standing(BAND | BROKEN, BAND | BOBBIN, REPAIR);
+    expect(takes(&card, &c, 258) && set_is(c.beliefs, BAND) && set_is(c.goals, BOBBIN),
+           "a goal that was believed before falls with an action that does not touch it");
+    c = standing(BAND, BAND, NO_ACTION);
+    expect(takes(&card, &c, 0) && set_is(c.goals, BAND), "a selection strikes nothing");
+    expect(takes(&card, &c, 512) && set_is(c.goals, BAND), "a revision strikes nothing");
+    other = card;
+    other.bytes[48] = BAND | BROKEN; /* broken is believed at first */
+    expect(rigtemple_load(other.bytes, other.len, &c) == RIGTEMPLE_ANSWER_DONE &&
+               set_is(c.goals, BAND),
+           "loading strikes a believed goal");
+}
+
 /* What settles an "or", a "not" over "true", and a node over 253 others. */
 static void test_other_conditions(void)
 {
@@ -582,6 +603,7 @@ int main(void)
     test_refused_choices();
     test_settling_nodes();
     test_two_conditions();
+    test_struck_goals();
     test_other_conditions();
     test_codes();
     test_empty_configuration();

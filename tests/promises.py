@@ -32,7 +32,7 @@ READING = (
                                             "meaning/specs/Numbers.antt")),
     ("what is proved of the definitions", ("paper/specs/Theorems.antt", "runs/specs/Theorems.antt", "meaning/specs/Theorems.antt")),
     ("the letter's demands", ("demands/specs/Contracts.antt", "demands/specs/Demands.antt", "demands/specs/TestOrder.antt",
-                              "demands/specs/Closed.antt", "demands/specs/Shown.antt")),
+                              "demands/specs/Closed.antt", "demands/specs/Struck.antt", "demands/specs/Shown.antt")),
     ("cards as text", ("notation/specs/Words.antt", "notation/specs/Conditions.antt", "notation/specs/Lines.antt", "meaning/specs/Assembled.antt",
                        "notation/specs/Built.antt", "notation/specs/Reading.antt", "notation/specs/Printing.antt")),
     ("what is proved of texts", ("notation/specs/Theorems.antt",)),

@@ -213,7 +213,7 @@ module _ (b : Bytes) (card : cardAnswer b ≡ Done) where
       let ends = pool-inside in
       record {
         beliefs = s .0;
-        goals = s .1;
+        goals = known-∖ (l .atoms) (initialGoals b) (initialBeliefs b) (s .1);
         actions = known-plan (l .initial) inside;
         fits = rw (length-part b (l .pool .offset + l .initial .start) (l .initial .length) (omega arith)) most;
         phase = omega arith;
@@ -227,7 +227,7 @@ module _ {l : Layout} {A : Agent} (known : KnownAgent l A) where
   unfolding σ′ γ′ actionsGood
   stepped (execute {σ = σ} {γ = γ} {n = n} {s = t} e p) b g acts = (
     known-∖ (l .atoms) (σ ∪ t .Add) (t .Del) (known-∪ (l .atoms) σ (t .Add) b (known .added n t e)),
-    (known-∖ (l .atoms) γ (t .Add) g, both (ltb (t .a) (l .actions)) _ acts .1),
+    (known-∖ (l .atoms) γ (σ′ σ t) g, both (ltb (t .a) (l .actions)) _ acts .1),
   )
   stepped (apply-PS {n = n} {r = r} e p q) b g acts = (b, (g, known .selected n r e))
   stepped (apply-PR π {n = n} {r = r} e p) b g acts = (b, (g, known-++ (l .actions) (r .πb) π (known .revised n r e) (known-behind (l .actions) (r .πₕ) π acts)))

@@ -13,4 +13,5 @@ pub mod Bounding
 pub mod Testing
 pub mod Showing
 pub mod Closing
+pub mod Striking
 pub mod Demands

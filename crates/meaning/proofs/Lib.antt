@@ -3,6 +3,7 @@ pub mod Computing
 pub mod Every
 pub mod Tables
 pub mod Accepted
+pub mod Starting
 pub mod Calls
 pub mod Configurations
 pub mod Parts

@@ -3,6 +3,7 @@ use mathlib.Core.List.{List, [], _∷_, _++_, map}
 use Prim.Native.Nat.{ℕ, zero, suc, _+_, _*_}
 use lib.ListN.{length, getD, take, drop}
 use Rattle.paper.specs.Language.{Plan, Letter, 𝐁, 𝐆, Query, ⊤, atom, ¬′, _∧′_, _∨′_, Specification, Selection, Revision, Agent, ⟨_/_/_⟩}
+use Rattle.paper.specs.Transitions.{struckBy}
 use Rattle.runs.specs.Order.{State, numbers}
 use Rattle.meaning.specs.declared.Section.{Section}
 use Rattle.meaning.specs.declared.Span.{Span}
@@ -191,7 +192,12 @@ initialBeliefs b = part b 32 16
 abbrev pub initialGoals : Bytes → Bytes
 initialGoals b = part b 48 16
 
--- 01, "A configuration and its transitions": "Loading answers the card's initial beliefs, goals and plan with phase 0, and
--- strikes no goal."; 02, Wish 4: "since load"
+-- 01, "A configuration and its transitions": "Loading answers the card's initial beliefs, goals and plan with phase 0"; 02, Wish
+-- 4: "since load"; 02, Wish 5: "the goals are those not believed, and at load likewise", by which "document 01's line on loading is
+-- amended".
 unfoldable pub start : Bytes → State
-start b = record { mental = ⟨ initialBeliefs b / initialPlan b / initialGoals b ⟩; phase = 0; finished = 0 }
+start b = record {
+  mental = ⟨ initialBeliefs b / initialPlan b / struckBy (initialBeliefs b) (initialGoals b) ⟩;
+  phase = 0;
+  finished = 0;
+}

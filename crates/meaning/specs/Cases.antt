@@ -116,8 +116,9 @@ pub record PCases : Type 0 where
   pub P2-seven : shownRun (runs stripe loaded 7) ≡ 0 ∷ 1 ∷ 6 ∷ resting
   -- 01, P3: "Budget 0 at rest: spent, 0."
   pub P3 : shownRun (runs stripe (afterSteps 6) 0) ≡ 0 ∷ 0 ∷ 0 ∷ resting
-  -- 01, P4: "Add {2}, Del {2}, goals {2}: atom 2 is in neither set afterwards." Atom 1 is believed, so that weave is enabled.
-  pub P4 : shownReply (takes stripe-P4 (configuration (set 2) (set 4) 0 (0 ∷ [])) 256) ≡ 0 ∷ (set 2 ++ (set 0 ++ (2 ∷ [])))
+  -- 01, P4: "Add {2}, Del {2}, goals {2}"; 02, Wish 5: "P4 then ends with the goal kept". Atom 1 is believed, so that weave is
+  -- enabled.
+  pub P4 : shownReply (takes stripe-P4 (configuration (set 2) (set 4) 0 (0 ∷ [])) 256) ≡ 0 ∷ (set 2 ++ (set 4 ++ (2 ∷ [])))
   -- 01, P5: "Plan 3, head 3 0: not enabled."; 02, Wish 1: "15 the plan's front doesn't fit (…, other head)".
   pub P5 : shownTake (takes stripe-P5 (configuration (set 8) (set 4) 0 (3 ∷ [])) 513) ≡ 15 ∷ 0 ∷ (set 8 ++ (set 4 ++ (0 ∷ 3 ∷ [])))
   -- 01, P6: "Plan 3, atom 3 not believed, choice 513: refusal 10."; 02, Wish 1: "P6 becomes 16 with node 2."

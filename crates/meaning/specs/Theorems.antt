@@ -10,12 +10,12 @@ use Rattle.paper.specs.Transitions.{_⊨_}
 use Rattle.paper.specs.Theorems.{AreBytes}
 use Rattle.runs.specs.Limits.{longestPlan, mostFinished}
 use Rattle.runs.specs.Order.{State}
-use Rattle.runs.specs.Theorems.{Numbered, GradeLaws}
+use Rattle.runs.specs.Theorems.{NoneBelieved, Numbered, GradeLaws}
 use Rattle.meaning.specs.declared.Refusal.{Refusal}
 use Rattle.meaning.specs.declared.Answer.the-variants.{Done, Refused}
 use Rattle.meaning.specs.declared.Layout.{Layout}
 use Rattle.meaning.specs.declared.Configuration.{Configuration}
-use Rattle.meaning.specs.Card.{Bytes, layout, nodeAt, conditions, condition, specificationAt, selectionAt, revisionAt, weight, agent, initialPlan}
+use Rattle.meaning.specs.Card.{Bytes, layout, nodeAt, conditions, condition, specificationAt, selectionAt, revisionAt, weight, agent, initialPlan, start}
 use Rattle.meaning.specs.Why.{settler, turns}
 use Rattle.meaning.specs.Configurations.{stateOf, configurationOf}
 use Rattle.meaning.specs.Place.{place, placed}
@@ -74,6 +74,10 @@ pub record CardLaws (b : Bytes) : Type 0 where
 -- 00, demands 2 and 3: "On an accepted card": each of them.
 abbrev pub CardLaw : Type 0
 CardLaw = (b : Bytes) → cardAnswer b ≡ Done → CardLaws b
+
+-- 02, Wish 5: "the goals are those not believed, and at load likewise": no goal that a card starts with is believed.
+abbrev pub StartLaw : Type 0
+StartLaw = (b : Bytes) → NoneBelieved (start b .mental)
 
 -- Node j stands in the condition of node i: it is that node, or stands in one of its children. Serves KindLaws: 01, "The card,
 -- edition 1": "3 not a (b = 0); 4 a and b; 5 a or b."

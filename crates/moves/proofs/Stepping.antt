@@ -107,7 +107,7 @@ module _ (l : Layout) (b : Bytes) (c : Configuration) (ready : Ready l b c) (i :
 
     pub acts-to : step (agentFor l b) s (act i)
         ≡ to (act i) (record {
-          mental = ⟨ σ′ (c .mind .beliefs) (specificationFor l b i) / drop 1 π / γ′ (c .mind .goals) (specificationFor l b i) ⟩;
+          mental = ⟨ σ′ (c .mind .beliefs) (specificationFor l b i) / drop 1 π / γ′ (c .mind .beliefs) (c .mind .goals) (specificationFor l b i) ⟩;
           phase = 2;
           finished = finishedWith (c .mind .finished) (drop 1 π);
         })

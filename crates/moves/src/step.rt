@@ -74,8 +74,8 @@ fn step_selection(card: &[u8], l: Layout, m: Mind, plan: &mut [u8; 1024], i: usi
     taken(b, g, s.length, m.finished, 0, i)
 }
 
-// Specification i: "Beliefs become (beliefs with Add) without Del. Goals become goals without Add. The first action leaves the
-// plan."
+// Specification i: "Beliefs become (beliefs with Add) without Del.", "after an action the goals are those not believed", "The first
+// action leaves the plan."
 fn step_action(card: &[u8], l: Layout, m: Mind, plan: &mut [u8; 1024], i: usize) -> Stepped
     requires { ⌜ Ready l (now card) (lent m (now plan)) × Open l (now card) (lent m (now plan)) (act i) ⌝ }
     ensures { λ r. ⌜ StepsBy l (now (card .entry)) (lent m (now (plan .entry))) (act i) r (now (plan .exit)) ⌝ }
@@ -87,7 +87,7 @@ fn step_action(card: &[u8], l: Layout, m: Mind, plan: &mut [u8; 1024], i: usize)
     let add = e.add;
     let del = e.del;
     let beliefs = sets::difference(sets::union(b, add), del);
-    let goals = sets::difference(g, add);
+    let goals = sets::difference(g, beliefs);
     plans::drop_front(plan, n, 1);
     taken(beliefs, goals, n - 1, m.finished, 1, i)
 }

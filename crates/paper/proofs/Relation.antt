@@ -117,7 +117,7 @@ unfolding canAct acted
 acted-step A c n s e h =
     let (p, q) = both (startsWith (s .a) (c .π)) _ h in
     let z : c ≡ ⟨ c .σ / s .a ∷ drop 1 (c .π) / c .γ ⟩ = λ i. ⟨ c .σ / first-is (s .a) (c .π) p i / c .γ ⟩ in
-    subst (λ x. Step A x (act n) ⟨ σ′ (c .σ) s / drop 1 (c .π) / γ′ (c .γ) s ⟩) (sym z)
+    subst (λ x. Step A x (act n) ⟨ σ′ (c .σ) s / drop 1 (c .π) / γ′ (c .σ) (c .γ) s ⟩) (sym z)
     (execute e (holds-at (s .β) z q))
 
 revised-step : (A : Agent) (c : Config) (n : ℕ) (r : Revision) → Entry (A .PR) n r → canRevise c r ≡ true → Step A c (revise n) (revised c r)

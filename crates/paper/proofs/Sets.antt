@@ -1,6 +1,6 @@
 -- The laws of sets of atoms, for any number of bytes, and what an action does to the members.
 use mathlib.Core.Path.{_≡_, refl, ap, _∙_, sym}
-use mathlib.Core.Bool.{Bool, true, false, not, _&&_, _||_}
+use mathlib.Core.Bool.{Bool, true, false, not, _&&_, _||_, and-true}
 use mathlib.Core.List.{[], _∷_}
 use Prim.Native.Nat.{ℕ, zero, suc, _+_, _*_, _/_, _%_, _^_, _<_}
 use native.Mathlib.Nat.{mod-lt, div-div-eq-div-mul, pow-suc, mul-comm, div-lt-iff-lt-mul}
@@ -137,18 +137,21 @@ pub ∈-σ′ : (k : ℕ) (σ : Atoms) (s : Specification) → k ∈ σ′ σ s 
 unfolding σ′
 ∈-σ′ k σ s = ∈-∖ k (σ ∪ s .Add) (s .Del) ∙ ap (λ b. b && not (k ∈ s .Del)) (∈-∪ k σ (s .Add))
 
-pub ∈-γ′ : (k : ℕ) (γ : Atoms) (s : Specification) → k ∈ γ′ γ s ≡ (k ∈ γ && not (k ∈ s .Add))
+pub ∈-γ′ : (k : ℕ) (σ γ : Atoms) (s : Specification) → k ∈ γ′ σ γ s ≡ (k ∈ γ && not (k ∈ σ′ σ s))
 unfolding γ′
-∈-γ′ k γ s = ∈-∖ k γ (s .Add)
+∈-γ′ k σ γ s = ∈-∖ k γ (σ′ σ s)
 
 without : (b c : Bool) → c ≡ true → b && not c ≡ false
 without true c e = rw e
 without false c e = refl
+
+gone : (k : ℕ) (σ : Atoms) (s : Specification) → k ∈ s .Del ≡ true → k ∈ σ′ σ s ≡ false
+gone k σ s del = ∈-σ′ k σ s ∙ without (k ∈ σ || k ∈ s .Add) (k ∈ s .Del) del
 
 pub action-laws : ActionLaws
 action-laws =
     record {
       beliefs = ∈-σ′;
       goals = ∈-γ′;
-      in-both = λ k σ γ s add del. (∈-σ′ k σ s ∙ without (k ∈ σ || k ∈ s .Add) (k ∈ s .Del) del, ∈-γ′ k γ s ∙ without (k ∈ γ) (k ∈ s .Add) add);
+      in-both = λ k σ γ s add del. (gone k σ s del, ∈-γ′ k σ γ s ∙ ap (λ b. k ∈ γ && not b) (gone k σ s del) ∙ and-true (k ∈ γ));
     }

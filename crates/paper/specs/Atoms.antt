@@ -29,7 +29,7 @@ unfoldable pub _∪_ : Atoms → Atoms → Atoms
 (x ∷ s) ∪ (y ∷ t) = bitOr x y ∷ (s ∪ t)
 
 infixl 50 _∖_
--- The difference, byte by byte. Serves σ′ and γ′: 004, Definition 9: "σ′ = (σ ∪ Add) \ Del, and γ′ = γ \ Add".
+-- The difference, byte by byte. Serves σ′ and struckBy: 004, Definition 9: "σ′ = (σ ∪ Add) \ Del".
 unfoldable pub _∖_ : Atoms → Atoms → Atoms
 [] ∖ t = []
 (x ∷ s) ∖ [] = x ∷ s

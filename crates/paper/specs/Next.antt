@@ -38,10 +38,10 @@ selected c r = ⟨ c .σ / r .π / c .γ ⟩
 unfoldable pub canAct : Config → Specification → Bool
 canAct c s = startsWith (s .a) (c .π) && (c ⊨ s .β)
 
--- 01, "A configuration and its transitions", Action: "Beliefs become (beliefs with Add) without Del. Goals become goals without
--- Add. The first action leaves the plan."
+-- 01, "A configuration and its transitions", Action: "Beliefs become (beliefs with Add) without Del.", "The first action leaves
+-- the plan."; 02, Wish 5: "after an action the goals are those not believed".
 unfoldable pub acted : Config → Specification → Config
-acted c s = ⟨ σ′ (c .σ) s / drop 1 (c .π) / γ′ (c .γ) s ⟩
+acted c s = ⟨ σ′ (c .σ) s / drop 1 (c .π) / γ′ (c .σ) (c .γ) s ⟩
 
 -- 01, "A configuration and its transitions", Revision: "Enabled if the head is a prefix of the plan and the condition holds."
 unfoldable pub canRevise : Config → Revision → Bool

@@ -20,7 +20,7 @@ AreBytes s = (i : ℕ) → getD s i 0 < 256
 pub record SetLaws : Type 0 where
   -- 01, "A configuration and its transitions", Action: "beliefs with Add": ∪ is the union of the members.
   pub in-union : (k : ℕ) (s t : Atoms) → k ∈ s ∪ t ≡ (k ∈ s || k ∈ t)
-  -- 01, "A configuration and its transitions", Action: "goals without Add": ∖ is the difference of the members.
+  -- 01, "A configuration and its transitions", Action: "(beliefs with Add) without Del": ∖ is the difference of the members.
   pub in-difference : (k : ℕ) (s t : Atoms) → k ∈ s ∖ t ≡ (k ∈ s && not (k ∈ t))
   -- 01, "The card, edition 1": "atom k is bit (k modulo 8) of byte (k divided by 8)": two sets of as many bytes with the same
   -- members are the same bytes.
@@ -31,11 +31,12 @@ pub record SetLaws : Type 0 where
 pub record ActionLaws : Type 0 where
   -- 01, "A configuration and its transitions", Action: "Beliefs become (beliefs with Add) without Del."
   pub beliefs : (k : ℕ) (σ : Atoms) (s : Specification) → k ∈ σ′ σ s ≡ ((k ∈ σ || k ∈ s .Add) && not (k ∈ s .Del))
-  -- 01, "A configuration and its transitions", Action: "Goals become goals without Add."
-  pub goals : (k : ℕ) (γ : Atoms) (s : Specification) → k ∈ γ′ γ s ≡ (k ∈ γ && not (k ∈ s .Add))
-  -- 01, "A configuration and its transitions": "Atoms both in Add and Del end unbelieved, and still leave the goals."
+  -- 02, Wish 5: "after an action the goals are those not believed"
+  pub goals : (k : ℕ) (σ γ : Atoms) (s : Specification) → k ∈ γ′ σ γ s ≡ (k ∈ γ && not (k ∈ σ′ σ s))
+  -- 01, "A configuration and its transitions": "Atoms both in Add and Del end unbelieved"; 02, Wish 5, of "one that adds and
+  -- withdraws a fact in the same action": its goal is kept.
   pub in-both : (k : ℕ) (σ γ : Atoms) (s : Specification) → k ∈ s .Add ≡ true → k ∈ s .Del ≡ true
-      → (k ∈ σ′ σ s ≡ false) × (k ∈ γ′ γ s ≡ false)
+      → (k ∈ σ′ σ s ≡ false) × (k ∈ γ′ σ γ s ≡ k ∈ γ)
 
 -- 00, demand 2: "moves are those of Definitions 8 to 11 of source document 004, …, none missing and none added": the relation
 -- and the function agree in both directions, and a choice has at most one outcome.

@@ -40,19 +40,24 @@ Entry rs n r = getElem? rs n ≡ some r
 unfoldable pub σ′ : Atoms → Specification → Atoms
 σ′ σ s = (σ ∪ s .Add) ∖ s .Del
 
--- 004, Definition 9: "and γ′ = γ \ Add"
-unfoldable pub γ′ : Atoms → Specification → Atoms
-γ′ γ s = γ ∖ s .Add
+-- 02, Wish 5: "From now on goals are struck by the beliefs": of the goals γ those that are not in σ.
+abbrev pub struckBy : Atoms → Atoms → Atoms
+struckBy σ γ = γ ∖ σ
+
+-- 02, Wish 5: "after an action the goals are those not believed", where 004, Definition 9 has "and γ′ = γ \ Add": "This replaces
+-- Definition 9's rule for goals in demand 2".
+unfoldable pub γ′ : Atoms → Atoms → Specification → Atoms
+γ′ σ γ s = struckBy (σ′ σ s) γ
 
 -- 004, section 2.2: "A transition is a transformation of one configuration into another and it corresponds to a single
 -- computation step." It stands with the choice that is taken.
 pub data Step (A : Agent) : Config → Choice → Config → Type 0 where
   -- 004, Definition 9 (action execution): from "{β}a{Add, Del} ∈ AS" and "⟨σ, a; π, γ⟩ ⊨_L_B β" follows
-  -- "⟨σ, a; π, γ⟩ → ⟨σ′, π, γ′⟩".
+  -- "⟨σ, a; π, γ⟩ → ⟨σ′, π, γ′⟩", with γ′ as 02, Wish 5 has it.
   execute : {σ γ : Atoms} {π : Plan} {n : ℕ} {s : Specification}
       → Entry (A .AS) n s
       → T (⟨ σ / s .a ∷ π / γ ⟩ ⊨ s .β)
-      → Step A ⟨ σ / s .a ∷ π / γ ⟩ (act n) ⟨ σ′ σ s / π / γ′ γ s ⟩
+      → Step A ⟨ σ / s .a ∷ π / γ ⟩ (act n) ⟨ σ′ σ s / π / γ′ σ γ s ⟩
   -- 004, Definition 10 (plan selection rule application): from "β, κ ⇒ π ∈ PS", "⟨σ, ϵ, γ⟩ ⊨_L_B β" and "⟨σ, ϵ, γ⟩ ⊨_L_G κ"
   -- follows "⟨σ, ϵ, γ⟩ → ⟨σ, π, γ⟩".
   apply-PS : {σ γ : Atoms} {n : ℕ} {r : Selection}

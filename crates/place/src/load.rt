@@ -1,4 +1,5 @@
-// Loading: "Loading answers the card's initial beliefs, goals and plan with phase 0, and strikes no goal."
+// Loading: "Loading answers the card's initial beliefs, goals and plan with phase 0", where "the goals are those not believed, and
+// at load likewise".
 ghost use mathlib.Core.Path.{_≡_};
 ghost use lib.ListN.{length};
 ghost use Rattle.meaning.specs.Card.{start};
@@ -28,7 +29,7 @@ fn first(card: &[u8], l: Layout, plan: &mut [u8; 1024]) -> Mind
     let n = initial.length;
     let at = pool_at(l, initial.start);
     let beliefs = initial_beliefs(card);
-    let goals = initial_goals(card);
+    let goals = sets::difference(initial_goals(card), beliefs);
     plans::fill(plan, card, at, n);
     Mind {
         beliefs: beliefs,

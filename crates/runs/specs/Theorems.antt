@@ -7,7 +7,8 @@ use mathlib.Core.Option.{none, some}
 use Prim.Native.Nat.{ℕ, suc, _+_, _*_, _%_, _≤_, _<_}
 use lib.ListN.{length}
 use Rattle.paper.specs.Language.{Plan, Selection, Revision, Agent, Config}
-use Rattle.paper.specs.Transitions.{Choice, Entry, Step}
+use Rattle.paper.specs.Atoms.{_∈_}
+use Rattle.paper.specs.Transitions.{Choice, act, Entry, Step}
 use Rattle.paper.specs.Next.{isEmpty}
 use Rattle.runs.specs.Limits.{longestPlan, heaviestPlan, mostFinished}
 use Rattle.runs.specs.declared.Ending.{Ending}
@@ -136,6 +137,23 @@ counted n o = record { state = o .state; count = n + o .count; ending = o .endin
 -- where it stopped are one run of both budgets. (A run of no budget says spent wherever it stands.)
 abbrev pub StopLaw : Type 0
 StopLaw = (A : Agent) (j k : ℕ) (s : State) → 1 ≤ k → run A (j + k) s ≡ counted (run A j s .count) (run A k (run A j s .state))
+
+-- 02, Wish 5: "goals are struck by the beliefs": no atom is both believed and a goal.
+abbrev pub NoneBelieved : Config → Type 0
+NoneBelieved c = (k : ℕ) → k ∈ c .γ ≡ true → k ∈ c .σ ≡ false
+
+-- 02, Wish 5: "A goal falls when its fact is believed.", along the transitions of an agent, whoever chooses.
+pub record GoalLaws (A : Agent) : Type 0 where
+  -- 02, Wish 5: "after an action the goals are those not believed"
+  pub after-action : {c c′ : Config} {n : ℕ} → Step A c (act n) c′ → NoneBelieved c′
+  -- from a configuration where no goal is believed, none is reached where one is
+  pub stays-so : {c c′ : Config} {ks : List Choice} → Chain A c ks c′ → NoneBelieved c → NoneBelieved c′
+  -- goals never grow: one that is struck does not come back
+  pub never-back : {c c′ : Config} {ks : List Choice} → Chain A c ks c′ → (k : ℕ) → k ∈ c .γ ≡ false → k ∈ c′ .γ ≡ false
+
+-- The same of every agent.
+abbrev pub GoalLaw : Type 0
+GoalLaw = (A : Agent) → GoalLaws A
 
 -- 01, "Weight and grading": "the first offender: the initial plan, then selection rule n, then revision rule n, in that order":
 -- it offends, and nothing that is asked before it does.
