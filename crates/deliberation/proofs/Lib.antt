@@ -1,1 +1,3 @@
 pub mod Cases
+pub mod Good
+pub mod Room
