@@ -1,3 +1,5 @@
 pub mod Cases
 pub mod Good
 pub mod Room
+pub mod First
+pub mod Standing
