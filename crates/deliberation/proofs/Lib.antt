@@ -2,4 +2,5 @@ pub mod Cases
 pub mod Good
 pub mod Room
 pub mod First
+pub mod Parts
 pub mod Standing
