@@ -4,3 +4,5 @@ pub mod Room
 pub mod First
 pub mod Parts
 pub mod Standing
+pub mod Followed
+pub mod Run
