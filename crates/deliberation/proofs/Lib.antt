@@ -6,3 +6,4 @@ pub mod Parts
 pub mod Standing
 pub mod Followed
 pub mod Run
+pub mod Call

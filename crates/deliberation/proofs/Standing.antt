@@ -47,7 +47,7 @@ module _ (βs : List (Query 𝐁)) (es : List Node) where
       stood-next n (ns ++ rs) ∙ ap (λ Ps. parts (program βs es n) ++ Ps) (stood-append ns rs)
       ∙ sym (append-assoc (parts (program βs es n)) (stood ns) (stood rs)) ∙ ap (λ Ps. Ps ++ stood rs) (sym (stood-next n ns))
 
-  stood-one : (n : ℕ) → stood (n ∷ []) ≡ parts (program βs es n)
+  pub stood-one : (n : ℕ) → stood (n ∷ []) ≡ parts (program βs es n)
   unfolding standing
   stood-one n = refl
 
