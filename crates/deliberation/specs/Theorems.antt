@@ -13,7 +13,7 @@ use Rattle.runs.specs.declared.Verdict.{Verdict}
 use Rattle.runs.specs.Order.{State}
 use Rattle.runs.specs.Step.{after}
 use Rattle.runs.specs.Run.{Chain}
-use Rattle.runs.specs.Weight.{weigh, verdict, selections}
+use Rattle.runs.specs.Weight.{weigh, verdict, isSelection, selections}
 use Rattle.meaning.specs.declared.Refusal.{Refusal}
 use Rattle.meaning.specs.declared.Answer.the-variants.{Done, Refused}
 use Rattle.meaning.specs.declared.Configuration.{Configuration}
@@ -234,7 +234,7 @@ NoReactiveLaw = (b : Bytes) → cardAnswer b ≡ Done → NoReactiveRules (agent
 
 -- 000's object level has no plan selection: a choice that is none.
 abbrev pub NoSelection : Choice → Type 0
-NoSelection k = selections (k ∷ []) ≡ 0
+NoSelection k = isSelection k ≡ 0
 
 -- 000, Proposition 1 "(object-level versus meta-level transitions)", of execute, of apply(ρ), and of the selection that 02 adds.
 pub record Proposition1 (A : Agent) (s s′ : Config) (n : ℕ) : Type 0 where
