@@ -6,7 +6,6 @@ use Prim.Native.Nat.{ℕ, suc, _-_, _≤_, _<_}
 use native.Mathlib.Omega.{arith}
 use lib.ListN.{length, take, replicate, length-take}
 use lib.Seq.{take-at}
-use borrow.Author.Tests.{not-false}
 use Rattle.paper.specs.Language.{𝐁, Agent, Config}
 use Rattle.paper.specs.Transitions.{Choice, Step}
 use Rattle.runs.specs.declared.Verdict.{Verdict}
@@ -20,7 +19,7 @@ use Rattle.meaning.specs.declared.Configuration.{Configuration}
 use Rattle.meaning.specs.Card.{Bytes, layout, conditions, agent, weight, initialPlan}
 use Rattle.meaning.specs.Configurations.{stateOf, configurationOf}
 use Rattle.meaning.specs.Refusals.{numberOf, answerNumber, Row, _given-when_, firstGiven, andThen, cardAnswer, containing, configurationGood, configurationTable}
-use Rattle.meaning.proofs.Tables.{done≢refused, given, not-given, passes, and-then-done}
+use Rattle.meaning.proofs.Tables.{done≢refused, given, not-given}
 use Rattle.meaning.proofs.Accepted.{card-laws}
 use Rattle.meaning.proofs.Configurations.{good, configuration-laws}
 use Rattle.deliberation.specs.declared.DeliberationEnding.{DeliberationEnding}
@@ -52,6 +51,46 @@ module _ (b p : Bytes) (c : Configuration) (budget : ℕ) where
   unfolding deliberates
   deliberates-refused q e = rw (e, deliberates)
 
+-- ---- the checks, in their order
+
+-- a table of one row
+module _ {X : Type 0} (r : Refusal) (good : X → Bool) (x : X) where
+  abbrev row : Row X
+  row = r given-when (λ x. not (good x))
+
+  bad-row : good x ≡ false → firstGiven (row ∷ []) x ≡ Refused r
+  bad-row e = given row [] x (rw e)
+
+  good-row : good x ≡ true → firstGiven (row ∷ []) x ≡ Done
+  unfolding firstGiven
+  good-row e = not-given row [] x (rw e)
+
+module _ (b p : Bytes) (c : Configuration) where
+  abbrev program-test : Bytes → Bool
+  program-test = programGood (containing 2 (layout b) b) (layout b)
+
+  card-refused : (q : Refusal) → cardAnswer b ≡ Refused q → deliberateAnswer b p c ≡ Refused q
+  unfolding deliberateAnswer
+  card-refused q e = rw e
+
+  module _ (card : cardAnswer b ≡ Done) where
+    pub program-refused : program-test p ≡ false → deliberateAnswer b p c ≡ Refused Refusal.Program
+    unfolding deliberateAnswer programTable
+    program-refused e = rw (card, bad-row Refusal.Program program-test p e)
+
+    module _ (program : program-test p ≡ true) where
+      pub after-program : deliberateAnswer b p c ≡ firstGiven (configurationTable (layout b)) c
+      unfolding deliberateAnswer programTable
+      after-program = rw (card, good-row Refusal.Program program-test p program)
+
+      pub configuration-refused : configurationGood (layout b) c ≡ false → deliberateAnswer b p c ≡ Refused Refusal.Configuration
+      unfolding configurationTable
+      configuration-refused e = after-program ∙ bad-row Refusal.Configuration (configurationGood (layout b)) c e
+
+      pub nothing-refused : configurationGood (layout b) c ≡ true → deliberateAnswer b p c ≡ Done
+      unfolding configurationTable
+      nothing-refused e = after-program ∙ good-row Refusal.Configuration (configurationGood (layout b)) c e
+
 -- ---- what an accepted call has passed
 
 pub record Passed (b p : Bytes) (c : Configuration) : Type 0 where
@@ -60,13 +99,19 @@ pub record Passed (b p : Bytes) (c : Configuration) : Type 0 where
   pub configuration-good : configurationGood (layout b) c ≡ true
 
 pub passed : (b p : Bytes) (c : Configuration) → deliberateAnswer b p c ≡ Done → Passed b p c
-unfolding deliberateAnswer programTable configurationTable
-passed b p c e =
-    let (card, rest) = and-then-done (cardAnswer b) _ e in
-    let (program, configuration) = and-then-done (firstGiven (programTable b) p) _ rest in
-    let (h, t) = passes _ _ p program in
-    let (i, u) = passes _ _ c configuration in
-    record { card = card; program-good = not-false _ h; configuration-good = not-false _ i }
+passed b p c e = by-card (cardAnswer b) refl
+  where
+    by-configuration : cardAnswer b ≡ Done → program-test b p c p ≡ true → (t : Bool) → configurationGood (layout b) c ≡ t → Passed b p c
+    by-configuration d g true h = record { card = d; program-good = g; configuration-good = h }
+    by-configuration d g false h = absurd (done≢refused (sym e ∙ configuration-refused b p c d g h))
+
+    by-program : cardAnswer b ≡ Done → (t : Bool) → program-test b p c p ≡ t → Passed b p c
+    by-program d true h = by-configuration d h (configurationGood (layout b) c) refl
+    by-program d false h = absurd (done≢refused (sym e ∙ program-refused b p c d h))
+
+    by-card : (a : Answer) → cardAnswer b ≡ a → Passed b p c
+    by-card Done h = by-program h (program-test b p c p) refl
+    by-card (Refused q) h = absurd (done≢refused (sym e ∙ card-refused b p c q h))
 
 -- ---- what remains, as it is answered
 
@@ -154,44 +199,6 @@ bounded-moves-law b p c budget e r q v w =
     }
 
 -- ---- refusals
-
--- a table of one row
-module _ {X : Type 0} (r : Refusal) (good : X → Bool) (x : X) where
-  abbrev row : Row X
-  row = r given-when (λ x. not (good x))
-
-  bad-row : good x ≡ false → firstGiven (row ∷ []) x ≡ Refused r
-  bad-row e = given row [] x (rw e)
-
-  good-row : good x ≡ true → firstGiven (row ∷ []) x ≡ Done
-  unfolding firstGiven
-  good-row e = not-given row [] x (rw e)
-
-module _ (b p : Bytes) (c : Configuration) where
-  abbrev program-test : Bytes → Bool
-  program-test = programGood (containing 2 (layout b) b) (layout b)
-
-  card-refused : (q : Refusal) → cardAnswer b ≡ Refused q → deliberateAnswer b p c ≡ Refused q
-  unfolding deliberateAnswer
-  card-refused q e = rw e
-
-  module _ (card : cardAnswer b ≡ Done) where
-    program-refused : program-test p ≡ false → deliberateAnswer b p c ≡ Refused Refusal.Program
-    unfolding deliberateAnswer programTable
-    program-refused e = rw (card, bad-row Refusal.Program program-test p e)
-
-    module _ (program : program-test p ≡ true) where
-      after-program : deliberateAnswer b p c ≡ firstGiven (configurationTable (layout b)) c
-      unfolding deliberateAnswer programTable
-      after-program = rw (card, good-row Refusal.Program program-test p program)
-
-      configuration-refused : configurationGood (layout b) c ≡ false → deliberateAnswer b p c ≡ Refused Refusal.Configuration
-      unfolding configurationTable
-      configuration-refused e = after-program ∙ bad-row Refusal.Configuration (configurationGood (layout b)) c e
-
-      nothing-refused : configurationGood (layout b) c ≡ true → deliberateAnswer b p c ≡ Done
-      unfolding configurationTable
-      nothing-refused e = after-program ∙ good-row Refusal.Configuration (configurationGood (layout b)) c e
 
 module _ (b p : Bytes) (c : Configuration) (budget : ℕ) where
   -- the answer is that of the checks

@@ -3,16 +3,16 @@ use mathlib.Core.Path.{refl}
 use mathlib.Core.List.{flatten}
 use Rattle.meaning.specs.Assembled.{assembled}
 use Rattle.meaning.specs.Stripe.{set, specification, selection, revision, stripeWith, stripe}
-use Rattle.meaning.specs.Cases.{shown, configuration, loaded}
+use Rattle.meaning.specs.Cases.{loaded}
 use Rattle.meaning.proofs.Computing.{computing}
 use Rattle.deliberation.specs.Programs.{𝒲}
 use Rattle.deliberation.specs.FirstMove.{lowestAction, ifEnabled}
 use Rattle.deliberation.specs.Entries.{entryAt, entries, programGood, programTable, deliberateAnswer, moves}
-use Rattle.deliberation.specs.Deliberate.{leads, deliberate, remainingOf, deliberates, endingNumber}
-use Rattle.deliberation.specs.Cases.{entry, told, teaching, doubling, long, wrong, Cases}
+use Rattle.deliberation.specs.Deliberate.{leads, deliberate, remainingOf, deliberates, deliberationEndingNumber}
+use Rattle.deliberation.specs.Cases.{entry, told, teaching, doubling, withPlan, long, wrong, Cases}
 
 pub cases : Cases
-unfolding computing flatten assembled set specification selection revision stripeWith stripe shown configuration loaded 𝒲 lowestAction ifEnabled entryAt entries programGood programTable deliberateAnswer moves leads deliberate remainingOf deliberates endingNumber entry told teaching doubling long wrong
+unfolding computing flatten assembled set specification selection revision stripeWith stripe loaded 𝒲 lowestAction ifEnabled entryAt entries programGood programTable deliberateAnswer moves leads deliberate remainingOf deliberates deliberationEndingNumber entry told teaching doubling withPlan long wrong
 cases =
     record {
       finished = refl;

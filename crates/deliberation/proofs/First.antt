@@ -18,7 +18,7 @@ use Rattle.runs.proofs.Order.{entry-lt, first-yes, first-no}
 use Rattle.deliberation.specs.Programs.{Prog, apply, select, while_doing_od, _⨾_, _⊕_, Rest, E, still, _⨾′_, 𝒲}
 use Rattle.deliberation.specs.MetaTransitions.{Label, idle, taking, MetaStep, action-execution, rule-application, rule-selection, while-tt, while-ff, in-sequence, choice-left, choice-right}
 use Rattle.deliberation.specs.FirstMove.{Move, takes, lowestAction, ifEnabled, idles, followedBy, leftElseRight, firstMove}
-use Rattle.deliberation.specs.Theorems.{NoTransition, FirstMoveLaw}
+use Rattle.deliberation.specs.Theorems.{NoTransition, FirstMoveLaw, WayOutLaw}
 
 -- ---- the lowest number of a list of choices that passes a test
 
@@ -79,7 +79,7 @@ module _ (A : Agent) (s : Config) where
       act-lt : {s s′ : Config} {n : ℕ} → Step A s (Choice.act n) s′ → n < length (A .AS)
       act-lt (execute {n = n} e p) = entry-lt (A .AS) n e
 
-  pub lower-closed : (n : ℕ) → lowestAction A s ≡ some (Choice.act n) → (i : ℕ) → i < n → (s′ : Config) → Step A s (Choice.act i) s′ → ⊥
+  lower-closed : (n : ℕ) → lowestAction A s ≡ some (Choice.act n) → (i : ℕ) → i < n → (s′ : Config) → Step A s (Choice.act i) s′ → ⊥
   unfolding lowestAction ofKind
   lower-closed n e i h s′ x =
       let r = lowest-of (enabled A s) Choice.act 0 (length (A .AS)) (Choice.act n) e in
@@ -131,9 +131,12 @@ module _ {R : Type 0} where
   followed-none f none e = refl
   followed-none f (some n) e = absurd (none≢some (sym e))
 
+  either-left : (m : Move R) (u : Option (Move R)) → leftElseRight (some m) u ≡ some m
+  either-left m u = refl
+
   either-none : (o u : Option (Move R)) → leftElseRight o u ≡ none → (o ≡ none) × (u ≡ none)
   either-none none u e = (refl, e)
-  either-none (some m) u e = absurd (none≢some (sym e))
+  either-none (some m) u e = absurd (none≢some (sym e ∙ either-left m u))
 
 -- ---- the first move is a transition
 
@@ -191,4 +194,33 @@ none-exactly A s P = (λ e x P′ s′ t. not-none t e, λ h. go h (firstMove A 
     go h (some m) e = let (s′, x) = is-one A s P m e in absurd (h (m .label) (m .remaining) s′ x)
 
 pub first-move-law : FirstMoveLaw
-first-move-law A s P = record { is-one = is-one A s P; none-exactly = none-exactly A s P; lowest = lower-closed A s }
+first-move-law A s P = record { is-one = is-one A s P; none-exactly = none-exactly A s P }
+
+-- ---- which of them it is
+
+module _ (A : Agent) (s : Config) where
+  lowest : (m : Move Rest) (n : ℕ) → firstMove A s Prog.execute ≡ some m → m .label ≡ taking (Choice.act n)
+      → (i : ℕ) → i < n → (s′ : Config) → Step A s (Choice.act i) s′ → ⊥
+  unfolding firstMove
+  lowest m n e x =
+      let (k, (f, q)) = takes-some (lowestAction A s) E m e in
+      let z : k ≡ Choice.act n = taking-inj (ap (λ (y : Move Rest). y .label) q ∙ x) in
+      lower-closed A s n (f ∙ ap {B = Option Choice} (λ j. some j) z)
+    where
+      taking-inj : {j k : Choice} → taking j ≡ taking k → j ≡ k
+      taking-inj e = cc
+
+  left : (P₁ P₂ : Prog) (x : Label) (P₁′ : Rest) (s′ : Config) → MetaStep A P₁ s x P₁′ s′ → firstMove A s (P₁ ⊕ P₂) ≡ firstMove A s P₁
+  unfolding firstMove
+  left P₁ P₂ x P₁′ s′ t = go (firstMove A s P₁) refl
+    where
+      go : (o : Option (Move Rest)) → firstMove A s P₁ ≡ o → leftElseRight (firstMove A s P₁) (firstMove A s P₂) ≡ firstMove A s P₁
+      go none e = absurd (not-none t e)
+      go (some m) e = rw e
+
+  right : (P₁ P₂ : Prog) → NoTransition A P₁ s → firstMove A s (P₁ ⊕ P₂) ≡ firstMove A s P₂
+  unfolding firstMove
+  right P₁ P₂ h = rw (none-exactly A s P₁ .1 h)
+
+pub way-out-law : WayOutLaw
+way-out-law A s = record { lowest = lowest A s; left = left A s; right = right A s }

@@ -20,7 +20,7 @@ use Rattle.deliberation.specs.Programs.{Prog, Rest, E, still}
 use Rattle.deliberation.specs.MetaTransitions.{Label, idle, taking, MetaStep}
 use Rattle.deliberation.specs.FirstMove.{Move, firstMove}
 use Rattle.deliberation.specs.Entries.{entryCount, entries, programGood, program, standing, moves}
-use Rattle.deliberation.specs.Deliberate.{Came, stuck, on, leads, came, Outcome, ended, oneMore, deliberate, endingNumber}
+use Rattle.deliberation.specs.Deliberate.{Came, stuck, on, leads, came, Outcome, ended, oneMore, deliberate, deliberationEndingNumber}
 use Rattle.deliberation.specs.Deliberate as Deliberate
 use Rattle.deliberation.specs.Theorems.{NoTransition, parts, partsOf, Goes, stays, goes, Followed, no-move, one-move, Overflows, EndsExactly}
 use Rattle.deliberation.proofs.Room.{Stacked, put, move-within}
@@ -64,7 +64,7 @@ module _ (A : Agent) (βs : List (Query 𝐁)) (es : List Node) (b n : ℕ) (ns 
 
 module _ (gs : List Bool) (l : Layout) (p : Bytes) (good : programGood gs l p ≡ true) (A : Agent) (βs : List (Query 𝐁)) (j : ℕ) (known : j < entryCount p) where
   -- what the first move of a program comes to, where it then goes on with numbers
-  data Comes (P : Prog) (s : State) : Came → Type 0 where
+  pub data Comes (P : Prog) (s : State) : Came → Type 0 where
     no-move-there : NoTransition A P (s .mental) → Comes P s stuck
     does-not-fit : Overflows A s P → Comes P s Deliberate.too-long
     goes-on : (m : Move Rest) (ns : List ℕ) (s′ : State) → firstMove A (s .mental) P ≡ some m → Goes A s (m .label) s′
@@ -72,7 +72,7 @@ module _ (gs : List Bool) (l : Layout) (p : Bytes) (good : programGood gs l p �
 
   module _ (P : Prog) (s : State) (m : Move Rest) (f : firstMove A (s .mental) P ≡ some m) (ns : List ℕ) (q : partsOf (m .remaining) ≡ stood βs (entries p) ns)
       (room : Stacked j ns) where
-    by-step : (k : Choice) → m .label ≡ taking k → {r : Reached} → step A s k ≡ r → StepsTo A s k r → Comes P s (leads A s (taking k) ns)
+    pub by-step : (k : Choice) → m .label ≡ taking k → {r : Reached} → step A s k ≡ r → StepsTo A s k r → Comes P s (leads A s (taking k) ns)
     by-step k x e (none-there h) =
         let (c, t) = is-one A (s .mental) P m f in
         absurd (h c (object (subst (λ y. MetaStep A P (s .mental) y (m .remaining) c) x t)))
@@ -82,7 +82,7 @@ module _ (gs : List Bool) (l : Layout) (p : Bytes) (good : programGood gs l p �
     by-step k x e (taken c t h) =
         rw (leads-to A s k ns (after s k c) e) (goes-on m ns (after s k c) f (subst (λ y. Goes A s y (after s k c)) (sym x) (goes t h)) q room)
 
-    by-label : (x : Label) → m .label ≡ x → Comes P s (leads A s x ns)
+    pub by-label : (x : Label) → m .label ≡ x → Comes P s (leads A s x ns)
     unfolding leads
     by-label idle e = goes-on m ns s f (subst (λ y. Goes A s y s) (sym e) stays) q room
     by-label (taking k) e = by-step k e refl (steps-to A s k)
@@ -122,8 +122,8 @@ still≢E : {P : Prog} → still P ≡ E → ⊥
 still≢E e = let z : _≡_ {A = ℕ} 0 1 = cc in omega arith
 
 -- two endings with two numbers are two
-two : {e e′ : DeliberationEnding} → (endingNumber e ≡ endingNumber e′ → ⊥) → e ≡ e′ → ⊥
-two h e = h (ap endingNumber e)
+two : {e e′ : DeliberationEnding} → (deliberationEndingNumber e ≡ deliberationEndingNumber e′ → ⊥) → e ≡ e′ → ⊥
+two h e = h (ap deliberationEndingNumber e)
 
 moves-on : {A : Agent} {s : State} {P Q : Prog} → still P ≡ still Q → Overflows A s P → NoTransition A Q (s .mental) → ⊥
 moves-on {A} {s} {P} e o h =
@@ -131,7 +131,7 @@ moves-on {A} {s} {P} e o h =
     subst (λ Q. NoTransition A Q (s .mental) → ⊥) (still-inj e) (λ h. h _ _ c t) h
 
 pub ends-exactly : {A : Agent} {b n : ℕ} {R : Rest} {s : State} {e : DeliberationEnding} → Because A b n R s e → EndsExactly A b n R s e
-unfolding endingNumber
+unfolding deliberationEndingNumber
 ends-exactly (is-spent h) =
     record {
       spent = (λ e. h, λ e. refl);

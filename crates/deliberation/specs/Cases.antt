@@ -3,24 +3,28 @@ use mathlib.Core.Path.{_≡_}
 use mathlib.Core.List.{List, [], _∷_, _++_, map, flatten}
 use Prim.Native.Nat.{ℕ, suc}
 use lib.ListN.{length, replicate}
+use Rattle.paper.specs.Language.{⟨_/_/_⟩}
+use Rattle.paper.specs.Transitions.{Choice}
 use Rattle.runs.specs.Order.{numbers}
+use Rattle.runs.specs.Step.{after}
 use Rattle.meaning.specs.declared.Configuration.{Configuration}
 use Rattle.meaning.specs.Card.{Bytes}
+use Rattle.meaning.specs.Configurations.{stateOf, configurationOf}
 use Rattle.meaning.specs.Refusals.{answerNumber}
-use Rattle.meaning.specs.Calls.{takes}
+use Rattle.meaning.specs.Calls.{takes, runs}
 use Rattle.meaning.specs.Stripe.{set, stripe}
-use Rattle.meaning.specs.Cases.{shown, loaded, configuration}
+use Rattle.meaning.specs.Cases.{loaded}
 use Rattle.deliberation.specs.declared.Deliberated.{Deliberated}
-use Rattle.deliberation.specs.Deliberate.{deliberates, endingNumber}
+use Rattle.deliberation.specs.Deliberate.{deliberates, deliberationEndingNumber}
 use Rattle.deliberation.specs.Theorems.{numbersIn}
 
 -- 02, Wish 6: "entries shaped like nodes": kind, a, b, 0.
 unfoldable pub entry : ℕ → ℕ → ℕ → Bytes
 entry kind a b = kind ∷ a ∷ b ∷ 0 ∷ []
 
--- What the call answers in numbers: its number, ending and count, the numbers that remain, and the configuration by itself.
+-- What the call answers in numbers, but for the configuration: its number, ending and count, and the numbers that remain.
 unfoldable pub told : Deliberated → List ℕ
-told r = answerNumber (r .answer) ∷ endingNumber (r .ending) ∷ r .count ∷ numbersIn (r .remaining)
+told r = answerNumber (r .answer) ∷ deliberationEndingNumber (r .ending) ∷ r .count ∷ numbersIn (r .remaining)
 
 -- 02, Wish 6: "The teaching shed wants revising before acting": select 0, then while the plan is not empty revision 1 or 2 or 0, or
 -- an action.
@@ -33,18 +37,22 @@ teaching = flatten (
 unfoldable pub doubling : Bytes
 doubling = entry 1 0 0 ++ flatten (map (λ i. entry 6 i i) (numbers 0 127))
 
+-- The configuration after a selection that led to a plan, with atom 3 believed.
+unfoldable pub withPlan : List ℕ → Configuration
+withPlan π = configurationOf (after (stateOf loaded) (Choice.select 0) ⟨ set 8 / π / set 0 ⟩)
+
 -- A plan of 1,024, of which the first action has a revision to two.
 unfoldable pub long : Configuration
-long = configuration (set 8) (set 0) 0 (replicate 1024 3)
+long = withPlan (replicate 1024 3)
 
--- A configuration with a phase that there is not.
+-- A plan with an action that the card does not have.
 unfoldable pub wrong : Configuration
-wrong = configuration (set 8) (set 0) 3 []
+wrong = withPlan (9 ∷ [])
 
 pub record Cases : Type 0 where
   -- 02, Wish 6: "finished": six transitions and six idle moves; where the guide's own run ends too.
   pub finished : told (deliberates stripe teaching loaded 1000) ≡ 0 ∷ 1 ∷ 12 ∷ []
-  pub finished-at : shown (deliberates stripe teaching loaded 1000 .configuration) ≡ set 5 ++ (set 0 ++ (2 ∷ []))
+  pub finished-at : deliberates stripe teaching loaded 1000 .configuration ≡ runs stripe loaded 1000 .configuration
   -- 02, Wish 6: "spent" is looked at first: the same with a budget of 12.
   pub spent-first : told (deliberates stripe teaching loaded 12) ≡ 0 ∷ 0 ∷ 12 ∷ []
   -- 02, Wish 6: "a sequence is one number until a move is made in it"
@@ -52,7 +60,7 @@ pub record Cases : Type 0 where
   pub left-done : told (deliberates stripe teaching loaded 1) ≡ 0 ∷ 0 ∷ 1 ∷ 7 ∷ []
   -- 02, Wish 6: "idle moves, which leave the whole configuration as it is, phase": a while that holds leaves its body, then itself.
   pub idle-counted : told (deliberates stripe teaching loaded 2) ≡ 0 ∷ 0 ∷ 2 ∷ 6 ∷ 7 ∷ []
-  pub idle-leaves : shown (deliberates stripe teaching loaded 2 .configuration) ≡ shown (takes stripe loaded 0 .configuration)
+  pub idle-leaves : deliberates stripe teaching loaded 2 .configuration ≡ takes stripe loaded 0 .configuration
   -- 02, Wish 6: "stuck": revision 0 is not enabled, and what stands behind it is not looked at.
   pub stuck : told (deliberates stripe (flatten (entry 1 0 0 ∷ entry 2 0 0 ∷ entry 5 0 1 ∷ [])) loaded 9) ≡ 0 ∷ 2 ∷ 0 ∷ 2 ∷ []
   -- 02, Wish 6: "Choice takes the left if it has a first move, …, else the right."

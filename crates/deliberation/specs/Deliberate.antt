@@ -101,8 +101,8 @@ deliberates b p c budget = elim (deliberateAnswer b p c) [
 ]
 
 -- drill.md: "ending (1: 0 spent, 1 finished, 2 stuck, 3 full)"
-unfoldable pub endingNumber : DeliberationEnding → ℕ
-endingNumber DeliberationEnding.Spent = 0
-endingNumber DeliberationEnding.Finished = 1
-endingNumber DeliberationEnding.Stuck = 2
-endingNumber DeliberationEnding.Full = 3
+unfoldable pub deliberationEndingNumber : DeliberationEnding → ℕ
+deliberationEndingNumber DeliberationEnding.Spent = 0
+deliberationEndingNumber DeliberationEnding.Finished = 1
+deliberationEndingNumber DeliberationEnding.Stuck = 2
+deliberationEndingNumber DeliberationEnding.Full = 3

@@ -25,7 +25,7 @@ use Rattle.deliberation.specs.declared.Remaining.{Remaining}
 use Rattle.deliberation.specs.declared.Deliberated.{Deliberated}
 use Rattle.deliberation.specs.Programs.{Prog, execute, apply, select, while_doing_od, _⨾_, _⊕_, Rest, E, still}
 use Rattle.deliberation.specs.MetaTransitions.{Label, idle, taking, MetaStep, Computation, notIdle}
-use Rattle.deliberation.specs.FirstMove.{Move, firstMove, lowestAction}
+use Rattle.deliberation.specs.FirstMove.{Move, firstMove}
 use Rattle.deliberation.specs.Entries.{entryCount, entries, programGood, deliberateAnswer, program, standing, moves}
 use Rattle.deliberation.specs.Deliberate.{deliberates}
 use Rattle.deliberation.specs.Interpreter.{anyMove, interpreter}
@@ -42,12 +42,24 @@ pub record FirstMoveLaws (A : Agent) (s : Config) (P : Prog) : Type 0 where
   pub is-one : (m : Move Rest) → firstMove A s P ≡ some m → (s′ : Config) × MetaStep A P s (m .label) (m .remaining) s′
   -- and there is none exactly if the relation has none
   pub none-exactly : (firstMove A s P ≡ none) ↔ NoTransition A P s
-  -- 02, Wish 6: "Execute takes the lowest enabled specification."
-  pub lowest : (n : ℕ) → lowestAction A s ≡ some (Choice.act n) → (i : ℕ) → i < n → (s′ : Config) → Step A s (Choice.act i) s′ → ⊥
 
 -- The same of every agent, configuration and program.
 abbrev pub FirstMoveLaw : Type 0
 FirstMoveLaw = (A : Agent) (s : Config) (P : Prog) → FirstMoveLaws A s P
+
+-- 000, section 2.2 has "a non-deterministic choice operator": which of the relation's transitions the first move is.
+pub record WayOut (A : Agent) (s : Config) : Type 0 where
+  -- 02, Wish 6: "Execute takes the lowest enabled specification."
+  pub lowest : (m : Move Rest) (n : ℕ) → firstMove A s execute ≡ some m → m .label ≡ taking (Choice.act n)
+      → (i : ℕ) → i < n → (s′ : Config) → Step A s (Choice.act i) s′ → ⊥
+  -- 02, Wish 6: "Choice takes the left if it has a first move, idle or not, fitting or not"
+  pub left : (P₁ P₂ : Prog) (x : Label) (P₁′ : Rest) (s′ : Config) → MetaStep A P₁ s x P₁′ s′
+      → firstMove A s (P₁ ⊕ P₂) ≡ firstMove A s P₁
+  -- 02, Wish 6: "else the right"
+  pub right : (P₁ P₂ : Prog) → NoTransition A P₁ s → firstMove A s (P₁ ⊕ P₂) ≡ firstMove A s P₂
+
+abbrev pub WayOutLaw : Type 0
+WayOutLaw = (A : Agent) (s : Config) → WayOut A s
 
 -- ---- what entry numbers stand for
 
