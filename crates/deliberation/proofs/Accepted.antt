@@ -1,26 +1,27 @@
--- An accepted card has no reactive rules, and so 000's theorems hold of it.
-use mathlib.Core.Path.{_≡_, refl, ap, _∙_, sym}
+-- Of an accepted card: what the entries of a program name, and that it has no reactive rules, so that 000's theorems hold of it.
+use mathlib.Core.Path.{_≡_, ap, _∙_, sym}
 use mathlib.Core.Bool.{Bool, true}
-use mathlib.Core.List.{List, []}
+use mathlib.Core.List.{List}
 use Prim.Native.Nat.{ℕ, _+_, _≤_, _<_}
 use native.Mathlib.Omega.{arith}
-use lib.Dec.{leb, eqb}
+use lib.Dec.{ltb, eqb}
 use lib.ListN.{length}
-use borrow.Author.Tests.{leb-true}
+use borrow.Author.Tests.{leb-true, ltb-true}
 use Rattle.paper.specs.Language.{Revision}
-use Rattle.paper.specs.Transitions.{Entry}
 use Rattle.paper.proofs.Relation.{both, some-inj}
 use Rattle.runs.proofs.Order.{entry-lt}
-use Rattle.meaning.specs.declared.Answer.the-variants.{Done}
 use Rattle.meaning.specs.declared.Layout.{Layout}
 use Rattle.meaning.specs.declared.Span.{Span}
 use Rattle.meaning.specs.Card.{Bytes, layout, plan, revisionAt, revisionOf, agentOf, agentFor, agent}
-use Rattle.meaning.specs.Refusals.{within, containing, conditionGood, spanGood, revisionGood, cardAnswer}
+use Rattle.meaning.specs.Refusals.{within, containing, conditionGood, spanGood, revisionGood}
 use Rattle.meaning.proofs.Accepted.{accepted, offsets, within-low, length-entries}
 use Rattle.meaning.proofs.Entries.{good-entries}
+use Rattle.meaning.proofs.AtomKinds.{no-goal-atom}
 use Rattle.meaning.proofs.AgentEntries.{revisionFor, revision-entry}
 use Rattle.meaning.proofs.Parts.{length-part}
-use Rattle.deliberation.specs.Theorems.{NoReactiveLaw, InterpreterLaws}
+use Rattle.deliberation.specs.Theorems.{NoReactiveLaw, InterpreterLaws, EntryLaw}
+use Rattle.deliberation.specs.Entries.{entryAt}
+use Rattle.deliberation.proofs.Good.{entry-rule}
 use Rattle.deliberation.proofs.Interpreter.{proposition-1, lemma-1, theorem-1}
 
 -- row 7 asks that a head lies in the pool and is not empty
@@ -54,3 +55,21 @@ no-reactive b e n r entry empty =
 
 pub interpreter-laws : InterpreterLaws
 interpreter-laws = record { proposition-1 = proposition-1; lemma-1 = lemma-1; theorem-1 = theorem-1; no-reactive = no-reactive }
+
+-- ---- the entries of a program
+
+pub entry-law : EntryLaw
+unfolding agent agentFor agentOf
+entry-law b p card good i h =
+    let l = layout b in
+    let x = entryAt p i in
+    let r = entry-rule (containing 2 l b) l p good i h in
+    record {
+      first-part = r .first;
+      second-part = r .second;
+      known-revision = λ k. rw (length-entries _ (l .revisions)) (r .revision k);
+      known-selection = λ k. rw (length-entries _ (l .selections)) (r .selection k);
+      belief-condition = λ k. (
+          let e = r .node k in
+          (ltb-true (x .a) (l .nodes .count) (both (ltb (x .a) (l .nodes .count)) _ e .0), no-goal-atom b card (x .a) e));
+    }

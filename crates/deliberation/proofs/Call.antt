@@ -2,36 +2,33 @@
 use mathlib.Core.Path.{_≡_, refl, ap, _∙_, sym, subst}
 use mathlib.Core.Bool.{Bool, true, false, not}
 use mathlib.Core.List.{List, [], _∷_, _++_, List·Memᴰ}
-use Prim.Native.Nat.{ℕ, suc, _-_, _≤_, _<_}
+use Prim.Native.Nat.{ℕ, _-_, _≤_, _<_}
 use native.Mathlib.Omega.{arith}
-use lib.ListN.{length, take, replicate, length-take}
+use lib.ListN.{length, replicate, length-take}
 use lib.Seq.{take-at}
 use Rattle.paper.specs.Language.{𝐁, Agent, Config}
 use Rattle.paper.specs.Transitions.{Choice, Step}
-use Rattle.runs.specs.declared.Verdict.{Verdict}
 use Rattle.runs.specs.Order.{State}
 use Rattle.runs.specs.Run.{Chain, stay, _then_}
-use Rattle.runs.specs.Weight.{weigh, verdict}
 use Rattle.meaning.specs.declared.Refusal.{Refusal}
 use Rattle.meaning.specs.declared.Answer.{Answer}
 use Rattle.meaning.specs.declared.Answer.the-variants.{Done, Refused}
 use Rattle.meaning.specs.declared.Configuration.{Configuration}
-use Rattle.meaning.specs.Card.{Bytes, layout, conditions, agent, weight, initialPlan}
-use Rattle.meaning.specs.Configurations.{stateOf, configurationOf}
-use Rattle.meaning.specs.Refusals.{numberOf, answerNumber, Row, _given-when_, firstGiven, andThen, cardAnswer, containing, configurationGood, configurationTable}
+use Rattle.meaning.specs.Card.{Bytes, layout, conditions, agent}
+use Rattle.meaning.specs.Configurations.{stateOf}
+use Rattle.meaning.specs.Refusals.{numberOf, answerNumber, Row, _given-when_, firstGiven, cardAnswer, containing, configurationGood, configurationTable}
 use Rattle.meaning.proofs.Tables.{done≢refused, given, not-given}
 use Rattle.meaning.proofs.Accepted.{card-laws}
 use Rattle.meaning.proofs.Configurations.{good, configuration-laws}
 use Rattle.deliberation.specs.declared.DeliberationEnding.{DeliberationEnding}
-use Rattle.deliberation.specs.declared.Remaining.{Remaining}
 use Rattle.deliberation.specs.declared.Deliberated.{Deliberated}
 use Rattle.deliberation.specs.Programs.{still}
-use Rattle.deliberation.specs.MetaTransitions.{Label, Computation, notIdle}
-use Rattle.deliberation.specs.Entries.{entryCount, entries, programGood, programTable, deliberateAnswer, program, standing}
+use Rattle.deliberation.specs.MetaTransitions.{Computation, notIdle}
+use Rattle.deliberation.specs.Entries.{entryCount, entries, programGood, programTable, deliberateAnswer, program}
 use Rattle.deliberation.specs.Deliberate.{Outcome, deliberate, remainingOf, deliberated, whole, deliberates}
-use Rattle.deliberation.specs.Theorems.{partsOf, wholeOf, numbersIn, standFor, Followed, Overflows, EndsExactly, Deliberates, Tells, TellsLaw, BoundedMoves, BoundedMovesLaw, RefusalLaw, DeterminedLaw}
+use Rattle.deliberation.specs.Theorems.{partsOf, wholeOf, numbersIn, standFor, Followed, EndsExactly, Tells, TellsLaw, BoundedMovesLaw, RefusalLaw, DeterminedLaw}
 use Rattle.deliberation.proofs.Good.{some-entries, most-entries}
-use Rattle.deliberation.proofs.Room.{Stacked, nothing, put, stacked-length, stacked-known}
+use Rattle.deliberation.proofs.Room.{nothing, put, stacked-length, stacked-known}
 use Rattle.deliberation.proofs.Standing.{stood-one}
 use Rattle.deliberation.proofs.Followed.{computation, chain, fits}
 use Rattle.deliberation.proofs.Run.{Walked, walked, ends-exactly}

@@ -2,21 +2,21 @@
 use mathlib.Core.Path.{_≡_, refl, ap, _∙_, sym, subst}
 use mathlib.Core.Logic.{_↔_}
 use mathlib.Core.Bool.{Bool, true, false}
-use mathlib.Core.List.{List, [], _∷_, map}
+use mathlib.Core.List.{map}
 use mathlib.Core.Option.{Option, none, some}
 use Prim.Native.Nat.{ℕ, zero, suc, _+_, _≤_, _<_}
-use native.Mathlib.Nat.{not-suc-le-zero, le-of-suc-le-suc, zero-add}
+use native.Mathlib.Nat.{zero-add}
 use native.Mathlib.Decide.{ℕ-discrete}
 use native.Mathlib.Omega.{arith}
 use lib.ListN.{length}
 use Rattle.paper.specs.Language.{Agent, Config}
-use Rattle.paper.specs.Transitions.{Choice, Step, execute, Entry}
+use Rattle.paper.specs.Transitions.{Choice, Step, execute}
 use Rattle.paper.specs.Next.{enabled}
 use Rattle.paper.proofs.Relation.{none≢some, some-inj, false≢true, enabled-exactly}
 use Rattle.runs.specs.Order.{numbers, ofKind, first}
 use Rattle.runs.proofs.Order.{entry-lt, first-yes, first-no}
 use Rattle.deliberation.specs.Programs.{Prog, apply, select, while_doing_od, _⨾_, _⊕_, Rest, E, still, _⨾′_, 𝒲}
-use Rattle.deliberation.specs.MetaTransitions.{Label, idle, taking, MetaStep, action-execution, rule-application, rule-selection, while-tt, while-ff, in-sequence, choice-left, choice-right}
+use Rattle.deliberation.specs.MetaTransitions.{Label, taking, MetaStep, action-execution, rule-application, rule-selection, while-tt, while-ff, in-sequence, choice-left, choice-right}
 use Rattle.deliberation.specs.FirstMove.{Move, takes, lowestAction, ifEnabled, idles, followedBy, leftElseRight, firstMove}
 use Rattle.deliberation.specs.Theorems.{NoTransition, FirstMoveLaw, WayOutLaw}
 

@@ -1,18 +1,16 @@
 -- First moves one after the other are a computation of the relation, and those that are not idle a chain of the definitions.
-use mathlib.Core.Path.{_≡_, refl, ap, _∙_, sym, subst}
-use mathlib.Core.List.{List, [], _∷_}
-use mathlib.Core.Option.{some}
-use Prim.Native.Nat.{ℕ, _≤_}
+use mathlib.Core.Path.{_≡_, refl, sym, subst}
+use mathlib.Core.List.{List, _∷_}
+use Prim.Native.Nat.{_≤_}
 use lib.ListN.{length}
 use Rattle.paper.specs.Language.{Agent, Config}
-use Rattle.paper.specs.Transitions.{Choice, Step}
+use Rattle.paper.specs.Transitions.{Step}
 use Rattle.paper.proofs.Relation.{unique}
 use Rattle.runs.specs.Order.{State}
 use Rattle.runs.specs.Step.{after}
 use Rattle.runs.specs.Run.{Chain, stay, _then_}
-use Rattle.deliberation.specs.Programs.{Prog, Rest, still}
+use Rattle.deliberation.specs.Programs.{Prog, Rest}
 use Rattle.deliberation.specs.MetaTransitions.{Label, idle, taking, MetaStep, action-execution, rule-application, rule-selection, while-tt, while-ff, in-sequence, choice-left, choice-right, Computation, as-it-is, _and-then_, notIdle}
-use Rattle.deliberation.specs.FirstMove.{Move, firstMove}
 use Rattle.deliberation.specs.Theorems.{Goes, stays, goes, Followed, no-move, one-move}
 use Rattle.deliberation.proofs.First.{is-one}
 

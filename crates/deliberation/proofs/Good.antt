@@ -1,8 +1,8 @@
 -- A program that is not refused: how many entries it has, where the parts of an entry are, and what a pass makes of each.
-use mathlib.Core.Path.{_≡_, refl, ap, ap₂, _∙_, sym}
-use mathlib.Core.Bool.{Bool, true, false}
+use mathlib.Core.Path.{_≡_, refl, ap, ap₂, _∙_}
+use mathlib.Core.Bool.{Bool, true, _&&_}
 use mathlib.Core.List.{List, [], _∷_, _++_}
-use mathlib.Core.Option.{Option, none, some}
+use mathlib.Core.Option.{Option, none}
 use Prim.Native.Nat.{ℕ, zero, suc, _*_, _/_, _%_, _≤_, _<_}
 use native.Mathlib.Nat.{zero-add, not-suc-le-zero}
 use native.Mathlib.Omega.{arith}
@@ -15,7 +15,7 @@ use Rattle.runs.proofs.Numbers.{length-made, made-at}
 use Rattle.meaning.specs.declared.Layout.{Layout}
 use Rattle.meaning.specs.declared.Node.{Node}
 use Rattle.meaning.specs.Card.{Bytes, pass, condition}
-use Rattle.meaning.specs.Refusals.{every, within, conditionGood}
+use Rattle.meaning.specs.Refusals.{within, conditionGood}
 use Rattle.meaning.proofs.Accepted.{within-low, within-high}
 use Rattle.meaning.proofs.Every.{every-at}
 use Rattle.meaning.proofs.Pass.{pass-at}
@@ -23,30 +23,83 @@ use Rattle.deliberation.specs.Programs.{notEmptyPlan, holds, Prog, execu
 use Rattle.deliberation.specs.FirstMove.{Move, followedBy, leftElseRight}
 use Rattle.deliberation.specs.Entries.{entryAt, entryCount, entries, lengthGood, kindGood, entryGood, programGood, progOf, programs, program, moveOf, moves}
 
--- what row 19 says of an entry's kind and of its parts
-pub record Rule (i kind a b : ℕ) : Type 0 where
+-- what row 19 says of an entry's kind and of what it names
+pub record Rule (gs : List Bool) (l : Layout) (i kind a b : ℕ) : Type 0 where
   pub kinds : kind ≤ 6
+  pub revision : kind ≡ 1 → a < l .revisions .count
+  pub selection : kind ≡ 2 → a < l .selections .count
+  pub node : kind ≡ 4 → conditionGood l gs a ≡ true
   pub first : 5 ≤ kind → a < i
   pub second : 3 ≤ kind → b < i
 
-pub rule : (gs : List Bool) (l : Layout) (i kind a b : ℕ) → kindGood gs l i kind a b ≡ true → Rule i kind a b
-rule gs l i zero a b e = record { kinds = omega arith; first = λ h. absurd (omega arith); second = λ h. absurd (omega arith) }
-rule gs l i (suc zero) a b e = record { kinds = omega arith; first = λ h. absurd (omega arith); second = λ h. absurd (omega arith) }
-rule gs l i (suc (suc zero)) a b e = record { kinds = omega arith; first = λ h. absurd (omega arith); second = λ h. absurd (omega arith) }
+-- one of the two kinds with two parts
+two-parts : (gs : List Bool) (l : Layout) (i kind a b : ℕ) → 5 ≤ kind → kind ≤ 6 → ltb a i && ltb b i ≡ true → Rule gs l i kind a b
+two-parts gs l i kind a b least most e =
+    let (h, k) = both (ltb a i) _ e in
+    let first = ltb-true a i h in
+    let second = ltb-true b i k in
+    record {
+      kinds = most;
+      revision = λ h. absurd (omega arith);
+      selection = λ h. absurd (omega arith);
+      node = λ h. absurd (omega arith);
+      first = λ _. first;
+      second = λ _. second;
+    }
+
+pub rule : (gs : List Bool) (l : Layout) (i kind a b : ℕ) → kindGood gs l i kind a b ≡ true → Rule gs l i kind a b
+rule gs l i zero a b e =
+    record {
+      kinds = omega arith;
+      revision = λ h. absurd (omega arith);
+      selection = λ h. absurd (omega arith);
+      node = λ h. absurd (omega arith);
+      first = λ h. absurd (omega arith);
+      second = λ h. absurd (omega arith);
+    }
+rule gs l i (suc zero) a b e =
+    let known = ltb-true a (l .revisions .count) (both (ltb a (l .revisions .count)) _ e .0) in
+    record {
+      kinds = omega arith;
+      revision = λ _. known;
+      selection = λ h. absurd (omega arith);
+      node = λ h. absurd (omega arith);
+      first = λ h. absurd (omega arith);
+      second = λ h. absurd (omega arith);
+    }
+rule gs l i (suc (suc zero)) a b e =
+    let known = ltb-true a (l .selections .count) (both (ltb a (l .selections .count)) _ e .0) in
+    record {
+      kinds = omega arith;
+      revision = λ h. absurd (omega arith);
+      selection = λ _. known;
+      node = λ h. absurd (omega arith);
+      first = λ h. absurd (omega arith);
+      second = λ h. absurd (omega arith);
+    }
 rule gs l i (suc (suc (suc zero))) a b e =
-    let h = ltb-true b i (both (eqb a 0) _ e .1) in
-    record { kinds = omega arith; first = λ h. absurd (omega arith); second = λ _. h }
+    let lower = ltb-true b i (both (eqb a 0) _ e .1) in
+    record {
+      kinds = omega arith;
+      revision = λ h. absurd (omega arith);
+      selection = λ h. absurd (omega arith);
+      node = λ h. absurd (omega arith);
+      first = λ h. absurd (omega arith);
+      second = λ _. lower;
+    }
 rule gs l i (suc (suc (suc (suc zero)))) a b e =
-    let h = ltb-true b i (both (conditionGood l gs a) _ e .1) in
-    record { kinds = omega arith; first = λ h. absurd (omega arith); second = λ _. h }
-rule gs l i (suc (suc (suc (suc (suc zero))))) a b e =
-    let h = ltb-true a i (both (ltb a i) _ e .0) in
-    let k = ltb-true b i (both (ltb a i) _ e .1) in
-    record { kinds = omega arith; first = λ _. h; second = λ _. k }
-rule gs l i (suc (suc (suc (suc (suc (suc zero)))))) a b e =
-    let h = ltb-true a i (both (ltb a i) _ e .0) in
-    let k = ltb-true b i (both (ltb a i) _ e .1) in
-    record { kinds = omega arith; first = λ _. h; second = λ _. k }
+    let (good, rest) = both (conditionGood l gs a) _ e in
+    let lower = ltb-true b i rest in
+    record {
+      kinds = omega arith;
+      revision = λ h. absurd (omega arith);
+      selection = λ h. absurd (omega arith);
+      node = λ _. good;
+      first = λ h. absurd (omega arith);
+      second = λ _. lower;
+    }
+rule gs l i (suc (suc (suc (suc (suc zero))))) a b e = two-parts gs l i 5 a b (omega arith) (omega arith) e
+rule gs l i (suc (suc (suc (suc (suc (suc zero)))))) a b e = two-parts gs l i 6 a b (omega arith) (omega arith) e
 rule gs l i (suc (suc (suc (suc (suc (suc (suc k))))))) a b e = absurd (false≢true e)
 
 -- what is right of a number if it is of all lower ones, is right of every one
@@ -107,7 +160,7 @@ module _ (gs : List Bool) (l : Layout) (p : Bytes) (good : programGood gs l p �
     abbrev x : Node
     x = entryAt p i
 
-    pub entry-rule : Rule i (x .kind) (x .a) (x .b)
+    pub entry-rule : Rule gs l i (x .kind) (x .a) (x .b)
     unfolding programGood
     entry-rule =
         rule gs l i (x .kind) (x .a) (x .b)

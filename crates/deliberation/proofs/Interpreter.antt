@@ -1,7 +1,7 @@
 -- 000's theorems of its interpreter: Proposition 1, Lemma 1 and the finite part of Theorem 1.
 use mathlib.Core.Path.{_≡_, refl, ap, _∙_, sym, subst}
-use mathlib.Core.Logic.{_↔_, _⊎_, inl, inr, ⊎-elim}
-use mathlib.Core.Bool.{Bool, true, false, not}
+use mathlib.Core.Logic.{_⊎_, inl, inr, ⊎-elim}
+use mathlib.Core.Bool.{true, false, not}
 use mathlib.Core.List.{List, [], _∷_, _++_, map}
 use Prim.Native.Nat.{ℕ, zero, suc, _+_, _≤_, _<_}
 use native.Mathlib.Nat.{zero-add}
@@ -17,10 +17,11 @@ use Rattle.runs.specs.Order.{numbers}
 use Rattle.runs.specs.Run.{Chain, stay, _then_}
 use Rattle.runs.specs.Weight.{isSelection, selections}
 use Rattle.runs.proofs.Order.{entry-lt}
-use Rattle.deliberation.specs.Programs.{Bexp, notEmptyPlan, Prog, execute, apply, select, while_doing_od, _⨾_, _⊕_, Rest, E, still, _⨾′_, 𝒲}
+use Rattle.deliberation.specs.Programs.{Bexp, Prog, execute, apply, while_doing_od, _⨾_, _⊕_, Rest, E, still, _⨾′_, 𝒲}
 use Rattle.deliberation.specs.MetaTransitions.{Label, idle, taking, MetaStep, action-execution, rule-application, rule-selection, while-tt, while-ff, in-sequence, choice-left, choice-right, Computation, as-it-is, _and-then_, notIdle}
 use Rattle.deliberation.specs.Interpreter.{orOneOf, anyMove, interpreter}
 use Rattle.deliberation.specs.Theorems.{NoReactiveRules, NoSelection, Proposition1, Lemma1, Theorem1}
+use Rattle.deliberation.proofs.Parts.{still-inj, still≢E}
 use Rattle.deliberation.proofs.Followed.{object}
 
 -- ---- Proposition 1
@@ -176,12 +177,6 @@ module _ (A : Agent) (heads : NoReactiveRules A) where
     chain : Chain A s (notIdle xs) s′
     without : selections (notIdle xs) ≡ 0
     empty : s′ .π ≡ []
-
-  still≢E : {P : Prog} → still P ≡ E → ⊥
-  still≢E e = let z : _≡_ {A = ℕ} 0 1 = cc in omega arith
-
-  still-inj : {P Q : Prog} → still P ≡ still Q → P ≡ Q
-  still-inj e = cc
 
   idle-first : {s s₁ s′ : Config} {x : Label} {xs : List Label} → x ≡ idle → s₁ ≡ s → Chained s₁ xs s′ → Chained s (x ∷ xs) s′
   unfolding notIdle

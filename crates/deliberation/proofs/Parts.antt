@@ -28,10 +28,6 @@ module _ {R R′ : Type 0} (f : R → R′) where
   mapped-idles true r r′ = refl
   mapped-idles false r r′ = refl
 
-  pub mapped-followed : (g : R → R) (o : Option (Move R)) → mapped (followedBy g o) ≡ package.Rattle.deliberation.proofs.Parts.mapped (λ r. f (g r)) o
-  mapped-followed g none = refl
-  mapped-followed g (some m) = refl
-
   pub mapped-either : (o u : Option (Move R)) → mapped (leftElseRight o u) ≡ leftElseRight (mapped o) (mapped u)
   mapped-either none u = refl
   mapped-either (some m) u = refl
@@ -45,6 +41,10 @@ pub mapped-some : {R R′ : Type 0} (f : R → R′) (o : Option (Move R)) (m′
 mapped-some f none m′ e = absurd (none≢some e)
 mapped-some f (some m) m′ e = let q = some-inj e in (m, (refl, (ap (λ (x : Move _). x .label) q, ap (λ (x : Move _). x .remaining) q)))
 
+pub mapped-followed : {R R′ : Type 0} (f : R → R′) (g : R → R) (o : Option (Move R)) → mapped f (followedBy g o) ≡ mapped (λ r. f (g r)) o
+mapped-followed f g none = refl
+mapped-followed f g (some m) = refl
+
 pub mapped-twice : {R R′ R″ : Type 0} (f : R′ → R″) (g : R → R′) (o : Option (Move R)) → mapped f (mapped g o) ≡ mapped (λ r. f (g r)) o
 mapped-twice f g none = refl
 mapped-twice f g (some m) = refl
@@ -54,6 +54,12 @@ mapped-same f g h none = refl
 mapped-same f g h (some m) = ap (λ r. some (record { label = m .label; remaining = r })) (h (m .remaining))
 
 -- ---- parts
+
+pub still-inj : {P Q : Prog} → still P ≡ still Q → P ≡ Q
+still-inj e = cc
+
+pub still≢E : {P : Prog} → still P ≡ E → ⊥
+still≢E e = let z : _≡_ {A = ℕ} 0 1 = cc in omega arith
 
 pub parts-after : (R : Rest) (P : Prog) → parts (R ⨾′ P) ≡ partsOf R ++ parts P
 unfolding parts

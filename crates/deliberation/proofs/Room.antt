@@ -1,5 +1,5 @@
 -- Never more than 128 numbers remain: each number, with those that stand behind it, is below the number of entries.
-use mathlib.Core.Path.{_≡_, refl, ap, _∙_, sym, subst}
+use mathlib.Core.Path.{_≡_, refl, subst}
 use mathlib.Core.Logic.{⊎-elim}
 use mathlib.Core.Bool.{Bool, true, false}
 use mathlib.Core.List.{List, [], _∷_, _++_, List·Memᴰ, List·Memᴰ·not-nil, List·Memᴰ·cases-cons}
@@ -14,7 +14,7 @@ use Rattle.meaning.specs.declared.Layout.{Layout}
 use Rattle.meaning.specs.Card.{Bytes, condition}
 use Rattle.deliberation.specs.Programs.{notEmptyPlan, holds, 𝒲}
 use Rattle.deliberation.specs.FirstMove.{Move, takes, lowestAction, ifEnabled, idles, followedBy, leftElseRight}
-use Rattle.deliberation.specs.Entries.{entryAt, entryCount, entries, programGood, moveOf, moves}
+use Rattle.deliberation.specs.Entries.{entryCount, entries, programGood, moveOf, moves}
 use Rattle.deliberation.proofs.Good.{Rule, from-lower, entry-rule, move-at}
 
 -- each number, and how many stand behind it, come to at most k
@@ -62,7 +62,7 @@ either-within i j k none u h l v w m e = weaker (omega arith) (w m e)
 either-within i j k (some n) u h l v w m e = weaker (omega arith) (v m e)
 
 module _ (A : Agent) (βs : List (Query 𝐁)) (s : Config) where
-  of-kind : (i k a b : ℕ) (q : ℕ → Option (Move (List ℕ))) → Rule i k a b → ((j : ℕ) → j < i → Within j (q j)) → Within i (moveOf A βs s i k a b q)
+  of-kind : {gs : List Bool} {l : Layout} (i k a b : ℕ) (q : ℕ → Option (Move (List ℕ))) → Rule gs l i k a b → ((j : ℕ) → j < i → Within j (q j)) → Within i (moveOf A βs s i k a b q)
   of-kind i zero a b q r h = takes-within i (lowestAction A s)
   of-kind i (suc zero) a b q r h = takes-within i (ifEnabled A s (Choice.revise a))
   of-kind i (suc (suc zero)) a b q r h = takes-within i (ifEnabled A s (Choice.select a))

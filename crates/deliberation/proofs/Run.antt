@@ -1,14 +1,13 @@
 -- A deliberation makes the first move of what remains, again and again, counts them, and ends for the reason that it gives.
 use mathlib.Core.Path.{_≡_, refl, ap, _∙_, sym, subst}
-use mathlib.Core.Logic.{_↔_}
 use mathlib.Core.Bool.{Bool, true}
 use mathlib.Core.List.{List, [], _∷_, _++_}
 use mathlib.Core.Option.{Option, none, some}
-use Prim.Native.Nat.{ℕ, zero, suc, _≤_, _<_}
+use Prim.Native.Nat.{ℕ, zero, suc, _<_}
 use native.Mathlib.Omega.{arith}
 use lib.ListN.{length, getD}
-use Rattle.paper.specs.Language.{𝐁, Query, Agent, Config}
-use Rattle.paper.specs.Transitions.{Choice, Step}
+use Rattle.paper.specs.Language.{𝐁, Query, Agent}
+use Rattle.paper.specs.Transitions.{Choice}
 use Rattle.runs.specs.Order.{State}
 use Rattle.runs.specs.Step.{after, Reached, nothing, full, to, step}
 use Rattle.runs.proofs.Step.{StepsTo, none-there, too-long, taken, steps-to}
@@ -24,8 +23,8 @@ use Rattle.deliberation.specs.Deliberate.{Came, stuck, on, leads, came, 
 use Rattle.deliberation.specs.Deliberate as Deliberate
 use Rattle.deliberation.specs.Theorems.{NoTransition, parts, partsOf, Goes, stays, goes, Followed, no-move, one-move, Overflows, EndsExactly}
 use Rattle.deliberation.proofs.Room.{Stacked, put, move-within}
-use Rattle.deliberation.proofs.First.{is-one, none-exactly, not-none}
-use Rattle.deliberation.proofs.Parts.{mapped, mapped-none, mapped-some, some-parts, no-parts}
+use Rattle.deliberation.proofs.First.{is-one, none-exactly}
+use Rattle.deliberation.proofs.Parts.{mapped, mapped-none, mapped-some, some-parts, no-parts, still-inj, still≢E}
 use Rattle.deliberation.proofs.Standing.{stood, stood-next, numbers-same}
 use Rattle.deliberation.proofs.Followed.{object}
 
@@ -114,12 +113,6 @@ one-later (is-spent h) = is-spent (ap suc h)
 one-later (is-finished h) = is-finished (omega arith)
 one-later (is-stuck h x) = is-stuck (omega arith) x
 one-later (is-full h x) = is-full (omega arith) x
-
-still-inj : {P Q : Prog} → still P ≡ still Q → P ≡ Q
-still-inj e = cc
-
-still≢E : {P : Prog} → still P ≡ E → ⊥
-still≢E e = let z : _≡_ {A = ℕ} 0 1 = cc in omega arith
 
 -- two endings with two numbers are two
 two : {e e′ : DeliberationEnding} → (deliberationEndingNumber e ≡ deliberationEndingNumber e′ → ⊥) → e ≡ e′ → ⊥

@@ -4,7 +4,7 @@ use mathlib.Core.Logic.{_↔_}
 use mathlib.Core.Bool.{Bool, true}
 use mathlib.Core.List.{List, [], _∷_, _++_, append-nil, append-assoc}
 use mathlib.Core.Option.{Option, none, some}
-use Prim.Native.Nat.{ℕ, zero, suc, _≤_, _<_}
+use Prim.Native.Nat.{ℕ, zero, suc, _<_}
 use native.Mathlib.Omega.{arith}
 use lib.ListN.{getD}
 use Rattle.paper.specs.Language.{𝐁, Query, Agent, Config}
@@ -13,8 +13,8 @@ use Rattle.meaning.specs.declared.Layout.{Layout}
 use Rattle.meaning.specs.declared.Node.{Node}
 use Rattle.meaning.specs.Card.{Bytes, layout, agent, conditions, condition}
 use Rattle.meaning.specs.Refusals.{containing}
-use Rattle.deliberation.specs.Programs.{Bexp, notEmptyPlan, holds, Prog, execute, apply, select, while_doing_od, _⨾_, _⊕_, Rest, E, still, _⨾′_, 𝒲}
-use Rattle.deliberation.specs.MetaTransitions.{Label, MetaStep}
+use Rattle.deliberation.specs.Programs.{Bexp, notEmptyPlan, holds, Prog, execute, apply, select, while_doing_od, _⨾_, _⊕_, Rest, E, still, 𝒲}
+use Rattle.deliberation.specs.MetaTransitions.{MetaStep}
 use Rattle.deliberation.specs.FirstMove.{Move, takes, lowestAction, ifEnabled, idles, followedBy, leftElseRight, firstMove}
 use Rattle.deliberation.specs.Entries.{entryAt, entryCount, entries, programGood, progOf, program, standing, moveOf, moves}
 use Rattle.deliberation.specs.Theorems.{NoTransition, parts, partsOf, _≈_, standFor, moveAt, NumbersLaw}
@@ -84,7 +84,7 @@ module _ (βs : List (Query 𝐁)) (es : List Node) where
         mapped-either partsOf (firstMove A s (program βs es a)) (firstMove A s (program βs es b)) ∙ ap₂ leftElseRight h k
         ∙ sym (mapped-either stood o u)
 
-    of-kind : (i k a b : ℕ) (q : ℕ → Option (Move (List ℕ))) → Rule i k a b → program βs es i ≡ progOf βs k a b (program βs es)
+    of-kind : {gs : List Bool} {l : Layout} (i k a b : ℕ) (q : ℕ → Option (Move (List ℕ))) → Rule gs l i k a b → program βs es i ≡ progOf βs k a b (program βs es)
         → ((j : ℕ) → j < i → Same (program βs es j) (q j)) → Same (progOf βs k a b (program βs es)) (moveOf A βs s i k a b q)
     unfolding firstMove
     of-kind i zero a b q r e h = same-takes execute (lowestAction A s) refl

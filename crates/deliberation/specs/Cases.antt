@@ -1,8 +1,8 @@
 -- Cases of deliberation on the stripe card (01, "The stripe card"), computed: on the left what the call answers.
 use mathlib.Core.Path.{_≡_}
 use mathlib.Core.List.{List, [], _∷_, _++_, map, flatten}
-use Prim.Native.Nat.{ℕ, suc}
-use lib.ListN.{length, replicate}
+use Prim.Native.Nat.{ℕ}
+use lib.ListN.{replicate}
 use Rattle.paper.specs.Language.{⟨_/_/_⟩}
 use Rattle.paper.specs.Transitions.{Choice}
 use Rattle.runs.specs.Order.{numbers}

@@ -1,7 +1,7 @@
 -- A program's bytes: its entries, when they are refused (row 19), the programs that they stand for, and their first moves.
-use mathlib.Core.Bool.{Bool, true, false, not, _&&_}
+use mathlib.Core.Bool.{Bool, false, not, _&&_}
 use mathlib.Core.List.{List, [], _∷_, _++_, map}
-use mathlib.Core.Option.{Option, none, some}
+use mathlib.Core.Option.{Option, none}
 use Prim.Native.Nat.{ℕ, zero, suc, _+_, _*_, _/_, _%_}
 use lib.Dec.{ltb, eqb}
 use lib.ListN.{length, getD}
@@ -15,7 +15,7 @@ use Rattle.meaning.specs.declared.Node.{Node}
 use Rattle.meaning.specs.declared.Configuration.{Configuration}
 use Rattle.meaning.specs.Card.{Bytes, byte, layout, pass, condition}
 use Rattle.meaning.specs.Refusals.{Row, _given-when_, firstGiven, andThen, every, within, containing, conditionGood, cardAnswer, configurationTable}
-use Rattle.deliberation.specs.Programs.{Bexp, notEmptyPlan, holds, Prog, execute, apply, select, while_doing_od, _⨾_, _⊕_, Rest, E, still, _⨾′_, 𝒲}
+use Rattle.deliberation.specs.Programs.{notEmptyPlan, holds, Prog, execute, apply, select, while_doing_od, _⨾_, _⊕_, Rest, E, still, 𝒲}
 use Rattle.deliberation.specs.FirstMove.{Move, takes, lowestAction, ifEnabled, idles, followedBy, leftElseRight}
 
 -- ---- the entries

@@ -1,12 +1,11 @@
 -- The first move of a program: the one of the meta-level transitions that is made (02, Wish 6).
 use mathlib.Core.Bool.{Bool, true, false}
 use mathlib.Core.Option.{Option, none, some}
-use Prim.Native.Nat.{ℕ}
 use Rattle.paper.specs.Language.{Agent, Config}
 use Rattle.paper.specs.Transitions.{Choice}
 use Rattle.paper.specs.Next.{enabled}
 use Rattle.runs.specs.Order.{ofKind, first}
-use Rattle.deliberation.specs.Programs.{Bexp, Prog, execute, apply, select, while_doing_od, _⨾_, _⊕_, Rest, E, still, _⨾′_, 𝒲}
+use Rattle.deliberation.specs.Programs.{Prog, execute, apply, select, while_doing_od, _⨾_, _⊕_, Rest, E, still, _⨾′_, 𝒲}
 use Rattle.deliberation.specs.MetaTransitions.{Label, idle, taking}
 
 -- A move: its label, and what remains of the program after it, as a term or as entry numbers.

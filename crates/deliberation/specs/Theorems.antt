@@ -6,7 +6,7 @@ use mathlib.Core.List.{List, [], _∷_, _++_, List·Memᴰ}
 use mathlib.Core.Option.{Option, none, some}
 use Prim.Native.Nat.{ℕ, _+_, _*_, _-_, _≤_, _<_}
 use lib.ListN.{length, take, getD}
-use Rattle.paper.specs.Language.{Plan, 𝐁, Revision, Agent, Config}
+use Rattle.paper.specs.Language.{𝐁, Revision, Agent, Config}
 use Rattle.paper.specs.Transitions.{Choice, Entry, Step}
 use Rattle.runs.specs.Limits.{longestPlan, heaviestPlan}
 use Rattle.runs.specs.declared.Verdict.{Verdict}
@@ -19,6 +19,7 @@ use Rattle.meaning.specs.declared.Answer.the-variants.{Done, Refused}
 use Rattle.meaning.specs.declared.Configuration.{Configuration}
 use Rattle.meaning.specs.Card.{Bytes, layout, conditions, agent, weight, initialPlan}
 use Rattle.meaning.specs.Configurations.{stateOf}
+use Rattle.meaning.specs.Theorems.{Without}
 use Rattle.meaning.specs.Refusals.{answerNumber, cardAnswer, containing, configurationGood}
 use Rattle.deliberation.specs.declared.DeliberationEnding.{DeliberationEnding}
 use Rattle.deliberation.specs.declared.Remaining.{Remaining}
@@ -26,7 +27,7 @@ use Rattle.deliberation.specs.declared.Deliberated.{Deliberated}
 use Rattle.deliberation.specs.Programs.{Prog, execute, apply, select, while_doing_od, _⨾_, _⊕_, Rest, E, still}
 use Rattle.deliberation.specs.MetaTransitions.{Label, idle, taking, MetaStep, Computation, notIdle}
 use Rattle.deliberation.specs.FirstMove.{Move, firstMove}
-use Rattle.deliberation.specs.Entries.{entryCount, entries, programGood, deliberateAnswer, program, standing, moves}
+use Rattle.deliberation.specs.Entries.{entryAt, entryCount, entries, programGood, deliberateAnswer, program, standing, moves}
 use Rattle.deliberation.specs.Deliberate.{deliberates}
 use Rattle.deliberation.specs.Interpreter.{anyMove, interpreter}
 
@@ -60,6 +61,25 @@ pub record WayOut (A : Agent) (s : Config) : Type 0 where
 
 abbrev pub WayOutLaw : Type 0
 WayOutLaw = (A : Agent) (s : Config) → WayOut A s
+
+-- ---- an entry
+
+-- What holds of entry i of a program that is not refused.
+pub record EntryLaws (b p : Bytes) (i : ℕ) : Type 0 where
+  -- 02, Wish 6: "part numbers are lower than their own"
+  pub first-part : 5 ≤ entryAt p i .kind → entryAt p i .a < i
+  pub second-part : 3 ≤ entryAt p i .kind → entryAt p i .b < i
+  -- 02, Wish 6: "1 apply a, 2 select a", none of them "naming an unknown rule"
+  pub known-revision : entryAt p i .kind ≡ 1 → entryAt p i .a < length (agent b .PR)
+  pub known-selection : entryAt p i .kind ≡ 2 → entryAt p i .a < length (agent b .PS)
+  -- 02, Wish 6: "4 while belief condition a holds do b": 01, "A configuration and its transitions": "A belief condition contains no
+  -- goal atom"
+  pub belief-condition : entryAt p i .kind ≡ 4 → (entryAt p i .a < layout b .nodes .count) × Without b 2 (entryAt p i .a)
+
+-- The same of every accepted card and every entry.
+abbrev pub EntryLaw : Type 0
+EntryLaw = (b p : Bytes) → cardAnswer b ≡ Done → programGood (containing 2 (layout b) b) (layout b) p ≡ true → (i : ℕ) → i < entryCount p
+    → EntryLaws b p i
 
 -- ---- what entry numbers stand for
 
