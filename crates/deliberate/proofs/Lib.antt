@@ -1,0 +1,4 @@
+pub mod Marking
+pub mod Descending
+pub mod Making
+pub mod Next
