@@ -1,5 +1,5 @@
 -- The first move of an entry is that of the one that a descent ends at, with the numbers behind that one.
-use mathlib.Core.Path.{_≡_, refl, ap, ap₂, _∙_, sym, subst}
+use mathlib.Core.Path.{_≡_, refl, ap, _∙_, sym, subst}
 use mathlib.Core.Bool.{Bool, true, false}
 use mathlib.Core.List.{List, [], _∷_, _++_}
 use mathlib.Core.Option.{Option, none, some}
@@ -7,7 +7,7 @@ use Prim.Native.Nat.{ℕ, zero, suc, _+_, _-_, _≤_, _<_}
 use native.Mathlib.Omega.{arith}
 use lib.ListN.{length, drop, set, take, getD, length-drop}
 use lib.Seq.{set-split, drop-at, drop-drop, append-snoc, length-take-le}
-use Rattle.paper.specs.Language.{𝐁, Query, Agent, Config}
+use Rattle.paper.specs.Language.{𝐁, Query, Agent}
 use Rattle.paper.specs.Next.{isSome}
 use Rattle.runs.specs.Order.{State}
 use Rattle.meaning.specs.declared.Layout.{Layout}
@@ -22,7 +22,7 @@ use Rattle.deliberation.specs.Deliberate.{leads, came}
 use Rattle.deliberation.proofs.Good.{move-at}
 use Rattle.deliberation.proofs.Room.{Stacked, put}
 use Rattle.meaning.specs.Why.{leftIf}
-use Rattle.program.specs.GoodProgram.{GoodEntry, GoodProgram}
+use Rattle.program.specs.GoodProgram.{GoodProgram}
 use Rattle.deliberate.specs.First.{moveAt, Movable}
 use Rattle.deliberate.specs.Descent.{Stack, partOf, behind, Down, here, lower}
 

@@ -1,7 +1,7 @@
 -- What a move comes to, by its parts.
 use mathlib.Core.Path.{_≡_, refl, ap, ap₂, _∙_, sym, subst}
 use mathlib.Core.Bool.{Bool, true, false, not}
-use mathlib.Core.List.{List, [], _∷_, _++_}
+use mathlib.Core.List.{List, [], _∷_}
 use mathlib.Core.Option.{Option, none, some}
 use Prim.Native.Nat.{ℕ, zero, suc, _+_, _-_, _≤_, _<_}
 use native.Mathlib.Omega.{arith}
@@ -9,8 +9,8 @@ use lib.Dec.{eqb}
 use lib.ListN.{length, drop, set, getD, length-set, length-drop}
 use borrow.Author.Tests.{eqb-false, not-true}
 use Rattle.paper.specs.Language.{𝐁, Query, Agent, Config}
-use Rattle.paper.specs.Transitions.{Choice, Step, _⊨_}
-use Rattle.paper.specs.Next.{isSome, enabled, isEmpty}
+use Rattle.paper.specs.Transitions.{Choice}
+use Rattle.paper.specs.Next.{isSome, enabled}
 use Rattle.paper.proofs.Relation.{none≢some, some-inj, false≢true}
 use Rattle.runs.specs.Order.{State, kind, number, first, ofKind}
 use Rattle.runs.specs.Step.{after, Reached, nothing, full, to, step}
@@ -33,36 +33,36 @@ use Rattle.choices.proofs.Asking.{open-enabled, open-is, marked, empty-exactly}
 use Rattle.moves.specs.declared.step.Transition.{Transition}
 use Rattle.moves.specs.declared.step.Stepped.{Stepped}
 use Rattle.moves.specs.Steps.{Open, StepsBy, transitionOf}
-use Rattle.moves.specs.Steps as Steps
 use Rattle.moves.proofs.Running.{choice-back, kind-below, ready-back, no-action-keeps}
 use Rattle.deliberation.specs.Programs.{notEmptyPlan, holds, 𝒲}
-use Rattle.deliberation.specs.MetaTransitions.{idle, taking}
+use Rattle.deliberation.specs.MetaTransitions.{taking}
 use Rattle.deliberation.specs.FirstMove.{Move, takes, lowestAction, ifEnabled, idles}
 use Rattle.deliberation.specs.Entries.{entryAt, entryCount, moveOf}
 use Rattle.deliberation.specs.Deliberate.{Came, stuck, on, leads, came}
-use Rattle.deliberation.specs.Deliberate as Deliberate
 use Rattle.deliberation.proofs.Good.{move-at}
-use Rattle.program.specs.GoodProgram.{GoodEntry, GoodProgram}
+use Rattle.program.specs.GoodProgram.{GoodProgram}
 use Rattle.deliberate.specs.declared.made.Made.{Made}
 use Rattle.deliberate.specs.declared.made.Moved.{Moved}
 use Rattle.deliberate.specs.First.{moveAt}
 use Rattle.deliberate.specs.Descent.{Stack}
 use Rattle.deliberate.specs.Made.{madeOf, configurationAfter, numbersAfter, Makes, stayed, takenBy, movedBy, madeBy, knownAfter, holdsBy, again}
-use Rattle.deliberate.specs.Made as Made-specs
 use Rattle.deliberate.proofs.Descending.{pushed, stacked-room}
+use Rattle.moves.specs.Steps as Steps
+use Rattle.deliberation.specs.Deliberate as Deliberate
+use Rattle.deliberate.specs.Made as Made-specs
 
 -- ---- a transition as a move
 
 module _ (A : Agent) (s : State) (k : Choice) (ns : List ℕ) where
-  leads-nothing : step A s k ≡ nothing → leads A s (taking k) ns ≡ stuck
+  pub leads-nothing : step A s k ≡ nothing → leads A s (taking k) ns ≡ stuck
   unfolding leads
   leads-nothing e = rw (e, leads)
 
-  leads-full : step A s k ≡ full → leads A s (taking k) ns ≡ Deliberate.too-long
+  pub leads-full : step A s k ≡ full → leads A s (taking k) ns ≡ Deliberate.too-long
   unfolding leads
   leads-full e = rw (e, leads)
 
-  leads-to : (s′ : State) → step A s k ≡ to k s′ → leads A s (taking k) ns ≡ on ns s′
+  pub leads-to : (s′ : State) → step A s k ≡ to k s′ → leads A s (taking k) ns ≡ on ns s′
   unfolding leads
   leads-to s′ e = rw (e, leads)
 

@@ -129,14 +129,7 @@ fn holds(e: Node, m: Mind, marks: &[bool; 256]) -> bool
 }
 
 // The idle move of a while with number i: if its condition holds, its body and itself go before the numbers.
-fn turn(
-    e: Node,
-    i: usize,
-    m: Mind,
-    marks: &[bool; 256],
-    stack: &mut [u8; 128],
-    top: usize,
-) -> Moved
+fn turn(e: Node, i: usize, m: Mind, marks: &[bool; 256], stack: &mut [u8; 128], top: usize) -> Moved
     requires { ⌜ (3 ≤ e .kind) × (e .kind ≤ 4) × (i < 128) × (2 ≤ top) × (top ≤ 128) × (length (now stack) ≡ 128) ⌝ }
     ensures { λ r. ⌜ (r ≡ stayed m Made.On (r .top)) × (r .top ≤ 128) × (length (now (stack .exit)) ≡ 128) ⌝ }
     ensures { λ r. ⌜ drop (r .top) (now (stack .exit))
@@ -259,6 +252,15 @@ pub fn make_move(
         return stays(m, Made::Stuck, top);
     }
     move_next(
-        card, l, m, plan, marks, program, action, &movable, stack, top,
+        card,
+        l,
+        m,
+        plan,
+        marks,
+        program,
+        action,
+        &movable,
+        stack,
+        top,
     )
 }

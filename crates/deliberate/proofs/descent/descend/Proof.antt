@@ -1,24 +1,16 @@
 use mathlib.Core.Bool.{false}
 use Rattle.deliberate.specs.Descent.{partOf, behind}
-use mathlib.Core.Path.{subst}
-use Rattle.deliberate.proofs.Descending.{stacked-room, part-lower}
+use mathlib.Core.Path.{subst, _≡_, sym, ap, _∙_}
+use Rattle.deliberate.proofs.Descending.{stacked-room, Descended, descended-start, descended-turn, next-lower, one-more}
 use Rattle.meaning.specs.declared.Node.{Node}
-use Rattle.deliberation.specs.Entries.{entryAt, entryCount}
-use Rattle.deliberate.proofs.Descending.{Descended, descended-start, descended-turn, next-lower, one-more}
-use mathlib.Core.Path.{_≡_, refl, sym, ap, _∙_}
-use mathlib.Core.List.{List, [], _∷_, _++_, append-nil, append-assoc}
-use Prim.Native.Nat.{ℕ, suc, _+_, _-_, _*_, _≤_, _<_}
+use Rattle.deliberation.specs.Entries.{entryAt}
+use Prim.Native.Nat.{_≤_, _<_}
 use native.Mathlib.Omega.{arith}
 use borrow.Author.Needs.{needs}
 use denote.Ref.{now}
-use lib.ListN.{length, getD, set, take, drop, replicate}
+use lib.ListN.{getD, drop}
 use Rattle.deliberate.proofs.descent.descend.Statement.{statement}
 use Rattle.deliberate.proofs.descent.descend.Tie as tie
-use Rattle.deliberate.proofs.descent.descend.Reads as reads
-use Rattle.deliberate.proofs.descent.descend.Lts as lts
-use Rattle.deliberate.proofs.descent.part.Reads as part-reads
-use Rattle.deliberate.proofs.descent.push_right.Reads as push-right-reads
-use Rattle.program.proofs.read_entry.Reads as read-entry-reads
 
 abbrev Inv-loop : tie.InvT-loop
 Inv-loop program movable stack₀ from top at₀ rest₀ e₀ stack at rest e = Descended program movable at₀ top stack₀ stack at rest × (e ≡ entryAt program at)
@@ -26,7 +18,6 @@ Inv-loop program movable stack₀ from top at₀ rest₀ e₀ stack at rest e = 
 abbrev μ-loop : tie.MeasureT-loop
 μ-loop program movable stack₀ from top at₀ rest₀ e₀ stack at rest e = at
 
--- src/descent.rt:67:9
 read-entry-requires : tie.Need-read-entry-requires Inv-loop μ-loop
 read-entry-requires c κs =
     let h = stacked-room (c .before .pre .1 .stacked) in
@@ -35,13 +26,11 @@ read-entry-requires c κs =
     let bytes = g .bytes in
     omega arith
 
--- src/descent.rt:68:5
 loop-holds : tie.Need-loop-holds Inv-loop μ-loop
 loop-holds c =
     let a = c .before .before .args in
     (descended-start (c .before .before .pre .0 .0) (c .before .before .pre .0 .1 .0) (now (a .program)) (c .before .before .pre .0 .1 .1) (now (a .movable)) (a .from) (a .top) (now (a .stack)) (c .before .before .pre .1), c .read-entry .ensures)
 
--- src/descent.rt:69:9
 push-right-requires : tie.Need-push-right-requires Inv-loop μ-loop
 push-right-requires c κs =
     let a = c .before .before .before .before .before .before .args in
@@ -52,7 +41,6 @@ push-right-requires c κs =
     let k : 5 ≤ entryAt p (l .at) .kind = subst (λ (x : Node). 5 ≤ x .kind) (l .inv .1) w in
     (w, one-more (c .before .before .before .before .before .before .pre .0 .0) (c .before .before .before .before .before .before .pre .0 .1 .0) p g (now (a .movable)) (a .from) (a .top) (now (a .stack)) (l .stack) (l .at) (l .rest) (l .inv .0) k, l .inv .0 .stack .within, l .inv .0 .stack .room)
 
--- src/descent.rt:70:14
 part-requires : tie.Need-part-requires Inv-loop μ-loop
 part-requires c κs =
     let a = c .before .before .before .before .before .before .before .args in
@@ -67,11 +55,9 @@ part-requires c κs =
     let small : entryAt p (l .at) .a < 128 = omega arith in
     (w, subst (λ (x : Node). x .a < 128) (sym (l .inv .1)) small)
 
--- src/descent.rt:70:14
 cast-at : tie.Need-cast-at Inv-loop μ-loop
 cast-at c = search needs
 
--- src/descent.rt:71:9
 read-entry-requires-2 : tie.Need-read-entry-requires-2 Inv-loop μ-loop
 read-entry-requires-2 c κs =
     let a = c .before .before .before .before .before .before .before .before .args in
@@ -87,7 +73,6 @@ read-entry-requires-2 c κs =
     let bytes = g .bytes in
     omega arith
 
--- src/descent.rt:68:5
 loop-less : tie.Need-loop-less Inv-loop μ-loop
 loop-less c =
     let a = c .before .before .before .before .before .before .before .before .before .args in
@@ -100,7 +85,6 @@ loop-less c =
     let e = c .before .part .ensures ∙ ap (λ (x : Node). partOf (x .kind) (x .a) (x .b) (getD (now (a .movable)) (x .a) false)) (l .inv .1) in
     rw e low
 
--- src/descent.rt:68:5
 loop-again : tie.Need-loop-again Inv-loop μ-loop
 loop-again c =
     let a = c .before .before .before .before .before .before .before .before .before .args in
@@ -116,7 +100,6 @@ loop-again c =
     let d = descended-turn (c .before .before .before .before .before .before .before .before .before .pre .0 .0) (c .before .before .before .before .before .before .before .before .before .pre .0 .1 .0) p g (now (a .movable)) (a .from) (a .top) (now (a .stack)) (l .stack) (l .at) (l .rest) (l .inv .0) k then (r .result) f (r .ensures .1 .0) (r .ensures .1 .1) (r .ensures .1 .2) in
     (subst (λ n. Descended p (now (a .movable)) (a .from) (a .top) (now (a .stack)) then n (r .result)) (sym e) d, c .read-entry2 .ensures)
 
--- src/descent.rt:52:1
 returns : tie.Need-returns Inv-loop μ-loop
 returns c =
     let l = c .before .before .loop in

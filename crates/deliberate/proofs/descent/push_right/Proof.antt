@@ -1,20 +1,16 @@
-use lib.ListN.{length-set}
+use lib.ListN.{length-set, drop}
 use lib.Seq.{drop-set-lt}
 use Rattle.deliberate.proofs.Descending.{pushed}
 use Rattle.deliberate.specs.Descent.{behind}
 use mathlib.Core.Path.{_≡_, refl, sym, ap, _∙_}
-use mathlib.Core.List.{List, [], _∷_, _++_, append-nil, append-assoc}
-use Prim.Native.Nat.{ℕ, suc, _+_, _-_, _*_, _≤_, _<_}
+use mathlib.Core.List.{_∷_}
+use Prim.Native.Nat.{suc, _+_, _-_, _<_}
 use native.Mathlib.Omega.{arith}
 use borrow.Author.Needs.{needs}
 use denote.Ref.{now}
-use lib.ListN.{length, getD, set, take, drop, replicate}
 use Rattle.deliberate.proofs.descent.push_right.Statement.{statement}
 use Rattle.deliberate.proofs.descent.push_right.Tie as tie
-use Rattle.deliberate.proofs.descent.push_right.Reads as reads
-use Rattle.deliberate.proofs.descent.push_right.Lts as lts
 
--- src/descent.rt:45:9
 returns : tie.Need-returns
 returns c =
     let a = c .before .args in
@@ -22,19 +18,15 @@ returns c =
     let e : k ≡ suc (suc (suc (suc (suc (suc (k - 6)))))) = omega (arith, c .before .pre .0) in
     (ap (λ n. behind n (a .e .b) (drop (a .top) (now (a .stack)))) (sym e), (omega arith, c .before .pre .3, refl))
 
--- src/descent.rt:47:11
 sub-stack : tie.Need-sub-stack
 sub-stack c = search needs
 
--- src/descent.rt:47:5
 element-write-stack : tie.Need-element-write-stack
 element-write-stack c = search needs
 
--- src/descent.rt:48:5
 sub-result : tie.Need-sub-result
 sub-result c = search needs
 
--- src/descent.rt:38:1
 returns-2 : tie.Need-returns-2
 returns-2 c =
     let a = c .before .args in

@@ -2,29 +2,21 @@ use Rattle.deliberation.specs.FirstMove.{lowestAction}
 use Rattle.meaning.specs.Configurations.{stateOf}
 use Rattle.meaning.specs.Card.{agentFor}
 use Rattle.meaning.specs.declared.Node.{Node}
-use Rattle.deliberate.specs.First.{isAt}
-use lib.ListN.{length-set}
+use Rattle.deliberate.specs.First.{isAt, moveAt, movableOf}
+use lib.ListN.{length-set, length, getD}
 use Rattle.sets.proofs.Loops.{below-turn}
 use Rattle.deliberate.proofs.Marking.{at-some, movable-next}
 use Rattle.deliberation.specs.Entries.{entryCount}
 use Rattle.layout.specs.PlaceParts.{lent}
-use Rattle.deliberate.specs.First.{moveAt, movableOf}
 use mathlib.Core.Bool.{false}
 use Rattle.paper.specs.Next.{isSome}
-use mathlib.Core.Path.{_≡_, refl, sym, ap, _∙_}
-use mathlib.Core.List.{List, [], _∷_, _++_, append-nil, append-assoc}
-use Prim.Native.Nat.{ℕ, suc, _+_, _-_, _*_, _≤_, _<_}
+use mathlib.Core.Path.{_≡_, ap, _∙_}
+use Prim.Native.Nat.{ℕ, _-_, _≤_, _<_}
 use native.Mathlib.Omega.{arith}
 use borrow.Author.Needs.{needs}
 use denote.Ref.{now}
-use lib.ListN.{length, getD, set, take, drop, replicate}
 use Rattle.deliberate.proofs.first.mark_moves.Statement.{statement}
 use Rattle.deliberate.proofs.first.mark_moves.Tie as tie
-use Rattle.deliberate.proofs.first.mark_moves.Reads as reads
-use Rattle.deliberate.proofs.first.mark_moves.Lts as lts
-use Rattle.deliberate.proofs.first.has_move.Reads as has-move-reads
-use Rattle.deliberate.proofs.first.is_at.Reads as is-at-reads
-use Rattle.program.proofs.read_entry.Reads as read-entry-reads
 
 abbrev Inv-loop : tie.InvT-loop
 Inv-loop card l m plan marks program movable₀ acts n i₀ movable i = (i ≤ n) × (length movable ≡ 128) × ((j : ℕ) → j < i → getD movable j false ≡ isSome (moveAt l card program (lent m plan) j))
@@ -32,19 +24,15 @@ Inv-loop card l m plan marks program movable₀ acts n i₀ movable i = (i ≤ n
 abbrev μ-loop : tie.MeasureT-loop
 μ-loop card l m plan marks program movable₀ acts n i₀ movable i = n - i
 
--- src/first.rt:78:9
 is-at-requires : tie.Need-is-at-requires Inv-loop μ-loop
 is-at-requires c κs = search needs
 
--- src/first.rt:81:5
 loop-holds : tie.Need-loop-holds Inv-loop μ-loop
 loop-holds c = (omega arith, c .before .before .before .pre .1 .1, λ j h. absurd (omega arith))
 
--- src/first.rt:82:13
 read-entry-requires : tie.Need-read-entry-requires Inv-loop μ-loop
 read-entry-requires c κs = let e = c .before .before .before .before .before .pre .0 .1 .bytes in omega arith
 
--- src/first.rt:83:13
 has-move-requires : tie.Need-has-move-requires Inv-loop μ-loop
 unfolding lowestAction
 has-move-requires c κs =
@@ -55,19 +43,15 @@ has-move-requires c κs =
     let s = stateOf (lent (a .m) (now (a .plan))) .mental in
     ((c .before .before .before .before .before .before .before .pre .0 .0, rw (c .before .read-entry .ensures) (g .entries (l .i) (omega arith)), omega arith), c .before .before .before .before .is-at .ensures ∙ ap isAt (c .before .before .before .before .before .before .before .pre .1 .0) ∙ at-some (lowestAction (agentFor (a .l) (now (a .card))) s))
 
--- src/first.rt:84:9
 element-write-movable : tie.Need-element-write-movable Inv-loop μ-loop
 element-write-movable c = let most = c .before .before .before .before .before .before .before .before .pre .0 .1 .most in let r = c .before .before .before .before .loop .inv .1 in omega arith
 
--- src/first.rt:85:9
 add-i : tie.Need-add-i Inv-loop μ-loop
 add-i c = search needs
 
--- src/first.rt:81:5
 loop-less : tie.Need-loop-less Inv-loop μ-loop
 loop-less c = search needs
 
--- src/first.rt:81:5
 loop-again : tie.Need-loop-again Inv-loop μ-loop
 loop-again c =
     let a = c .before .before .before .before .before .before .before .before .args in
@@ -84,7 +68,6 @@ loop-again c =
           (e ∙ movable-next (a .l) (now (a .card)) (now (a .program)) d g (l .i) k (l .movable) (l .inv .2)),
     )
 
--- src/first.rt:64:1
 returns : tie.Need-returns Inv-loop μ-loop
 returns c = λ n h. c .before .loop .inv .2 n (omega arith)
 

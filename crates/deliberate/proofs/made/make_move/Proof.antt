@@ -3,40 +3,24 @@ use lib.ListN.{length-replicate}
 use borrow.Author.Tests.{not-true, not-false}
 use Rattle.layout.specs.PlaceParts.{lent}
 use Rattle.deliberate.proofs.Next.{next-known, stuck-so}
-use mathlib.Core.Path.{_≡_, refl, sym, ap, _∙_}
-use mathlib.Core.List.{List, [], _∷_, _++_, append-nil, append-assoc}
-use Prim.Native.Nat.{ℕ, suc, _+_, _-_, _*_, _≤_, _<_}
-use native.Mathlib.Omega.{arith}
+use mathlib.Core.Path.{sym, _∙_}
 use borrow.Author.Needs.{needs}
 use denote.Ref.{now}
-use lib.ListN.{length, getD, set, take, drop, replicate}
 use Rattle.deliberate.proofs.made.make_move.Statement.{statement}
 use Rattle.deliberate.proofs.made.make_move.Tie as tie
-use Rattle.deliberate.proofs.made.make_move.Reads as reads
-use Rattle.deliberate.proofs.made.make_move.Lts as lts
-use Rattle.choices.proofs.ask.first_of_kind.Reads as first-of-kind-reads
-use Rattle.deliberate.proofs.first.mark_moves.Reads as mark-moves-reads
-use Rattle.deliberate.proofs.first.no_moves.Reads as no-moves-reads
-use Rattle.deliberate.proofs.made.move_next.Reads as move-next-reads
-use Rattle.deliberate.proofs.made.stays.Reads as stays-reads
 
--- src/made.rt:254:9
 first-of-kind-requires : tie.Need-first-of-kind-requires
 first-of-kind-requires c κs = search needs
 
--- src/made.rt:255:23
 no-moves-requires : tie.Need-no-moves-requires
 no-moves-requires c κs = search needs
 
--- src/made.rt:256:5
 mark-moves-requires : tie.Need-mark-moves-requires
 mark-moves-requires c κs = (c .before .before .before .before .before .before .before .pre .0, (c .before .before .before .first-of-kind .ensures, rw (c .before .before .no-moves .ensures) (length-replicate 128 false)))
 
--- src/made.rt:257:16
 element-copy-out-next : tie.Need-element-copy-out-next
 element-copy-out-next c = search needs
 
--- src/made.rt:257:16
 cast-next : tie.Need-cast-next
 cast-next c =
     let a = c .before .before .before .before .before .before .before .before .before .args in
@@ -48,7 +32,6 @@ cast-next c =
     let (known, small) = next-known p (now (a .stack)) (a .top) r h (a .l) b g in
     search (needs, small)
 
--- src/made.rt:258:9
 array-read-if1 : tie.Need-array-read-if1
 array-read-if1 c =
     let a = c .before .before .before .before .before .before .before .before .before .args in
@@ -60,11 +43,9 @@ array-read-if1 c =
     let (known, small) = next-known p (now (a .stack)) (a .top) r h (a .l) b g in
     search (needs, small)
 
--- src/made.rt:259:9
 stays-requires : tie.Need-stays-requires
 stays-requires c κs = search needs
 
--- src/made.rt:259:9
 returns : tie.Need-returns
 returns c =
     let a = c .before .before .before .before .before .before .before .before .before .before .before .args in
@@ -77,11 +58,9 @@ returns c =
     let f = sym (c .before .before .before .mark-moves .ensures _ known) ∙ not-true _ (c .before .if1 .taken) in
     stuck-so (a .l) b p d (now (a .stack)) (a .top) r f (c .stays .result) (c .stays .ensures)
 
--- src/made.rt:261:5
 move-next-requires : tie.Need-move-next-requires
 move-next-requires c κs = (c .before .before .before .before .before .before .before .before .before .before .before .before .before .pre .0, ((c .before .before .before .before .before .before .before .before .before .first-of-kind .ensures, c .before .before .before .before .before .before .before .before .before .before .before .before .before .pre .1 .0, c .before .before .before .before .before .before .before .before .before .before .before .before .before .pre .1 .1), (c .before .before .before .before .before .mark-moves .ensures, not-false _ (c .before .before .before .if1 .left))))
 
--- src/made.rt:239:1
 returns-2 : tie.Need-returns-2
 returns-2 c = search needs
 

@@ -4,31 +4,22 @@ use Rattle.paper.specs.Next.{isSome}
 use Rattle.deliberation.specs.FirstMove.{Move, takes}
 use Rattle.deliberation.specs.Deliberate.{came}
 use Rattle.meaning.specs.Configurations.{stateOf}
-use Rattle.meaning.specs.Card.{Bytes, agentFor}
+use Rattle.meaning.specs.Card.{agentFor}
 use Rattle.deliberate.specs.Made.{Makes, again, holdsBy, taken}
-use Rattle.deliberation.specs.Entries.{entryAt, entryCount}
-use mathlib.Core.Path.{subst}
+use Rattle.deliberation.specs.Entries.{entryAt}
+use mathlib.Core.Path.{subst, _≡_, sym, ap, _∙_}
 use Rattle.meaning.specs.declared.Node.{Node}
 use Rattle.deliberate.proofs.Descending.{stacked-room}
-use Rattle.deliberate.proofs.Making.{leaf-known, two-more, leaf-idles, leaf-choice}
+use Rattle.deliberate.proofs.Making.{two-more, leaf-idles, leaf-choice, takes-some}
 use Rattle.layout.specs.PlaceParts.{lent}
-use Rattle.deliberate.proofs.Making.{idles-so, while-on, leaf-takes, takes-some}
-use mathlib.Core.Path.{_≡_, refl, sym, ap, _∙_}
-use mathlib.Core.List.{List, [], _∷_, _++_, append-nil, append-assoc}
-use Prim.Native.Nat.{ℕ, suc, _+_, _-_, _*_, _≤_, _<_}
+use mathlib.Core.List.{List, []}
+use Prim.Native.Nat.{ℕ, _≤_, _<_}
 use native.Mathlib.Omega.{arith}
-use borrow.Author.Needs.{needs}
 use denote.Ref.{now}
-use lib.ListN.{length, getD, set, take, drop, replicate}
+use lib.ListN.{length, getD, drop}
 use Rattle.deliberate.proofs.made.move_leaf.Statement.{statement}
 use Rattle.deliberate.proofs.made.move_leaf.Tie as tie
-use Rattle.deliberate.proofs.made.move_leaf.Reads as reads
-use Rattle.deliberate.proofs.made.move_leaf.Lts as lts
-use Rattle.deliberate.proofs.made.take_choice.Reads as take-choice-reads
-use Rattle.deliberate.proofs.made.turn.Reads as turn-reads
-use Rattle.program.proofs.read_entry.Reads as read-entry-reads
 
--- src/made.rt:174:9
 read-entry-requires : tie.Need-read-entry-requires
 read-entry-requires c κs =
     let h = stacked-room (c .before .before .pre .1 .0 .1 .stacked) in
@@ -37,7 +28,6 @@ read-entry-requires c κs =
     let bytes = g .bytes in
     omega arith
 
--- src/made.rt:176:9
 turn-requires : tie.Need-turn-requires
 turn-requires c κs =
     let a = c .before .before .before .before .before .before .args in
@@ -53,7 +43,6 @@ turn-requires c κs =
     let (i, w) = two-more (a .l) b p d g (now (a .stack)) (a .at) (a .top) s k in
     (t, subst (λ (x : Node). x .kind ≤ 4) (sym e) m, i, w, s .within, s .room)
 
--- src/made.rt:176:9
 returns : tie.Need-returns
 returns c =
     let a = c .before .before .before .before .before .before .before .args in
@@ -71,7 +60,6 @@ returns c =
     leaf-idles (a .l) b p d g (now (a .stack)) (a .at) (a .top) s (now (a .marks)) j k m (r .result) (r .last .1 .1 .1 .1 .0) q w z
     (r .ensures .1 ∙ ap (λ (x : Node). again (holdsBy (x .kind) (a .m .length) (getD (now (a .marks)) (x .a) false)) (x .b) (a .at) (drop (a .top) (now (a .stack)))) e)
 
--- src/made.rt:178:5
 take-choice-requires : tie.Need-take-choice-requires
 take-choice-requires c κs =
     let a = c .before .before .before .before .before .before .args in
@@ -87,7 +75,6 @@ take-choice-requires c κs =
     let some = takes-some (taken (agentFor (a .l) b) (stateOf d .mental) (entryAt p (a .at) .kind) (entryAt p (a .at) .a)) (sym (ap isSome q) ∙ c .before .before .before .before .before .before .pre .1 .1 .1) in
     ((j .ready, t, c .before .before .before .before .before .before .pre .1 .0 .0), subst (λ (x : Node). isSome (taken (agentFor (a .l) b) (stateOf d .mental) (x .kind) (x .a)) ≡ true) (sym e) some)
 
--- src/made.rt:154:1
 returns-2 : tie.Need-returns-2
 returns-2 c =
     let a = c .before .before .before .before .before .before .before .args in

@@ -1,29 +1,18 @@
 use Rattle.deliberation.specs.Deliberate.{Came}
 use Rattle.deliberate.specs.Made.{Makes}
-use mathlib.Core.Path.{subst}
+use mathlib.Core.Path.{subst, sym, _∙_}
 use Rattle.layout.specs.PlaceParts.{lent}
 use Rattle.deliberate.proofs.Descending.{down-came}
-use Rattle.deliberate.proofs.Next.{next-first, next-stack, next-known, kept-so}
-use mathlib.Core.Path.{_≡_, refl, sym, ap, _∙_}
-use mathlib.Core.List.{List, [], _∷_, _++_, append-nil, append-assoc}
-use Prim.Native.Nat.{ℕ, suc, _+_, _-_, _*_, _≤_, _<_}
-use native.Mathlib.Omega.{arith}
+use Rattle.deliberate.proofs.Next.{next-stack, next-known, kept-so}
 use borrow.Author.Needs.{needs}
 use denote.Ref.{now}
-use lib.ListN.{length, getD, set, take, drop, replicate}
+use lib.ListN.{drop}
 use Rattle.deliberate.proofs.made.move_next.Statement.{statement}
 use Rattle.deliberate.proofs.made.move_next.Tie as tie
-use Rattle.deliberate.proofs.made.move_next.Reads as reads
-use Rattle.deliberate.proofs.made.move_next.Lts as lts
-use Rattle.deliberate.proofs.descent.descend.Reads as descend-reads
-use Rattle.deliberate.proofs.made.kept.Reads as kept-reads
-use Rattle.deliberate.proofs.made.move_leaf.Reads as move-leaf-reads
 
--- src/made.rt:221:16
 element-copy-out-next : tie.Need-element-copy-out-next
 element-copy-out-next c = search needs
 
--- src/made.rt:222:49
 cast-descend : tie.Need-cast-descend
 cast-descend c =
     let a = c .before .before .before .before .args in
@@ -35,11 +24,9 @@ cast-descend c =
     let (known, small) = next-known p (now (a .stack)) (a .top) r h (a .l) b g in
     search (needs, small)
 
--- src/made.rt:222:64
 add-descend : tie.Need-add-descend
 add-descend c = search needs
 
--- src/made.rt:222:9
 descend-requires : tie.Need-descend-requires
 descend-requires c κs =
     let a = c .before .before .before .before .args in
@@ -51,7 +38,6 @@ descend-requires c κs =
     let (known, small) = next-known p (now (a .stack)) (a .top) r h (a .l) b g in
     ((a .l, (b, g)), next-stack p (now (a .stack)) (a .top) r h)
 
--- src/made.rt:223:9
 move-leaf-requires : tie.Need-move-leaf-requires
 move-leaf-requires c κs =
     let a = c .before .before .before .before .before .before .before .args in
@@ -66,11 +52,9 @@ move-leaf-requires c κs =
     let (came-so, has) = down-came (a .l) b p d g (now (a .movable)) (c .before .before .before .before .before .before .before .pre .1 .1 .0) (q .ensures .0) some in
     ((j, g), ((c .before .before .before .before .before .before .before .pre .1 .0 .0, q .ensures .1 .0), (q .ensures .1 .3, has)))
 
--- src/made.rt:235:5
 kept-requires : tie.Need-kept-requires
 kept-requires c κs = (c .before .before .before .before .before .before .before .before .before .pre .1 .0 .2, c .before .move-leaf .ensures .room)
 
--- src/made.rt:202:1
 returns : tie.Need-returns
 returns c =
     let a = c .before .before .before .before .before .before .before .before .before .before .args in

@@ -1,32 +1,22 @@
-use mathlib.Core.Bool.{false}
-use lib.ListN.{length-set}
+use lib.ListN.{length-set, set, drop}
 use Rattle.deliberate.proofs.Making.{stayed-top, pushed-twice}
-use Rattle.deliberate.specs.Made.{again, holdsBy}
+use Rattle.deliberate.specs.Made.{again}
 use borrow.Author.Tests.{not-true, not-false}
 use Rattle.deliberate.specs.declared.made.Made.{Made}
-use mathlib.Core.Path.{_≡_, refl, sym, ap, _∙_}
-use mathlib.Core.List.{List, [], _∷_, _++_, append-nil, append-assoc}
-use Prim.Native.Nat.{ℕ, suc, _+_, _-_, _*_, _≤_, _<_}
+use mathlib.Core.Path.{sym, ap, _∙_}
+use Prim.Native.Nat.{_-_}
 use native.Mathlib.Omega.{arith}
 use borrow.Author.Needs.{needs}
 use denote.Ref.{now}
-use lib.ListN.{length, getD, set, take, drop, replicate}
 use Rattle.deliberate.proofs.made.turn.Statement.{statement}
 use Rattle.deliberate.proofs.made.turn.Tie as tie
-use Rattle.deliberate.proofs.made.turn.Reads as reads
-use Rattle.deliberate.proofs.made.turn.Lts as lts
-use Rattle.deliberate.proofs.made.holds.Reads as holds-reads
-use Rattle.deliberate.proofs.made.stays.Reads as stays-reads
 
--- src/made.rt:144:9
 holds-requires : tie.Need-holds-requires
 holds-requires c κs = search needs
 
--- src/made.rt:145:9
 stays-requires : tie.Need-stays-requires
 stays-requires c κs = search needs
 
--- src/made.rt:145:9
 returns : tie.Need-returns
 returns c =
     let a = c .before .before .before .args in
@@ -35,43 +25,37 @@ returns c =
     let f = sym (c .before .before .holds .ensures) ∙ not-true _ (c .before .if1 .taken) in
     ((r, rw t h, s), ap (λ n. drop n (now (a .stack))) t ∙ ap (λ b. again b (a .e .b) (a .i) (drop (a .top) (now (a .stack)))) (sym f))
 
--- src/made.rt:147:22
 cast-stack : tie.Need-cast-stack
 cast-stack c = search needs
 
--- src/made.rt:147:11
 sub-stack : tie.Need-sub-stack
 sub-stack c = search needs
 
--- src/made.rt:147:5
 element-write-stack : tie.Need-element-write-stack
 element-write-stack c = search needs
 
--- src/made.rt:148:11
 sub-stack-2 : tie.Need-sub-stack-2
 sub-stack-2 c = search needs
 
--- src/made.rt:148:5
 element-write-stack-2 : tie.Need-element-write-stack-2
 element-write-stack-2 c = search needs
 
--- src/made.rt:149:24
 sub-stays : tie.Need-sub-stays
 sub-stays c = search needs
 
--- src/made.rt:149:5
 stays-requires-2 : tie.Need-stays-requires-2
 stays-requires-2 c κs = search needs
 
--- src/made.rt:131:1
 returns-2 : tie.Need-returns-2
 returns-2 c =
     let a = c .before .before .before .args in
     let (_, _, _, k, h, s) = c .before .before .before .pre in
     let (t, r) = stayed-top (c .stays2 .result) (a .m) Made.On (a .top - 2) (c .stays2 .ensures) in
-    let f = sym (c .before .before .holds .ensures) ∙ not-false _ (c .before .if1 .left) in
-    ((r, rw t (omega arith), simp length-set s), ap (λ n. drop n (set (set (now (a .stack)) (a .top - 1) (a .i)) (a .top - 2) (a .e .b))) t
-    ∙ pushed-twice (now (a .stack)) (a .top) (a .i) (a .e .b) k (omega arith) ∙ ap (λ b. again b (a .e .b) (a .i) (drop (a .top) (now (a .stack)))) (sym f))
+    let f = sym (c .before .before .holds .ensures) ∙ not-false _ (c .before .if1 .left) in (
+      (r, rw t (omega arith), simp length-set s),
+      ap (λ n. drop n (set (set (now (a .stack)) (a .top - 1) (a .i)) (a .top - 2) (a .e .b))) t
+          ∙ pushed-twice (now (a .stack)) (a .top) (a .i) (a .e .b) k (omega arith) ∙ ap (λ b. again b (a .e .b) (a .i) (drop (a .top) (now (a .stack)))) (sym f),
+    )
 
 pub turn-spec : {M : Type 1} → statement M
 turn-spec =
