@@ -1,4 +1,3 @@
-use Rattle.demands.specs.Contracts.{Shaped}
 use mathlib.Core.Path.{_≡_, refl}
 use Prim.Native.Nat.{_≤_}
 use borrow.Author.Needs.{needs}
