@@ -19,10 +19,11 @@ use Rattle.meaning.proofs.Entries.{good-entries}
 use Rattle.meaning.proofs.AtomKinds.{no-goal-atom}
 use Rattle.meaning.proofs.AgentEntries.{revisionFor, revision-entry}
 use Rattle.meaning.proofs.Parts.{length-part}
-use Rattle.deliberation.specs.Theorems.{NoReactiveLaw, InterpreterLaws, EntryLaw}
+use Rattle.deliberation.specs.Theorems.{EntryLaw}
+use Rattle.deliberation.specs.Equivalence.{NoReactiveLaw, InterpreterLaws}
 use Rattle.deliberation.specs.Entries.{entryAt}
 use Rattle.deliberation.proofs.Good.{entry-rule}
-use Rattle.deliberation.proofs.Interpreter.{proposition-1, lemma-1, theorem-1}
+use Rattle.deliberation.proofs.Equivalence.{proposition-1, lemma-1, theorem-1}
 
 -- row 7 asks that a head lies in the pool and is not empty
 head-good : (gs : List Bool) (l : Layout) (b : Bytes) (i : ℕ) → revisionGood gs l (revisionAt l b i) ≡ true → spanGood l 1 (revisionAt l b i .head) ≡ true

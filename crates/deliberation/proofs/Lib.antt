@@ -7,5 +7,5 @@ pub mod Standing
 pub mod Followed
 pub mod Run
 pub mod Call
-pub mod Interpreter
+pub mod Equivalence
 pub mod Accepted

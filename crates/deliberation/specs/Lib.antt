@@ -5,4 +5,5 @@ pub mod Entries
 pub mod Deliberate
 pub mod Interpreter
 pub mod Theorems
+pub mod Equivalence
 pub mod Cases

@@ -20,7 +20,7 @@ use Rattle.runs.proofs.Order.{entry-lt}
 use Rattle.deliberation.specs.Programs.{Bexp, Prog, execute, apply, while_doing_od, _⨾_, _⊕_, Rest, E, still, _⨾′_, 𝒲}
 use Rattle.deliberation.specs.MetaTransitions.{Label, idle, taking, MetaStep, action-execution, rule-application, rule-selection, while-tt, while-ff, in-sequence, choice-left, choice-right, Computation, as-it-is, _and-then_, notIdle}
 use Rattle.deliberation.specs.Interpreter.{orOneOf, anyMove, interpreter}
-use Rattle.deliberation.specs.Theorems.{NoReactiveRules, NoSelection, Proposition1, Lemma1, Theorem1}
+use Rattle.deliberation.specs.Equivalence.{NoReactiveRules, NoSelection, Proposition1, Lemma1, Theorem1}
 use Rattle.deliberation.proofs.Parts.{still-inj, still≢E}
 use Rattle.deliberation.proofs.Followed.{object}
 
