@@ -17,7 +17,8 @@ use Rattle.runs.specs.Order.{numbers, ofKind, first}
 use Rattle.runs.proofs.Order.{entry-lt, first-yes, first-no}
 use Rattle.deliberation.specs.Programs.{Prog, apply, select, while_doing_od, _⨾_, _⊕_, Rest, E, still, _⨾′_, 𝒲}
 use Rattle.deliberation.specs.MetaTransitions.{Label, taking, MetaStep, action-execution, rule-application, rule-selection, while-tt, while-ff, in-sequence, choice-left, choice-right}
-use Rattle.deliberation.specs.FirstMove.{Move, takes, lowestAction, ifEnabled, idles, followedBy, leftElseRight, firstMove}
+use Rattle.deliberation.specs.FirstMove.{Move, lowestAction, ifEnabled, idles, leftElseRight, firstMove}
+use Rattle.deliberation.proofs.Moves.{takes-some, takes-none, idles-holds, idles-fails, idles-none, followed-some, followed-none, either-left, either-none}
 use Rattle.deliberation.specs.Theorems.{NoTransition, FirstMoveLaw, WayOutLaw}
 
 -- ---- the lowest number of a list of choices that passes a test
@@ -107,37 +108,6 @@ module _ (A : Agent) (s : Config) where
   no-enabled : (k : Choice) → ifEnabled A s k ≡ none → (s′ : Config) → Step A s k s′ → ⊥
   no-enabled k e s′ x = none≢some (sym e ∙ if-enabled k (enabled-exactly A s k .1 (s′, x)))
 
--- ---- moves, taken apart
-
-module _ {R : Type 0} where
-  takes-some : (o : Option Choice) (r : R) (m : Move R) → takes o r ≡ some m → (k : Choice) × ((o ≡ some k) × (record { label = taking k; remaining = r } ≡ m))
-  takes-some none r m e = absurd (none≢some e)
-  takes-some (some k) r m e = (k, (refl, some-inj e))
-
-  takes-none : (o : Option Choice) (r : R) → takes o r ≡ none → o ≡ none
-  takes-none none r e = refl
-  takes-none (some k) r e = absurd (none≢some (sym e))
-
-  idles-none : (b : Bool) (r r′ : R) → idles b r r′ ≡ none → ⊥
-  idles-none true r r′ e = none≢some (sym e)
-  idles-none false r r′ e = none≢some (sym e)
-
-  followed-some : (f : R → R) (o : Option (Move R)) (m : Move R) → followedBy f o ≡ some m
-      → (n : Move R) × ((o ≡ some n) × (record { label = n .label; remaining = f (n .remaining) } ≡ m))
-  followed-some f none m e = absurd (none≢some e)
-  followed-some f (some n) m e = (n, (refl, some-inj e))
-
-  followed-none : (f : R → R) (o : Option (Move R)) → followedBy f o ≡ none → o ≡ none
-  followed-none f none e = refl
-  followed-none f (some n) e = absurd (none≢some (sym e))
-
-  either-left : (m : Move R) (u : Option (Move R)) → leftElseRight (some m) u ≡ some m
-  either-left m u = refl
-
-  either-none : (o u : Option (Move R)) → leftElseRight o u ≡ none → (o ≡ none) × (u ≡ none)
-  either-none none u e = (refl, e)
-  either-none (some m) u e = absurd (none≢some (sym e ∙ either-left m u))
-
 -- ---- the first move is a transition
 
 abbrev One : Agent → Config → Prog → Move Rest → Type 0
@@ -160,8 +130,8 @@ is-one A s (select ρ) m e =
 is-one A s (while b doing P od) m e = go (𝒲 b s) refl e
   where
     go : (t : Bool) → 𝒲 b s ≡ t → idles t (still (P ⨾ while b doing P od)) E ≡ some m → One A s (while b doing P od) m
-    go true h e = subst (One A s (while b doing P od)) (some-inj e) (s, while-tt h)
-    go false h e = subst (One A s (while b doing P od)) (some-inj e) (s, while-ff h)
+    go true h e = subst (One A s (while b doing P od)) (some-inj (sym (idles-holds (still (P ⨾ while b doing P od)) E) ∙ e)) (s, while-tt h)
+    go false h e = subst (One A s (while b doing P od)) (some-inj (sym (idles-fails (still (P ⨾ while b doing P od)) E) ∙ e)) (s, while-ff h)
 is-one A s (P₁ ⨾ P₂) m e =
     let (n, (f, q)) = followed-some (λ P₁′. still (P₁′ ⨾′ P₂)) (firstMove A s P₁) m e in
     let (s′, x) = is-one A s P₁ n f in
@@ -171,7 +141,7 @@ is-one A s (P₁ ⊕ P₂) m e = go (firstMove A s P₁) refl e (is-one A s P₁
     go : (o : Option (Move Rest)) → firstMove A s P₁ ≡ o → leftElseRight o (firstMove A s P₂) ≡ some m
         → (firstMove A s P₁ ≡ some m → One A s P₁ m) → (firstMove A s P₂ ≡ some m → One A s P₂ m) → One A s (P₁ ⊕ P₂) m
     go none h e l r = let (s′, x) = r e in (s′, choice-right x)
-    go (some n) h e l r = let (s′, x) = l (h ∙ e) in (s′, choice-left x)
+    go (some n) h e l r = let (s′, x) = l (h ∙ sym (either-left n (firstMove A s P₂)) ∙ e) in (s′, choice-left x)
 
 -- ---- and there is none only if the relation has none
 
@@ -216,7 +186,7 @@ module _ (A : Agent) (s : Config) where
     where
       go : (o : Option (Move Rest)) → firstMove A s P₁ ≡ o → leftElseRight (firstMove A s P₁) (firstMove A s P₂) ≡ firstMove A s P₁
       go none e = absurd (not-none t e)
-      go (some m) e = rw e
+      go (some m) e = rw e (either-left m (firstMove A s P₂))
 
   right : (P₁ P₂ : Prog) → NoTransition A P₁ s → firstMove A s (P₁ ⊕ P₂) ≡ firstMove A s P₂
   unfolding firstMove

@@ -1,4 +1,5 @@
 pub mod Cases
+pub mod Moves
 pub mod Good
 pub mod Room
 pub mod First

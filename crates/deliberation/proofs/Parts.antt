@@ -11,6 +11,7 @@ use Rattle.paper.proofs.Relation.{none≢some, some-inj}
 use Rattle.deliberation.specs.Programs.{Prog, execute, apply, select, while_doing_od, _⨾_, _⊕_, Rest, E, still, _⨾′_}
 use Rattle.deliberation.specs.MetaTransitions.{Label, MetaStep, action-execution, rule-application, rule-selection, while-tt, while-ff, in-sequence, choice-left, choice-right}
 use Rattle.deliberation.specs.FirstMove.{Move, takes, idles, followedBy, leftElseRight, firstMove}
+use Rattle.deliberation.proofs.Moves.{idles-holds, idles-fails, either-left}
 use Rattle.deliberation.specs.Theorems.{parts, partsOf, _≈_, NestingLaw}
 
 -- ---- a move with something made of what remains
@@ -25,12 +26,12 @@ module _ {R R′ : Type 0} (f : R → R′) where
   mapped-takes (some k) r = refl
 
   pub mapped-idles : (b : Bool) (r r′ : R) → mapped (idles b r r′) ≡ idles b (f r) (f r′)
-  mapped-idles true r r′ = refl
-  mapped-idles false r r′ = refl
+  mapped-idles true r r′ = ap mapped (idles-holds r r′) ∙ sym (idles-holds (f r) (f r′))
+  mapped-idles false r r′ = ap mapped (idles-fails r r′) ∙ sym (idles-fails (f r) (f r′))
 
   pub mapped-either : (o u : Option (Move R)) → mapped (leftElseRight o u) ≡ leftElseRight (mapped o) (mapped u)
   mapped-either none u = refl
-  mapped-either (some m) u = refl
+  mapped-either (some m) u = ap mapped (either-left m u) ∙ sym (either-left _ (mapped u))
 
   pub mapped-none : (o : Option (Move R)) → mapped o ≡ none → o ≡ none
   mapped-none none e = refl

@@ -1,5 +1,5 @@
 -- Never more than 128 numbers remain: each number, with those that stand behind it, is below the number of entries.
-use mathlib.Core.Path.{_≡_, refl, subst}
+use mathlib.Core.Path.{_≡_, _∙_, sym, subst}
 use mathlib.Core.Logic.{⊎-elim}
 use mathlib.Core.Bool.{Bool, true, false}
 use mathlib.Core.List.{List, [], _∷_, _++_, List·Memᴰ, List·Memᴰ·not-nil, List·Memᴰ·cases-cons}
@@ -9,12 +9,13 @@ use native.Mathlib.Omega.{arith}
 use lib.ListN.{length, getD, length-append}
 use Rattle.paper.specs.Language.{𝐁, Query, Agent, Config}
 use Rattle.paper.specs.Transitions.{Choice}
-use Rattle.paper.proofs.Relation.{none≢some, some-inj}
+use Rattle.paper.proofs.Relation.{some-inj}
 use Rattle.meaning.specs.declared.Layout.{Layout}
 use Rattle.meaning.specs.Card.{Bytes, condition}
 use Rattle.deliberation.specs.Programs.{notEmptyPlan, holds, 𝒲}
 use Rattle.deliberation.specs.FirstMove.{Move, takes, lowestAction, ifEnabled, idles, followedBy, leftElseRight}
 use Rattle.deliberation.specs.Entries.{entryCount, entries, programGood, moveOf, moves}
+use Rattle.deliberation.proofs.Moves.{takes-some, idles-holds, idles-fails, followed-some, either-left}
 use Rattle.deliberation.proofs.Good.{Rule, from-lower, entry-rule, move-at}
 
 -- each number, and how many stand behind it, come to at most k
@@ -41,17 +42,18 @@ abbrev Within : ℕ → Option (Move (List ℕ)) → Type 0
 Within k o = (m : Move (List ℕ)) → o ≡ some m → Stacked k (m .remaining)
 
 takes-within : (k : ℕ) (o : Option Choice) → Within k (takes o [])
-takes-within k none m e = absurd (none≢some e)
-takes-within k (some c) m e = subst (λ (x : Move (List ℕ)). Stacked k (x .remaining)) (some-inj e) nothing
+takes-within k o m e =
+    let (c, (f, q)) = takes-some o [] m e in
+    subst (λ (x : Move (List ℕ)). Stacked k (x .remaining)) q nothing
 
 idles-within : (k : ℕ) (t : Bool) (ns : List ℕ) → Stacked k ns → Within k (idles t ns [])
-idles-within k true ns s m e = subst (λ (x : Move (List ℕ)). Stacked k (x .remaining)) (some-inj e) s
-idles-within k false ns s m e = subst (λ (x : Move (List ℕ)). Stacked k (x .remaining)) (some-inj e) nothing
+idles-within k true ns s m e = subst (λ (x : Move (List ℕ)). Stacked k (x .remaining)) (some-inj (sym (idles-holds ns []) ∙ e)) s
+idles-within k false ns s m e = subst (λ (x : Move (List ℕ)). Stacked k (x .remaining)) (some-inj (sym (idles-fails ns []) ∙ e)) nothing
 
 followed-within : (j k b : ℕ) (o : Option (Move (List ℕ))) → j < k → b < k → Within j o → Within k (followedBy (λ ns. ns ++ (b ∷ [])) o)
-followed-within j k b none h l w m e = absurd (none≢some e)
-followed-within j k b (some n) h l w m e =
-    subst (λ (x : Move (List ℕ)). Stacked k (x .remaining)) (some-inj e) (stacked-append (w n refl) (omega arith) (put b [] (omega arith) nothing))
+followed-within j k b o h l w m e =
+    let (n, (f, q)) = followed-some (λ ns. ns ++ (b ∷ [])) o m e in
+    subst (λ (x : Move (List ℕ)). Stacked k (x .remaining)) q (stacked-append (w n f) (omega arith) (put b [] (omega arith) nothing))
 
 weaker : {j k : ℕ} {ns : List ℕ} → j ≤ k → Stacked j ns → Stacked k ns
 weaker h nothing = nothing
@@ -59,7 +61,7 @@ weaker h (put n ns l s) = put n ns (omega arith) (weaker h s)
 
 either-within : (i j k : ℕ) (o u : Option (Move (List ℕ))) → i < k → j < k → Within i o → Within j u → Within k (leftElseRight o u)
 either-within i j k none u h l v w m e = weaker (omega arith) (w m e)
-either-within i j k (some n) u h l v w m e = weaker (omega arith) (v m e)
+either-within i j k (some n) u h l v w m e = weaker (omega arith) (v m (sym (either-left n u) ∙ e))
 
 module _ (A : Agent) (βs : List (Query 𝐁)) (s : Config) where
   of-kind : {gs : List Bool} {l : Layout} (i k a b : ℕ) (q : ℕ → Option (Move (List ℕ))) → Rule gs l i k a b → ((j : ℕ) → j < i → Within j (q j)) → Within i (moveOf A βs s i k a b q)
