@@ -1,5 +1,5 @@
-// The call `deliberate` (02, Wish 6), where the plan and the remaining program are lent: the card, the program and the configuration
-// checked in this order, each by one function that calls the next.
+// The call `deliberate` (02, Wish 6), where the plan and the remaining program are lent: the card, the program and the
+// configuration checked in this order, each by one function that calls the next.
 ghost use mathlib.Core.Path.{_≡_};
 ghost use mathlib.Core.List.{[], _∷_};
 ghost use Prim.Native.Nat.{_-_, _≤_};

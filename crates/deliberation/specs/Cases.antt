@@ -49,7 +49,7 @@ long = withPlan (replicate 1024 3)
 unfoldable pub wrong : Configuration
 wrong = withPlan (9 ∷ [])
 
-pub record Cases : Type 0 where
+pub record DeliberationCases : Type 0 where
   -- 02, Wish 6: "finished": six transitions and six idle moves; where the guide's own run ends too.
   pub finished : told (deliberates stripe teaching loaded 1000) ≡ 0 ∷ 1 ∷ 12 ∷ []
   pub finished-at : deliberates stripe teaching loaded 1000 .configuration ≡ runs stripe loaded 1000 .configuration
@@ -73,8 +73,8 @@ pub record Cases : Type 0 where
   pub belief-while : told (deliberates stripe (flatten (entry 0 0 0 ∷ entry 4 1 0 ∷ [])) loaded 9) ≡ 0 ∷ 1 ∷ 1 ∷ []
   -- One pass: 127 choices, each of the one below twice.
   pub shared : told (deliberates stripe doubling loaded 9) ≡ 0 ∷ 2 ∷ 0 ∷ 127 ∷ []
-  -- 02, Wish 6: "19 a program breaking these rules": no entry, a byte too many, a kind that there is not, an unused byte, a part not
-  -- lower, an unknown rule, a node that is no belief condition.
+  -- 02, Wish 6: "19 a program breaking these rules": no entry, a byte too many, a kind that there is not, an unused byte, a part
+  -- not lower, an unknown rule, a node that is no belief condition.
   pub no-entry : told (deliberates stripe [] loaded 9) ≡ 19 ∷ 0 ∷ 0 ∷ []
   pub byte-more : told (deliberates stripe (0 ∷ 0 ∷ 0 ∷ 0 ∷ 0 ∷ []) loaded 9) ≡ 19 ∷ 0 ∷ 0 ∷ []
   pub too-many : told (deliberates stripe (replicate 516 0) loaded 9) ≡ 19 ∷ 0 ∷ 0 ∷ []

@@ -26,7 +26,8 @@ lowestAction A s = first (enabled A s) (ofKind A 1)
 unfoldable pub ifEnabled : Agent → Config → Choice → Option Choice
 ifEnabled A s k = elim (enabled A s k) [ true ↦ some k | false ↦ none ]
 
--- 000, Definition 13: a while has an idle move, whatever its condition says: after it r remains if the condition holds, and else r′.
+-- 000, Definition 13: a while has an idle move, whatever its condition says: after it r remains if the condition holds, and else
+-- r′.
 abbrev pub idles : {R : Type 0} → Bool → R → R → Option (Move R)
 idles true r r′ = some (record { label = idle; remaining = r })
 idles false r r′ = some (record { label = idle; remaining = r′ })

@@ -212,8 +212,8 @@ abbrev pub TellsLaw : Type 0
 TellsLaw = (b p : Bytes) (c : Configuration) (budget : ℕ) → deliberateAnswer b p c ≡ Done → (r : Deliberated) → Deliberates b p c budget r
     → Tells b p c budget r
 
--- 02, Wish 6: "Demand 3 holds for transitions that are not idle.": under a card that is graded bounded, from a plan that weighs W, at
--- most 1,024.
+-- 02, Wish 6: "Demand 3 holds for transitions that are not idle.": under a card that is graded bounded, from a plan that weighs W,
+-- at most 1,024.
 pub record BoundedMoves (b p : Bytes) (c : Configuration) (budget : ℕ) (r : Deliberated) (w : ℕ) : Type 0 where
   pub tells : Tells b p c budget r
   -- 00, demand 3: "no run of more than W transitions without a plan selection exists"
