@@ -1,7 +1,8 @@
 #!/bin/sh
 # Makes every call through include/rigtemple.h on a stack of its bound and no more (tests/bound.c):
-# 2,048 bytes, and for reading a text what the header's head states. Two stacks that are known to be
-# too small show that going over is seen. The last line is 'N passed, M failed'.
+# 2,048 bytes, for deliberating 4,096, and for reading a text what the header's head states. Two
+# stacks that are known to be too small show that going over is seen. The last line is 'N passed, M
+# failed'.
 #
 #   tests/bound.sh
 set -eu
@@ -17,8 +18,8 @@ text=$(stated text)
 [ -n "$text" ] || die "the header states no bytes of stack for text"
 text=$(((text + 15) / 16 * 16)) # a stack is aligned so
 archive=$("$tests/archive.sh")
-"$tests/build_c.sh" "$work/bound" "$tests/bound.c" "$tests/calls.c" "$tests/cards.c" "$tests/texts.c" \
-    "$archive"
+"$tests/build_c.sh" "$work/bound" "$tests/bound.c" "$tests/calls.c" "$tests/cards.c" \
+    "$tests/programs.c" "$tests/texts.c" "$archive"
 passed=0
 failed=0
 
@@ -30,12 +31,13 @@ hold() { # WANTED CALL BYTES
     "$1"*) passed=$((passed + 1)) fault= ;;
     *) failed=$((failed + 1)) fault="; failed: wanted is '$1'" ;;
     esac
-    printf '%-8s %6d bytes of stack: %s%s\n' "$2" "$3" "${said:-nothing is said}" "$fault"
+    printf '%-10s %6d bytes of stack: %s%s\n' "$2" "$3" "${said:-nothing is said}" "$fault"
 }
 
 for call in check load grade list take run save restore print; do
     hold ok "$call" 2048
 done
+hold ok deliberate 4096
 hold ok text "$text"
 
 # The controls: what is too small for any check, and 16 bytes too few for the deepest text.

@@ -1,7 +1,7 @@
 #!/usr/bin/env bash
 # Measures the room that the guide needs: the deepest stack of each call through the header (tests/stack.sh), what an app lends with
-# the largest card, and the stack of the program. The last line is 'N passed, M failed': each call within 2,048 bytes, reading a text
-# within 33,792, and all together, and the program, within 65,536.
+# the largest card, and the stack of the program. The last line is 'N passed, M failed': each call within 2,048 bytes, deliberating
+# within 4,096, reading a text within 33,792, and all together, and the program, within 65,536.
 #
 #   tests/room.sh
 set -eu
@@ -24,23 +24,25 @@ calls=$("$root/tests/stack.sh" | grep ' bytes of stack') || die "tests/stack.sh 
 deepest=0
 reading=0
 while read -r call bytes _; do
-    bound=2048
-    [ "$call" != text ] || bound=33792
-    within "the stack of $call" "$bytes" $bound
+    case $call in deliberate) bound=4096 ;; text) bound=33792 ;; *) bound=2048 ;; esac
+    within "the stack of $call" "$bytes" "$bound"
     [ "$call" != text ] || { reading=$bytes; continue; }
     [ "$bytes" -le "$deepest" ] || deepest=$bytes
 done <<END
 $calls
 END
 
-# What an app lends: the largest card, a configuration as the header lays it out, a list of every choice, the largest place.
+# What an app lends: the largest card, a configuration as the header lays it out, a list of every choice, the largest place, the
+# longest program and what remains of it.
 card=24128
 configuration=1062
 list=$((2 * 768))
 place=$((44 + 1024))
+longest=512
+remaining=128
 printf '%-42s %6d bytes\n' 'the largest card' "$card" 'a configuration' "$configuration" 'a list of 768 choices' "$list" \
-    'the largest place' "$place"
-within 'all of it with the deepest stack' $((card + configuration + list + place + deepest)) "$most"
+    'the largest place' "$place" 'the longest program' "$longest" 'what remains of it' "$remaining"
+within 'all of it with the deepest stack' $((card + configuration + list + place + longest + remaining + deepest)) "$most"
 # To read a text an app lends the text, of any length, and room for a card.
 within 'the largest card with the stack of text' $((card + reading)) "$most"
 
