@@ -391,7 +391,8 @@ static inline uint16_t rigtemple_run(const uint8_t *card, size_t card_len,
  * To go on later keep the program and the remaining numbers beside the place, which does not hold
  * them. They are gone on with as a program of their own: the entries up to the greatest of the
  * numbers and, if there are several, entries behind them that join them: for x, y and z one
- * "y then z", and one "x then" that one. A program of at most 64 entries has room for that.
+ * "y then z", and one "x then" that one. A program of at most 64 entries has room for that, and
+ * for doing so again.
  * Answers 0 (with each of the four endings), or 1 to 9, 19, or 13. A refusal leaves `c` as it came
  * in, and writes 0 to `moves`, RIGTEMPLE_DELIBERATION_SPENT to `ending`, 128 zeros to `remaining`
  * and 0 to `remaining_length`. */

@@ -499,17 +499,17 @@ static void test_order(void)
 
 /* ---- what remains, gone on with ---- */
 
-/* The screen is turned: only the place is kept of a configuration. */
-static void turn(struct rigtemple_configuration *c)
+/* The screen is turned: only the place is kept of a configuration. Whether it is saved and
+ * restored. */
+static int turn(struct rigtemple_configuration *c)
 {
     uint8_t place[RIGTEMPLE_MOST_PLACE_BYTES];
     uint16_t bytes;
-    expect(rigtemple_save(card.bytes, card.len, c, place, sizeof place, &bytes) ==
-               RIGTEMPLE_ANSWER_DONE,
-           "the place is saved");
+    if (rigtemple_save(card.bytes, card.len, c, place, sizeof place, &bytes) !=
+        RIGTEMPLE_ANSWER_DONE)
+        return 0;
     memset(c, LENT, sizeof *c);
-    expect(rigtemple_restore(card.bytes, card.len, place, bytes, c) == RIGTEMPLE_ANSWER_DONE,
-           "the place is restored");
+    return rigtemple_restore(card.bytes, card.len, place, bytes, c) == RIGTEMPLE_ANSWER_DONE;
 }
 
 /* A program is left after so many moves and gone on with: it ends where it ends without that. */
@@ -520,10 +520,9 @@ static void test_gone_on(const struct program_bytes *program, struct rigtemple_c
     struct program_bytes rest;
     struct left all = deliberate(program, &straight, budget);
     struct left first = deliberate(program, &c, before);
-    turn(&c);
     if (first.moves < before || first.count == 0)
         return;
-    expect(remaining_program(&rest, program, first.remaining, first.count),
+    expect(turn(&c) && remaining_program(&rest, program, first.remaining, first.count),
            "there is room for what remains");
     struct left second = deliberate(&rest, &c, (uint16_t)(budget - before));
     expect(second.answer == RIGTEMPLE_ANSWER_DONE && first.moves + second.moves == all.moves &&
@@ -532,21 +531,51 @@ static void test_gone_on(const struct program_bytes *program, struct rigtemple_c
            "what remains is gone on with");
 }
 
-static void test_each_turn(void)
+/* A program is left and gone on with after each move, until there is none. */
+static void test_turned(const struct program_bytes *program, struct rigtemple_configuration c,
+                        uint16_t budget)
+{
+    struct rigtemple_configuration straight = c;
+    struct program_bytes now = *program, rest;
+    struct left all = deliberate(program, &straight, budget), one = {.count = 1};
+    unsigned moves = 0, kept = 1;
+    while (kept && one.count > 0 && one.ending == SPENT && moves < budget) {
+        one = deliberate(&now, &c, 1);
+        moves += one.moves;
+        kept = turn(&c) &&
+               (one.count == 0 || remaining_program(&rest, &now, one.remaining, one.count));
+        if (kept && one.count > 0)
+            now = rest;
+    }
+    expect(kept, "there is room for what remains after each move");
+    expect(moves == all.moves && (one.count == 0) == (all.count == 0) &&
+               (one.count == 0 || one.ending == all.ending) && same(&c, &straight),
+           "what remains is gone on with after each move");
+}
+
+/* Programs of 64 entries at most. */
+static void test_turns(void)
 {
     static const uint8_t nested[][3] = {EXECUTE, THEN(0, 0), WHILE_PLAN(1), THEN(2, 1), OR(3, 0)};
     struct program_bytes program;
     for (uint16_t before = 0; before < 14; before++) {
         teaching_program(&program, 3);
         test_gone_on(&program, after_run(0), before, 14);
+        test_turned(&program, after_run(0), before);
         set_program(&program, nested, 5);
-        test_gone_on(&program, repeated(WIND, 6), before, 14);
-        test_gone_on(&program, repeated(WIND, 5), before, 14);
+        for (unsigned actions = 0; actions < 9; actions++) {
+            test_gone_on(&program, repeated(WIND, actions), before, 14);
+            test_turned(&program, repeated(WIND, actions), before);
+        }
         set_program(&program, longer, 4);
         test_gone_on(&program, repeated(PICK, 1024), before, 14);
-        tower_program(&program, RIGTEMPLE_ENTRY_WHILE_PLAN);
-        program.len = RIGTEMPLE_ENTRY_BYTES * 64;
-        test_gone_on(&program, repeated(WIND, 1), (uint16_t)(10 * before), 200);
+        test_turned(&program, repeated(PICK, 1024), before);
+        for (unsigned kind = RIGTEMPLE_ENTRY_WHILE_PLAN; kind <= RIGTEMPLE_ENTRY_THEN; kind++) {
+            tower_program(&program, kind);
+            program.len = RIGTEMPLE_ENTRY_BYTES * 64;
+            test_gone_on(&program, repeated(WIND, 70), (uint16_t)(10 * before), 200);
+            test_turned(&program, repeated(WIND, 3), (uint16_t)(20 * before));
+        }
     }
 }
 
@@ -567,7 +596,7 @@ int main(void)
     test_whiles();
     test_refused_programs();
     test_order();
-    test_each_turn();
+    test_turns();
     printf("%u passed, %u failed\n", passed, failed);
     return failed != 0;
 }
