@@ -2,7 +2,7 @@
 use mathlib.Core.Path.{_≡_, refl, ap, ap₂, _∙_, sym, subst}
 use mathlib.Core.Bool.{Bool, true, false}
 use mathlib.Core.List.{[], _∷_, _++_}
-use Prim.Native.Nat.{ℕ, zero, suc, _+_, _-_, _≤_}
+use Prim.Native.Nat.{ℕ, _+_, _-_, _≤_}
 use native.Mathlib.Omega.{arith}
 use lib.ListN.{length, take, drop, set, replicate, length-drop, length-set, length-replicate, drop-of-length-le}
 use lib.Seq.{take-all, paste}
@@ -19,6 +19,7 @@ use Rattle.meaning.specs.Refusals.{andThen, firstGiven, containing, configurati
 use Rattle.meaning.specs.Calls.{checks}
 use Rattle.meaning.proofs.Tables.{done≢refused}
 use Rattle.meaning.proofs.Calls.{good-judged, refused-judged}
+use Rattle.plans.proofs.Laws.{drop-replicate}
 use Rattle.card.specs.Rows.{rowAnswer}
 use Rattle.card.proofs.Rows.{row-done}
 use Rattle.deliberation.specs.declared.Deliberated.{Deliberated}
@@ -47,11 +48,6 @@ pub first-remains : (p stack : Bytes) → drop 127 stack ≡ whole p → length 
 first-remains p stack e n =
     record { room = n; within = omega arith; stacked = subst (Stacked (entryCount p - 1)) (sym e) (put (entryCount p - 1) [] (omega arith) nothing) }
 
-zeros-behind : (k n : ℕ) → drop {A = ℕ} k (replicate n 0) ≡ replicate (n - k) 0
-zeros-behind zero n = let e : n ≡ n - 0 = omega arith in ap (λ j. replicate j 0) e
-zeros-behind (suc k) zero = let e : 0 ≡ 0 - suc k = omega arith in ap (λ j. replicate j 0) e
-zeros-behind (suc k) (suc n) = zeros-behind k n ∙ (let e : n - k ≡ suc n - suc k = omega arith in ap (λ j. replicate j 0) e)
-
 pub handed-out : (stack zeros : Bytes) (top : ℕ) → top ≤ 128 → length stack ≡ 128 → zeros ≡ replicate 128 0
     → remains (128 - top) (paste zeros 0 (drop top stack) (128 - top)) ≡ remainingOf (drop top stack)
 unfolding remainingOf
@@ -61,7 +57,7 @@ handed-out stack zeros top h s e =
     let f : take (128 - top) (drop top stack) ≡ drop top stack = take-all (128 - top) (drop top stack) w in
     let k : 0 + (128 - top) ≡ 128 - top = omega arith in
     let z : drop (0 + (128 - top)) zeros ≡ replicate (128 - length (drop top stack)) 0 =
-    ap₂ (λ j x. drop j x) k e ∙ zeros-behind (128 - top) 128 ∙ ap (λ j. replicate (128 - j) 0) (sym n) in
+    ap₂ (λ j x. drop j x) k e ∙ drop-replicate (128 - top) 128 0 ∙ ap (λ j. replicate (128 - j) 0) (sym n) in
     λ i. record { length = sym n i; numbers = ap₂ _++_ f z i }
 
 -- what the moves came to, as it is answered

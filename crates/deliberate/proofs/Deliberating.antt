@@ -26,7 +26,7 @@ use Rattle.deliberation.specs.FirstMove.{Move}
 use Rattle.deliberation.specs.Entries.{entryCount, entries}
 use Rattle.deliberation.specs.Deliberate.{Came, stuck, on, leads, came, Outcome, ended, oneMore, deliberate}
 use Rattle.deliberation.proofs.Room.{Stacked, move-within}
-use Rattle.deliberation.proofs.Run.{run-stuck, run-full, run-on}
+use Rattle.deliberation.proofs.Run.{leads-nothing, leads-full, leads-to, run-stuck, run-full, run-on}
 use Rattle.program.specs.GoodProgram.{GoodProgram}
 use Rattle.deliberate.specs.declared.made.Made.{Made}
 use Rattle.deliberate.specs.declared.made.Moved.{Moved}
@@ -34,7 +34,6 @@ use Rattle.deliberate.specs.First.{moveAt}
 use Rattle.deliberate.specs.Made.{configurationAfter, numbersAfter, Makes, MakesNext, Remains}
 use Rattle.deliberate.specs.Ran.{RanTo}
 use Rattle.deliberate.proofs.Next.{next-first}
-use Rattle.deliberate.proofs.Making.{leads-nothing, leads-full, leads-to}
 use Rattle.deliberation.specs.Deliberate as Deliberate
 
 -- ---- where a move leads

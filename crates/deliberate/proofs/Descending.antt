@@ -24,6 +24,7 @@ use Rattle.deliberation.proofs.Room.{Stacked, put}
 use Rattle.meaning.specs.Why.{leftIf}
 use Rattle.program.specs.GoodProgram.{GoodProgram}
 use Rattle.deliberate.specs.First.{moveAt, Movable}
+use Rattle.deliberate.proofs.Marking.{followed-some}
 use Rattle.deliberate.specs.Descent.{Stack, partOf, behind, Down, here, lower}
 
 -- ---- a number before those from top on
@@ -75,10 +76,6 @@ module _ (A : Agent) (s : State) where
   either-some none u e = e
   either-some (some m) u e = refl
 
-  followed-some : (f : List ℕ → List ℕ) (o : Option (Move (List ℕ))) → isSome (followedBy f o) ≡ true → isSome o ≡ true
-  followed-some f none e = e
-  followed-some f (some m) e = refl
-
   at-part : (q : ℕ → Option (Move (List ℕ))) (a b : ℕ) (left : Bool) → leftIf left (q a) (q b) ≡ q (leftIf left a b)
   at-part q a b true = refl
   at-part q a b false = refl
@@ -92,7 +89,7 @@ module _ (A : Agent) (s : State) where
   passes βs i (suc (suc zero)) a b q ns h g = absurd (omega arith)
   passes βs i (suc (suc (suc zero))) a b q ns h g = absurd (omega arith)
   passes βs i (suc (suc (suc (suc zero)))) a b q ns h g = absurd (omega arith)
-  passes βs i (suc (suc (suc (suc (suc zero))))) a b q ns h g = (came-followed (q a) b ns, followed-some (λ rs. rs ++ (b ∷ [])) (q a))
+  passes βs i (suc (suc (suc (suc (suc zero))))) a b q ns h g = (came-followed (q a) b ns, λ t. sym (followed-some (λ rs. rs ++ (b ∷ [])) (q a)) ∙ t)
   passes βs i (suc (suc (suc (suc (suc (suc zero)))))) a b q ns h g =
       let e = at-part q a b (isSome (q a)) in
       (came-either (q a) (q b) ns ∙ ap (λ o. came A s o ns) e, λ t. ap isSome (sym e) ∙ either-some (q a) (q b) t)

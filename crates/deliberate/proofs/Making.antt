@@ -13,7 +13,7 @@ use Rattle.paper.specs.Transitions.{Choice}
 use Rattle.paper.specs.Next.{isSome, enabled}
 use Rattle.paper.proofs.Relation.{none≢some, some-inj, false≢true}
 use Rattle.runs.specs.Order.{State, kind, number, first, ofKind}
-use Rattle.runs.specs.Step.{after, Reached, nothing, full, to, step}
+use Rattle.runs.specs.Step.{after, Reached, nothing, full, step}
 use Rattle.runs.proofs.Order.{first-yes, first-no}
 use Rattle.runs.proofs.Step.{StepsTo, none-there, too-long, taken, steps-to}
 use Rattle.meaning.specs.declared.Mind.{Mind}
@@ -40,6 +40,7 @@ use Rattle.deliberation.specs.FirstMove.{Move, takes, lowestAction, ifEnabled, 
 use Rattle.deliberation.specs.Entries.{entryAt, entryCount, moveOf}
 use Rattle.deliberation.specs.Deliberate.{Came, stuck, on, leads, came}
 use Rattle.deliberation.proofs.Good.{move-at}
+use Rattle.deliberation.proofs.Run.{leads-nothing, leads-full, leads-to}
 use Rattle.program.specs.GoodProgram.{GoodProgram}
 use Rattle.deliberate.specs.declared.made.Made.{Made}
 use Rattle.deliberate.specs.declared.made.Moved.{Moved}
@@ -52,19 +53,6 @@ use Rattle.deliberation.specs.Deliberate as Deliberate
 use Rattle.deliberate.specs.Made as Made-specs
 
 -- ---- a transition as a move
-
-module _ (A : Agent) (s : State) (k : Choice) (ns : List ℕ) where
-  pub leads-nothing : step A s k ≡ nothing → leads A s (taking k) ns ≡ stuck
-  unfolding leads
-  leads-nothing e = rw (e, leads)
-
-  pub leads-full : step A s k ≡ full → leads A s (taking k) ns ≡ Deliberate.too-long
-  unfolding leads
-  leads-full e = rw (e, leads)
-
-  pub leads-to : (s′ : State) → step A s k ≡ to k s′ → leads A s (taking k) ns ≡ on ns s′
-  unfolding leads
-  leads-to s′ e = rw (e, leads)
 
 module _ (l : Layout) (b : Bytes) (c : Configuration) (k : Choice) (x : Stepped) (p : Bytes) (told : StepsBy l b c k x p) (top : ℕ) (stack : Bytes)
     (within : top ≤ 128) (room : length stack ≡ 128) where
@@ -254,10 +242,6 @@ leaf-takes A βs s i zero a b q h = refl
 leaf-takes A βs s i (suc zero) a b q h = refl
 leaf-takes A βs s i (suc (suc zero)) a b q h = refl
 leaf-takes A βs s i (suc (suc (suc k))) a b q h = absurd (omega arith)
-
-pub takes-some : (o : Option Choice) → isSome (takes {R = List ℕ} o []) ≡ true → isSome o ≡ true
-takes-some none e = e
-takes-some (some k) e = refl
 
 module _ (l : Layout) (b p : Bytes) (c : Configuration) (good : GoodProgram l b p) (stack : Bytes) (at top : ℕ) (s : Stack p stack at top) where
   pub leaf-known : at < entryCount p

@@ -29,7 +29,7 @@ at-some (some k) = refl
 -- ---- whether there is a move, by whether the parts have one
 
 module _ {R : Type 0} where
-  takes-some : (o : Option Choice) (r : R) → isSome (takes o r) ≡ isSome o
+  pub takes-some : (o : Option Choice) (r : R) → isSome (takes o r) ≡ isSome o
   takes-some none r = refl
   takes-some (some k) r = refl
 
@@ -37,7 +37,7 @@ module _ {R : Type 0} where
   idles-some true r r′ = refl
   idles-some false r r′ = refl
 
-  followed-some : (f : R → R) (o : Option (Move R)) → isSome (followedBy f o) ≡ isSome o
+  pub followed-some : (f : R → R) (o : Option (Move R)) → isSome (followedBy f o) ≡ isSome o
   followed-some f none = refl
   followed-some f (some m) = refl
 
@@ -45,7 +45,7 @@ module _ {R : Type 0} where
   either-some none u = refl
   either-some (some m) u = refl
 
-pub named-some : (A : Agent) (s : Config) (k : Choice) → isSome (takes {R = List ℕ} (ifEnabled A s k) []) ≡ enabled A s k
+named-some : (A : Agent) (s : Config) (k : Choice) → isSome (takes {R = List ℕ} (ifEnabled A s k) []) ≡ enabled A s k
 unfolding ifEnabled
 named-some A s k = go (enabled A s k) refl
   where

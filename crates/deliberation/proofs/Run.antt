@@ -31,15 +31,15 @@ use Rattle.deliberation.proofs.Followed.{object}
 -- ---- the equations of a move and of a run
 
 module _ (A : Agent) (s : State) (k : Choice) (ns : List ℕ) where
-  leads-nothing : step A s k ≡ nothing → leads A s (taking k) ns ≡ stuck
+  pub leads-nothing : step A s k ≡ nothing → leads A s (taking k) ns ≡ stuck
   unfolding leads
   leads-nothing e = rw (e, leads)
 
-  leads-full : step A s k ≡ full → leads A s (taking k) ns ≡ Deliberate.too-long
+  pub leads-full : step A s k ≡ full → leads A s (taking k) ns ≡ Deliberate.too-long
   unfolding leads
   leads-full e = rw (e, leads)
 
-  leads-to : (s′ : State) → step A s k ≡ to k s′ → leads A s (taking k) ns ≡ on ns s′
+  pub leads-to : (s′ : State) → step A s k ≡ to k s′ → leads A s (taking k) ns ≡ on ns s′
   unfolding leads
   leads-to s′ e = rw (e, leads)
 

@@ -1,3 +1,4 @@
+use Rattle.deliberate.proofs.Marking.{takes-some}
 use mathlib.Core.Option.{Option}
 use mathlib.Core.Bool.{true, false}
 use Rattle.paper.specs.Next.{isSome}
@@ -10,7 +11,7 @@ use Rattle.deliberation.specs.Entries.{entryAt}
 use mathlib.Core.Path.{subst, _≡_, sym, ap, _∙_}
 use Rattle.meaning.specs.declared.Node.{Node}
 use Rattle.deliberate.proofs.Descending.{stacked-room}
-use Rattle.deliberate.proofs.Making.{two-more, leaf-idles, leaf-choice, takes-some}
+use Rattle.deliberate.proofs.Making.{two-more, leaf-idles, leaf-choice}
 use Rattle.layout.specs.PlaceParts.{lent}
 use mathlib.Core.List.{List, []}
 use Prim.Native.Nat.{ℕ, _≤_, _<_}
@@ -72,7 +73,7 @@ take-choice-requires c κs =
     let t : c .before .before .before .read-entry .result .kind < 3 = (let t = c .before .if1 .left in omega arith) in
     let k : entryAt p (a .at) .kind < 3 = subst (λ (x : Node). x .kind < 3) e t in
     let q = leaf-choice (a .l) b p d g (now (a .stack)) (a .at) (a .top) s k in
-    let some = takes-some (taken (agentFor (a .l) b) (stateOf d .mental) (entryAt p (a .at) .kind) (entryAt p (a .at) .a)) (sym (ap isSome q) ∙ c .before .before .before .before .before .before .pre .1 .1 .1) in
+    let some = sym (takes-some {R = List ℕ} (taken (agentFor (a .l) b) (stateOf d .mental) (entryAt p (a .at) .kind) (entryAt p (a .at) .a)) []) ∙ sym (ap isSome q) ∙ c .before .before .before .before .before .before .pre .1 .1 .1 in
     ((j .ready, t, c .before .before .before .before .before .before .pre .1 .0 .0), subst (λ (x : Node). isSome (taken (agentFor (a .l) b) (stateOf d .mental) (x .kind) (x .a)) ≡ true) (sym e) some)
 
 returns-2 : tie.Need-returns-2
