@@ -75,12 +75,8 @@ pub fn run_moves(
                 rest = moved.top;
                 count += 1;
             }
-            Made::Stuck => {
-                return ended(after, count, DeliberationEnding::Stuck, moved.top);
-            }
-            Made::Full => {
-                return ended(after, count, DeliberationEnding::Full, moved.top);
-            }
+            Made::Stuck => return ended(after, count, DeliberationEnding::Stuck, moved.top),
+            Made::Full => return ended(after, count, DeliberationEnding::Full, moved.top),
         }
     }
     ended(cur, count, DeliberationEnding::Spent, rest)
