@@ -1,8 +1,7 @@
 #!/bin/sh
 # Makes every call through include/rigtemple.h on a stack of its bound and no more (tests/bound.c):
-# 2,048 bytes, for deliberating 4,096, and for reading a text what the header's head states. Two
-# stacks that are known to be too small show that going over is seen. The last line is 'N passed, M
-# failed'.
+# 2,048 bytes, and for reading a text what the header's head states. Two stacks that are known to be
+# too small show that going over is seen. The last line is 'N passed, M failed'.
 #
 #   tests/bound.sh
 set -eu
@@ -34,10 +33,9 @@ hold() { # WANTED CALL BYTES
     printf '%-10s %6d bytes of stack: %s%s\n' "$2" "$3" "${said:-nothing is said}" "$fault"
 }
 
-for call in check load grade list take run save restore print; do
+for call in check load grade list take run save restore deliberate print; do
     hold ok "$call" 2048
 done
-hold ok deliberate 4096
 hold ok text "$text"
 
 # The controls: what is too small for any check, and 16 bytes too few for the deepest text.

@@ -1,7 +1,7 @@
 #!/usr/bin/env bash
 # Measures the room that the guide needs: the deepest stack of each call through the header (tests/stack.sh), what an app lends with
-# the largest card, and the stack of the program. The last line is 'N passed, M failed': each call within 2,048 bytes, deliberating
-# within 4,096, reading a text within 33,792, and all together, and the program, within 65,536.
+# the largest card, and the stack of the program. The last line is 'N passed, M failed': each call within 2,048 bytes, reading a text
+# within 33,792, and all together, and the program, within 65,536.
 #
 #   tests/room.sh
 set -eu
@@ -24,8 +24,9 @@ calls=$("$root/tests/stack.sh" | grep ' bytes of stack') || die "tests/stack.sh 
 deepest=0
 reading=0
 while read -r call bytes _; do
-    case $call in deliberate) bound=4096 ;; text) bound=33792 ;; *) bound=2048 ;; esac
-    within "the stack of $call" "$bytes" "$bound"
+    bound=2048
+    [ "$call" != text ] || bound=33792
+    within "the stack of $call" "$bytes" $bound
     [ "$call" != text ] || { reading=$bytes; continue; }
     [ "$bytes" -le "$deepest" ] || deepest=$bytes
 done <<END

@@ -1,7 +1,6 @@
 #!/bin/sh
 # Measures the deepest stack of each call through include/rigtemple.h; fails over 2,048 bytes, for
-# deliberating over 4,096, for reading a text over 33,792, and where the header's head states another figure. The last line is
-# 'N passed, M failed'.
+# reading a text over 33,792, and where the header's head states another figure. The last line is 'N passed, M failed'.
 #
 #   tests/stack.sh [--engine]
 #
@@ -24,7 +23,8 @@ failed=0
 
 while read -r call bytes; do
     fault=
-    case $call in deliberate) most=4096 ;; text) most=33792 ;; *) most=2048 ;; esac
+    most=2048
+    [ "$call" != text ] || most=33792
     [ "$bytes" -le $most ] || fault=", which is over $most"
     [ $# -gt 0 ] || [ "$bytes" = "$(stated "$call")" ] || fault="$fault, not as the header states"
     if [ -z "$fault" ]; then passed=$((passed + 1)); else failed=$((failed + 1)); fi
