@@ -2,13 +2,15 @@
  * The library and the C engine side by side: the same cards and configurations, in the same run,
  * batch after batch in turn. First both have to give the same answers. Then nanoseconds for each
  * call on each card, for a transition inside a run, and how a transition's time grows with nodes,
- * rules and the plan: medians, and the library's time divided by the engine's.
+ * rules and the plan: medians, and the library's time divided by the engine's. A deliberation is
+ * of one plan, on the two cards whose plans come to an end.
  */
 #include <stdio.h>
 #include <stdlib.h>
 #include <string.h>
 
 #include "../tests/cards.h"
+#include "../tests/programs.h"
 
 #include "../include/rigtemple.h"
 #include "engine.h"
@@ -22,7 +24,7 @@ enum { ROOM = RIGTEMPLE_MOST_LIST_ENTRIES };
 #define SHORTEST_BATCH 60000.0
 #define TABLE_TIME 3000000000.0
 
-/* The eight calls of one of the two programs. */
+/* The nine calls of one of the two programs. */
 struct calls {
     uint16_t (*check)(const uint8_t *, size_t);
     uint16_t (*load)(const uint8_t *, size_t, uint8_t *, uint8_t *, uint8_t *, uint16_t *,
@@ -34,6 +36,9 @@ struct calls {
                      uint8_t *, uint16_t *, uint16_t, uint16_t *);
     uint16_t (*run)(const uint8_t *, size_t, uint8_t *, uint8_t *, uint8_t *, uint16_t *, uint8_t *,
                     uint16_t *, uint16_t, uint16_t *, uint8_t *);
+    uint16_t (*deliberate)(const uint8_t *, size_t, const uint8_t *, size_t, uint8_t *, uint8_t *,
+                           uint8_t *, uint16_t *, uint8_t *, uint16_t *, uint16_t, uint16_t *,
+                           uint8_t *, uint8_t *, uint8_t *);
     uint16_t (*save)(const uint8_t *, size_t, const uint8_t *, const uint8_t *, const uint8_t *,
                      uint16_t, uint8_t, uint16_t, uint8_t *, size_t, uint16_t *);
     uint16_t (*restore)(const uint8_t *, size_t, const uint8_t *, size_t, uint8_t *, uint8_t *,
@@ -41,21 +46,23 @@ struct calls {
 };
 
 static const struct calls ours = {
-    rigtemple_check_parts, rigtemple_load_parts, rigtemple_grade_parts, rigtemple_list_parts,
-    rigtemple_take_parts,  rigtemple_run_parts,  rigtemple_save_parts,  rigtemple_restore_parts,
+    rigtemple_check_parts,      rigtemple_load_parts, rigtemple_grade_parts,
+    rigtemple_list_parts,       rigtemple_take_parts, rigtemple_run_parts,
+    rigtemple_deliberate_parts, rigtemple_save_parts, rigtemple_restore_parts,
 };
 
 static const struct calls engine = {
-    engine_check, engine_load, engine_grade, engine_list,
-    engine_take,  engine_run,  engine_save,  engine_restore,
+    engine_check, engine_load,       engine_grade, engine_list,    engine_take,
+    engine_run,   engine_deliberate, engine_save,  engine_restore,
 };
 
 /* A card, a configuration in the middle of its run, the place of it, and the guide's own choices
- * from there on. */
+ * from there on; a program, and the configuration in which the run's first plan is finished. */
 struct input {
     const char *name;
     struct card_bytes card;
-    struct rigtemple_configuration middle;
+    struct program_bytes program;
+    struct rigtemple_configuration middle, woven;
     uint8_t place[RIGTEMPLE_MOST_PLACE_BYTES];
     uint16_t place_len;
     uint16_t choice[CHOICES];
@@ -66,6 +73,7 @@ struct left {
     struct rigtemple_configuration c;
     uint16_t answer, list[ROOM], count, number, node;
     uint8_t verdict, offender, ending, place[RIGTEMPLE_MOST_PLACE_BYTES];
+    uint8_t remaining[RIGTEMPLE_MOST_REMAINING], remaining_length;
 };
 
 /* The parts of the configuration `c` points to, as the calls take them. */
@@ -133,6 +141,18 @@ static void batch_run(const struct calls *f, const struct input *in, unsigned ti
         l->answer |= f->run(CARD(in), PARTS(&l->c), RUN_BUDGET, &l->count, &l->ending);
 }
 
+/* Deliberations of a plan, from its selection to its end. */
+static void batch_deliberate(const struct calls *f, const struct input *in, unsigned times,
+                             struct left *l)
+{
+    for (unsigned i = 0; i < times; i++) {
+        l->c = in->woven;
+        l->answer |= f->deliberate(CARD(in), in->program.bytes, in->program.len, PARTS(&l->c),
+                                   RUN_BUDGET, &l->count, &l->ending, l->remaining,
+                                   &l->remaining_length);
+    }
+}
+
 static void batch_save(const struct calls *f, const struct input *in, unsigned times,
                        struct left *l)
 {
@@ -160,6 +180,7 @@ static const struct row {
 };
 
 static const struct row run_row = {"run of 1000", batch_run, RUN_BUDGET};
+static const struct row deliberate_row = {"deliberate", batch_deliberate, 1};
 
 /* ---- inputs ---- */
 
@@ -195,6 +216,26 @@ static void prepare(struct input *in, const char *name)
         }
         in->choice[i] = own_choice(in, &before, c.phase);
     }
+}
+
+/* Fills in the program of the teaching shed with so many revisions, and where it begins. It has to
+ * come to its end. */
+static void prepare_program(struct input *in, unsigned revisions)
+{
+    uint16_t count;
+    uint8_t ending, remaining[RIGTEMPLE_MOST_REMAINING], remaining_length;
+    teaching_program(&in->program, revisions);
+    engine.load(CARD(in), PARTS(&in->woven));
+    while (in->woven.finished == 0)
+        engine.run(CARD(in), PARTS(&in->woven), 1, &count, &ending);
+    struct rigtemple_configuration c = in->woven;
+    engine.deliberate(CARD(in), in->program.bytes, in->program.len, PARTS(&c), RUN_BUDGET, &count,
+                      &ending, remaining, &remaining_length);
+    if (ending != RIGTEMPLE_DELIBERATION_FINISHED) {
+        printf("the program on the card '%s' has to come to its end\n", in->name);
+        exit(1);
+    }
+    printf("A deliberation on the card '%s' has %u moves.\n", in->name, count);
 }
 
 /* ---- the same answers ---- */
@@ -285,9 +326,9 @@ static void measure(struct line *lines, unsigned count)
 
 /* ---- tables ---- */
 
-enum { ROWS = sizeof rows / sizeof rows[0], INPUTS = 4, GROWTHS = 9 };
+enum { ROWS = sizeof rows / sizeof rows[0], INPUTS = 4, SHEDS = 2, GROWTHS = 9 };
 
-static struct line lines[ROWS * INPUTS];
+static struct line lines[ROWS * INPUTS + SHEDS];
 
 /* Measures and prints lines of calls on cards. */
 static void print_calls(const char *unit, unsigned count)
@@ -346,14 +387,22 @@ int main(void)
     prepare(&inputs[1], "maximal, typical");
     prepare(&inputs[2], "maximal, worst: revisions");
     prepare(&inputs[3], "maximal, worst: acts, revisions");
+    prepare_program(&inputs[0], 3);
+    prepare_program(&inputs[1], 50);
     for (unsigned i = 0; i < INPUTS; i++)
         compare(&inputs[i]);
+    for (unsigned i = 0; i < SHEDS; i++)
+        compare_once(&deliberate_row, &inputs[i], 1);
     printf("The same answers on %u cards.\n", INPUTS);
     for (unsigned i = 0; i < ROWS * INPUTS; i++) {
         lines[i].row = &rows[i / INPUTS];
         lines[i].in = &inputs[i % INPUTS];
     }
-    print_calls("ns a call", ROWS * INPUTS);
+    for (unsigned i = 0; i < SHEDS; i++) {
+        lines[ROWS * INPUTS + i].row = &deliberate_row;
+        lines[ROWS * INPUTS + i].in = &inputs[i];
+    }
+    print_calls("ns a call", ROWS * INPUTS + SHEDS);
     for (unsigned i = 0; i < INPUTS; i++) {
         lines[i].row = &run_row;
         lines[i].in = &inputs[i];

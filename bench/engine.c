@@ -1,11 +1,11 @@
 /*
- * The engine: document 01's eight calls in plain C, with document 02's wishes 1 and 4.
+ * The engine: document 01's eight calls in plain C, with document 02's wishes 1, 4, 5 and 6.
  *
  * A card is checked once a call; after that nothing is tested that its acceptance settles. All
  * conditions are judged in one pass over the nodes, one mark a node, and again only when beliefs
  * or goals have changed. What settled a condition is looked for only where a choice is refused for
  * it. In a run the plan stands at the end of its 1,024 bytes, so that its front moves and its rest
- * never does.
+ * never does; in a deliberation what remains of the program stands so in its 128.
  */
 #include <string.h>
 
@@ -28,17 +28,21 @@ enum {
     CONFIGURATION,
     NO_RULE,
     FRONT,
-    CONDITION
+    CONDITION,
+    PROGRAM = 19
 };
 
 enum { SELECT, ACT, REVISE };                                  /* the kinds, in the phases' order */
 enum { TRUE, BELIEVES, HAS_GOAL, NOT, AND, OR };               /* the kinds of nodes */
+enum { EXECUTE, APPLY, CHOOSE, WHILE_PLAN, WHILE_BELIEF, THEN, EITHER }; /* those of entries */
 enum { SPENT, REST, FULL };                                    /* the endings of a run */
+enum { FINISHED = 1, STUCK, TOO_LONG };                        /* the others of a deliberation */
 enum { BOUNDED, OPEN };                                        /* the verdicts */
 enum { NONE, INITIAL_PLAN, SELECTION_RULE, REVISION_RULE };    /* the offenders */
 enum { NODE_BYTES = 4, SPECIFICATION_BYTES = 36, SELECTION_BYTES = 8, REVISION_BYTES = 12 };
-enum { SET_BYTES = 16, HEADER_BYTES = 64, PLACE_BYTES = 44 };
+enum { SET_BYTES = 16, HEADER_BYTES = 64, PLACE_BYTES = 44, ENTRY_BYTES = 4 };
 enum { MOST_ENTRIES = 256, LONGEST_PLAN = 1024, LARGEST_POOL = 8192, MOST_CHOICES = 768 };
+enum { LONGEST_PROGRAM = 128 };
 enum { MOST_FINISHED = 65535 };
 enum { NO_MOVE = -1 };
 
@@ -269,10 +273,11 @@ static unsigned bad_revisions(const struct card *c, const uint8_t *form)
     return bad;
 }
 
-/* The card's check, rows 1 to 9 in the table's order; if done, `c` is the card taken apart. */
-static uint16_t check(const uint8_t *card, size_t card_len, struct card *c)
+/* The card's check, rows 1 to 9 in the table's order; if done, `c` is the card taken apart and
+ * `form` tells what each node is made of. */
+static uint16_t check_forms(const uint8_t *card, size_t card_len, struct card *c,
+                            uint8_t form[MOST_ENTRIES])
 {
-    uint8_t form[MOST_ENTRIES];
     if (card_len < HEADER_BYTES)
         return SHORT;
     if (card[0] != 0x33 || card[1] != 0x41 || number(card + 2) != 1)
@@ -295,6 +300,12 @@ static uint16_t check(const uint8_t *card, size_t card_len, struct card *c)
     if (!known_actions(c, c->pool, c->pool_bytes))
         return ACTION_BYTE;
     return known_set(c, sets) ? DONE : ATOM;
+}
+
+static uint16_t check(const uint8_t *card, size_t card_len, struct card *c)
+{
+    uint8_t form[MOST_ENTRIES];
+    return check_forms(card, card_len, c, form);
 }
 
 uint16_t engine_check(const uint8_t *card, size_t card_len)
@@ -478,14 +489,18 @@ static inline int revision_enabled(const struct card *c, const uint8_t *mark, co
     return mark[rule[0]] && head_fits(c, rule, plan, length);
 }
 
+/* Whether both conditions of a selection rule hold. */
+static inline int selection_holds(const uint8_t *mark, const uint8_t *rule)
+{
+    return mark[rule[0]] & mark[rule[1]];
+}
+
 /* The lowest enabled selection rule, of an empty plan, from `i` on. */
 static int next_selection(const struct card *c, const uint8_t *mark, unsigned i)
 {
-    for (; i < c->selections; i++) {
-        const uint8_t *rule = c->selection + SELECTION_BYTES * i;
-        if (mark[rule[0]] & mark[rule[1]])
+    for (; i < c->selections; i++)
+        if (selection_holds(mark, c->selection + SELECTION_BYTES * i))
             return (int)i;
-    }
     return NO_MOVE;
 }
 
@@ -705,6 +720,30 @@ struct walk {
     uint8_t mark[MOST_ENTRIES];
 };
 
+/* Begins where a configuration stands. */
+static void set_out(struct walk *w, const struct card *c, struct parts d)
+{
+    w->card = c;
+    w->beliefs = d.beliefs;
+    w->goals = d.goals;
+    w->end = d.plan + LONGEST_PLAN;
+    w->length = *d.length;
+    w->phase = *d.phase;
+    w->finished = *d.finished;
+    memmove(w->end - w->length, d.plan, w->length);
+    judge(c, c->nodes, w->beliefs, w->goals, w->mark);
+}
+
+/* Leaves the configuration as it is then. */
+static void arrive(const struct walk *w, struct parts d)
+{
+    memmove(d.plan, w->end - w->length, w->length);
+    memset(d.plan + w->length, 0, LONGEST_PLAN - w->length);
+    *d.length = (uint16_t)w->length;
+    *d.phase = (uint8_t)w->phase;
+    *d.finished = (uint16_t)w->finished;
+}
+
 /* Puts a plan of the pool in the place of the first actions; whether it fits. */
 static inline int put_in_front(struct walk *w, unsigned head_length, const uint8_t *body)
 {
@@ -771,7 +810,8 @@ uint16_t engine_run(const uint8_t *card, size_t card_len, uint8_t *beliefs, uint
                     uint16_t budget, uint16_t *count, uint8_t *ending)
 {
     struct card c;
-    struct walk w = {.card = &c, .beliefs = beliefs, .goals = goals, .end = plan + LONGEST_PLAN};
+    struct walk w;
+    struct parts d = {beliefs, goals, plan, length, phase, finished};
     *count = 0;
     *ending = SPENT;
     uint16_t answer = check(card, card_len, &c);
@@ -779,17 +819,189 @@ uint16_t engine_run(const uint8_t *card, size_t card_len, uint8_t *beliefs, uint
         return answer;
     if (!known_configuration(&c, beliefs, goals, plan, *length, *phase))
         return CONFIGURATION;
-    w.length = *length;
-    w.phase = *phase;
-    w.finished = *finished;
-    memmove(w.end - w.length, plan, w.length);
-    judge(&c, c.nodes, beliefs, goals, w.mark);
+    set_out(&w, &c, d);
     *count = (uint16_t)walk(&w, budget, ending);
-    memmove(plan, w.end - w.length, w.length);
-    memset(plan + w.length, 0, LONGEST_PLAN - w.length);
-    *length = (uint16_t)w.length;
-    *phase = (uint8_t)w.phase;
-    *finished = (uint16_t)w.finished;
+    arrive(&w, d);
+    return DONE;
+}
+
+/* ---- deliberate ---- */
+
+/* Whether a program keeps its rules for a card, of whose nodes `form` tells what they are made of
+ * (row 19): "part numbers are lower than their own". */
+static int good_program(const struct card *c, const uint8_t *form, const uint8_t *program,
+                        size_t program_len)
+{
+    unsigned bad = 0;
+    if (program_len == 0 || program_len > ENTRY_BYTES * LONGEST_PROGRAM ||
+        program_len % ENTRY_BYTES != 0)
+        return 0;
+    for (unsigned k = 0; k < program_len / ENTRY_BYTES; k++) {
+        const uint8_t *entry = program + ENTRY_BYTES * k;
+        unsigned a = entry[1], b = entry[2];
+        bad |= entry[3];
+        switch (entry[0]) {
+        case EXECUTE:
+            bad |= a | b;
+            break;
+        case APPLY:
+            bad |= b | (a >= c->revisions);
+            break;
+        case CHOOSE:
+            bad |= b | (a >= c->selections);
+            break;
+        case WHILE_PLAN:
+            bad |= a | (b >= k);
+            break;
+        case WHILE_BELIEF:
+            bad |= (form[a] & (GOAL_ATOM | UNKNOWN)) | (b >= k);
+            break;
+        case THEN:
+        case EITHER:
+            bad |= (a >= k) | (b >= k);
+            break;
+        default:
+            return 0;
+        }
+    }
+    return bad == 0;
+}
+
+/* A deliberation under way: what remains are the numbers from `next` up to `none`. */
+struct course {
+    struct walk walk;
+    const uint8_t *program;
+    uint8_t *next, *none;
+    int action;                       /* the lowest enabled specification, or NO_MOVE */
+    unsigned marked;                  /* how many entries are marked for where the walk stands */
+    uint8_t movable[LONGEST_PROGRAM]; /* the marks: whether the entry has a first move */
+};
+
+/* Marks the entries up to n, each after its parts: whether it has a first move. */
+static void mark_moves(struct course *d, unsigned n)
+{
+    const struct walk *w = &d->walk;
+    const struct card *c = w->card;
+    const uint8_t *plan = w->end - w->length;
+    if (d->marked == 0)
+        d->action = next_of_kind(c, w->mark, ACT, plan, w->length, 0);
+    for (unsigned k = d->marked; k <= n; k++) {
+        const uint8_t *entry = d->program + ENTRY_BYTES * k;
+        unsigned a = entry[1], b = entry[2];
+        int has = 1; /* "while" */
+        switch (entry[0]) {
+        case EXECUTE:
+            has = d->action != NO_MOVE;
+            break;
+        case APPLY:
+            has = revision_enabled(c, w->mark, c->revision + REVISION_BYTES * a, plan, w->length);
+            break;
+        case CHOOSE:
+            has = w->length == 0 && selection_holds(w->mark, c->selection + SELECTION_BYTES * a);
+            break;
+        case THEN:
+            has = d->movable[a];
+            break;
+        case EITHER:
+            has = d->movable[a] | d->movable[b];
+            break;
+        }
+        d->movable[k] = (uint8_t)has;
+    }
+    d->marked = d->marked > n ? d->marked : n + 1;
+}
+
+/* Takes the enabled move that a marked entry stands for; whether its plan fits. */
+static int take_entry(struct course *d, const uint8_t *entry)
+{
+    unsigned kind = entry[0] == EXECUTE ? ACT : entry[0] == APPLY ? REVISE : SELECT;
+    d->marked = 0;
+    return move(&d->walk, kind, kind == ACT ? (unsigned)d->action : entry[1]);
+}
+
+/* Makes the first move of the next entry, which has one: down to the part that moves, with the
+ * right of each sequence on the way before what remains. Whether its plan fits; if not, the same
+ * remains. */
+static int make_move(struct course *d)
+{
+    uint8_t *next = d->next + 1, whole = *d->next, n = whole;
+    const uint8_t *entry = d->program + ENTRY_BYTES * n;
+    for (; entry[0] >= THEN; entry = d->program + ENTRY_BYTES * n) {
+        if (entry[0] == THEN)
+            *--next = entry[2];
+        n = entry[0] == THEN || d->movable[entry[1]] ? entry[1] : entry[2];
+    }
+    if (entry[0] < WHILE_PLAN) {
+        if (!take_entry(d, entry)) {
+            *d->next = whole;
+            return 0;
+        }
+    } else if (entry[0] == WHILE_PLAN ? d->walk.length != 0 : d->walk.mark[entry[1]]) {
+        *--next = n;
+        *--next = entry[2];
+    }
+    d->next = next;
+    return 1;
+}
+
+/* Makes a move, if there is one that fits: SPENT, or why there is none. "Endings, in this order:
+ * spent, finished, stuck, full." */
+static unsigned one_move(struct course *d)
+{
+    if (d->next == d->none)
+        return FINISHED;
+    mark_moves(d, *d->next);
+    if (!d->movable[*d->next])
+        return STUCK;
+    return make_move(d) ? SPENT : TOO_LONG;
+}
+
+/* Moves until the budget is spent or there is no move; how many were made. */
+static unsigned follow(struct course *d, unsigned budget, uint8_t *ending)
+{
+    for (unsigned count = 0; count < budget; count++) {
+        unsigned end = one_move(d);
+        if (end != SPENT) {
+            *ending = (uint8_t)end;
+            return count;
+        }
+    }
+    *ending = SPENT;
+    return budget;
+}
+
+uint16_t engine_deliberate(const uint8_t *card, size_t card_len, const uint8_t *program,
+                           size_t program_len, uint8_t *beliefs, uint8_t *goals, uint8_t *plan,
+                           uint16_t *length, uint8_t *phase, uint16_t *finished, uint16_t budget,
+                           uint16_t *count, uint8_t *ending, uint8_t *remaining,
+                           uint8_t *remaining_length)
+{
+    struct card c;
+    struct parts d = {beliefs, goals, plan, length, phase, finished};
+    struct course course;
+    uint8_t form[MOST_ENTRIES];
+    *count = 0;
+    *ending = SPENT;
+    *remaining_length = 0;
+    memset(remaining, 0, LONGEST_PROGRAM);
+    uint16_t answer = check_forms(card, card_len, &c, form);
+    if (answer != DONE)
+        return answer;
+    if (!good_program(&c, form, program, program_len))
+        return PROGRAM;
+    if (!known_configuration(&c, beliefs, goals, plan, *length, *phase))
+        return CONFIGURATION;
+    set_out(&course.walk, &c, d);
+    course.program = program;
+    course.marked = 0;
+    course.none = remaining + LONGEST_PROGRAM;
+    course.next = course.none - 1;
+    *course.next = (uint8_t)(program_len / ENTRY_BYTES - 1); /* "the last one the whole" */
+    *count = (uint16_t)follow(&course, budget, ending);
+    arrive(&course.walk, d);
+    *remaining_length = (uint8_t)(course.none - course.next);
+    memmove(remaining, course.next, *remaining_length);
+    memset(remaining + *remaining_length, 0, LONGEST_PROGRAM - *remaining_length);
     return DONE;
 }
 

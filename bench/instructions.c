@@ -6,30 +6,37 @@
  *                                        enum below; 0 to 9 times
  *
  * With the stripe card its text is read and node 4 printed, with the typical card a full text and a
- * node that prints 255.
+ * node that prints 255. A deliberation is of one plan, by the program of the teaching shed, with 3
+ * revisions and with 50.
  */
 #include <stdlib.h>
 
 #include "../include/rigtemple.h"
 #include "../tests/cards.h"
+#include "../tests/programs.h"
 #include "../tests/texts.h"
 #include "engine.h"
 
-enum { CHECK, LOAD, GRADE, LIST, TAKE, REFUSED, RUN_1, RUN_9, SAVE, RESTORE, TEXT, PRINT };
-enum { BEFORE = 3 };
+enum { CHECK, LOAD, GRADE, LIST, TAKE, REFUSED, RUN_1, RUN_9, SAVE, RESTORE, DELIBERATE, TEXT,
+       PRINT };
+enum { BEFORE = 3, ENOUGH = 1000 };
 
 /* A revision of the stripe card whose condition is false then. */
 enum { CLOSED = 514 };
 
 static struct card_bytes card, printed;
+static struct program_bytes program;
 static struct text_bytes text;
-static struct rigtemple_configuration middle, c;
+static struct rigtemple_configuration middle, woven, c;
+static uint8_t remaining[RIGTEMPLE_MOST_REMAINING], remaining_length;
 static uint8_t place[RIGTEMPLE_MOST_PLACE_BYTES], verdict, offender, ending;
 static uint16_t list[RIGTEMPLE_MOST_LIST_ENTRIES], place_len, number, moves, node, of_printed;
 static uint8_t made[RIGTEMPLE_MOST_CARD_BYTES];
 static size_t wrong;
 
 #define CARD card.bytes, card.len
+#define PROGRAM program.bytes, program.len
+#define LEFT &moves, &ending, remaining, &remaining_length
 #define PARTS c.beliefs, c.goals, c.plan, &c.length, &c.phase, &c.finished
 #define PARTS_READ c.beliefs, c.goals, c.plan, c.length, c.phase, c.finished
 
@@ -46,6 +53,7 @@ static size_t wrong;
     case RUN_9: return of##run##parts(CARD, PARTS, 9, &moves, &ending);                       \
     case SAVE: return of##save##parts(CARD, PARTS_READ, place, sizeof place, &number);        \
     case RESTORE: return of##restore##parts(CARD, place, place_len, PARTS);                   \
+    case DELIBERATE: return of##deliberate##parts(CARD, PROGRAM, PARTS, ENOUGH, LEFT);        \
     case TEXT: return of##text##parts(text.bytes, text.len, made, sizeof made, &number, &wrong); \
     default:                                                                                  \
         return of##print##parts(printed.bytes, printed.len, of_printed, made, sizeof made, &number); \
@@ -61,17 +69,19 @@ static uint16_t engines(int call)
     CALL(engine_, )
 }
 
-/* The configuration after three moves, its place, and the first of its choices; what is read and
- * printed. */
+/* The configuration after three moves, its place, and the first of its choices; the one in which
+ * the first plan is finished, from which the program comes to its end; what is read and printed. */
 static int begin(int which)
 {
     if (which == 0) {
         endless_stripe_card(&card);
+        teaching_program(&program, 3);
         stripe_as_text(&text);
         stripe_card(&printed);
         of_printed = 4;
     } else {
         typical_card(&card);
+        teaching_program(&program, 50);
         full_text(&text);
         printed_list_card(&printed);
         of_printed = 254;
@@ -79,8 +89,15 @@ static int begin(int which)
     if (rigtemple_load(CARD, &c) || rigtemple_run(CARD, &c, BEFORE, &moves, &ending) ||
         rigtemple_save(CARD, &c, place, sizeof place, &place_len))
         return 1;
-    middle = c;
-    return rigtemple_list(CARD, &c, list, sizeof list / 2, &number);
+    middle = woven = c;
+    while (woven.finished == 0)
+        if (rigtemple_run(CARD, &woven, 1, &moves, &ending) || moves == 0)
+            return 1;
+    c = woven;
+    if (rigtemple_deliberate(CARD, PROGRAM, &c, ENOUGH, LEFT) ||
+        ending != RIGTEMPLE_DELIBERATION_FINISHED)
+        return 1;
+    return rigtemple_list(CARD, &middle, list, sizeof list / 2, &number);
 }
 
 int main(int count, char **words)
@@ -90,7 +107,7 @@ int main(int count, char **words)
         return 2;
     int call = (int)strtoul(words[3], NULL, 10);
     for (int i = 0; i < words[4][0] - '0'; i++) {
-        c = middle;
+        c = call == DELIBERATE ? woven : middle;
         answers |= words[1][0] == '0' ? ours(call) : engines(call);
     }
     return answers == 0 ? 0 : 1;

@@ -15,5 +15,5 @@ die() { printf 'run.sh: %s\n' "$*" >&2; exit 2; }
 root=$(cd "$(dirname "$0")/.." && pwd)
 archive=$("$root/tests/archive.sh" "$@")
 "$root/tests/build_c.sh" "$root/target/c/bench" "$root/bench/bench.c" "$root/bench/engine.c" \
-    "$root/tests/cards.c" "$archive"
+    "$root/tests/cards.c" "$root/tests/programs.c" "$archive"
 exec "$root/tests/run_c.sh" "$root/target/c/bench"

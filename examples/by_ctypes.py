@@ -1,11 +1,11 @@
 #!/usr/bin/env python3
-"""The library from Python, by ctypes: python3 by_ctypes.py LIBRIGTEMPLE.SO CARD
+"""The library from Python, by ctypes: python3 by_ctypes.py LIBRIGTEMPLE.SO CARD [PROGRAM]
 
-Loads a card, runs it for 1,000 moves at most and says how many bands are finished; saves the place, restores it and says whether it is
-the same configuration. A refusal ends the program with status 1. HOW-TO-LINK.txt of the library's folder makes the shared object from
-the archive.
+Loads a card, runs it for 1,000 moves at most, by itself or by a program, and says how many bands are finished; saves the place, restores
+it and says whether it is the same configuration. A refusal ends the program with status 1. HOW-TO-LINK.txt of the library's folder makes
+the shared object from the archive.
 
-The symbols of the library are the ten functions `rigtemple_..._parts`, over the parts of a configuration: what rigtemple.h calls
+The symbols of the library are the eleven functions `rigtemple_..._parts`, over the parts of a configuration: what rigtemple.h calls
 `rigtemple_load` and so on is made of them in the header. Declare all their types: an undeclared length would be passed as 32 bits.
 """
 
@@ -14,6 +14,7 @@ import sys
 from ctypes import POINTER, byref, c_char_p, c_size_t, c_uint8, c_uint16
 
 ENDINGS = ("spent", "rest", "full")
+DELIBERATION_ENDINGS = ("spent", "finished", "stuck", "full")
 CARD = (c_char_p, c_size_t)
 SETS_AND_PLAN = (POINTER(c_uint8), POINTER(c_uint8), POINTER(c_uint8))
 READ = (*SETS_AND_PLAN, c_uint16, c_uint8, c_uint16)
@@ -25,6 +26,8 @@ CALLS = {
     "list": (*CARD, *READ, POINTER(c_uint16), c_size_t, POINTER(c_uint16)),
     "take": (*CARD, *LENT, c_uint16, POINTER(c_uint16)),
     "run": (*CARD, *LENT, c_uint16, POINTER(c_uint16), POINTER(c_uint8)),
+    "deliberate": (*CARD, c_char_p, c_size_t, *LENT, c_uint16)
+    + (POINTER(c_uint16), POINTER(c_uint8), POINTER(c_uint8), POINTER(c_uint8)),
     "save": (*CARD, *READ, POINTER(c_uint8), c_size_t, POINTER(c_uint16)),
     "restore": (*CARD, POINTER(c_uint8), c_size_t, *LENT),
     "text": (c_char_p, c_size_t, POINTER(c_uint8), c_size_t, POINTER(c_uint16), POINTER(c_size_t)),
@@ -65,15 +68,32 @@ class Guide:
             raise SystemExit("%s is refused with %d" % (call, answer))
 
 
-def main(library, name):
+def read(name):
     with open(name, "rb") as file:
-        guide = Guide(library, file.read())
-    c, restored = Configuration(), Configuration()
-    moves, ending, size = c_uint16(), c_uint8(), c_uint16()
-    place = (c_uint8 * 1068)()
-    guide("load", *c.lent())
+        return file.read()
+
+
+def run(guide, c):
+    """Runs the card by itself; how it ends, in words."""
+    moves, ending = c_uint16(), c_uint8()
     guide("run", *c.lent(), 1000, byref(moves), byref(ending))
-    print("%s after %d moves" % (ENDINGS[ending.value], moves.value))
+    return "%s after %d moves" % (ENDINGS[ending.value], moves.value)
+
+
+def deliberate(guide, c, program):
+    """Runs the card by a program; how it ends, in words, and the entry numbers that remain."""
+    moves, ending, remaining, count = c_uint16(), c_uint8(), (c_uint8 * 128)(), c_uint8()
+    guide("deliberate", program, len(program), *c.lent(), 1000, byref(moves), byref(ending), remaining, byref(count))
+    left = " ".join(map(str, remaining[: count.value])) or "nothing"
+    return "%s after %d moves, remaining: %s" % (DELIBERATION_ENDINGS[ending.value], moves.value, left)
+
+
+def main(library, name, program=None):
+    guide = Guide(library, read(name))
+    c, restored = Configuration(), Configuration()
+    size, place = c_uint16(), (c_uint8 * 1068)()
+    guide("load", *c.lent())
+    print(deliberate(guide, c, read(program)) if program else run(guide, c))
     print("bands finished: %d" % c.finished.value)
     guide("save", *c.read(), place, len(place), byref(size))
     guide("restore", place, size.value, *restored.lent())
@@ -81,6 +101,6 @@ def main(library, name):
 
 
 if __name__ == "__main__":
-    if len(sys.argv) != 3:
+    if len(sys.argv) not in (3, 4):
         sys.exit(__doc__)
     main(*sys.argv[1:])

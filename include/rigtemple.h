@@ -4,35 +4,36 @@
  * A card is a pattern: the bytes of a file, which the guide only reads. A configuration
  * is where a weaver stands in it: what is believed of the warp, which goals are open, the
  * plan of actions still to be done, the phase, and how many plans are finished. A place is a
- * configuration as bytes to keep. The ten calls below check and grade a card, make the first
- * configuration, list the moves that are possible, take one, run by themselves, save and
- * restore a place, make a card from a designer's text, and print a condition of a card as such
- * text.
+ * configuration as bytes to keep. A program says in a shed's own words which move comes next. The
+ * eleven calls below check and grade a card, make the first configuration, list the moves that are
+ * possible, take one, run by themselves or by a program, save and restore a place, make a card
+ * from a designer's text, and print a condition of a card as such text.
  *
  * What holds for every call:
  *
  *  - It ends, on all bytes and all numbers, and answers a number: 0 for done, another for a
  *    refusal. Where more than one refusal would fit, the card's come first (1 to 9 in that
- *    order), then the place's (1, 2, 3, 4, 8, 9) or the configuration's (13), then 14, 15,
- *    16, 11 and 12. A text is refused with 17, 18, 25, then with what the card that it would
- *    make is refused with, then with 12. No call answers 10.
+ *    order), then the place's (1, 2, 3, 4, 8, 9) or the program's (19) and the configuration's
+ *    (13), then 14, 15, 16, 11 and 12. A text is refused with 17, 18, 25, then with what the
+ *    card that it would make is refused with, then with 12. No call answers 10.
  *  - Every buffer is the caller's. The library keeps no memory, no pointer and no state
  *    between calls, and allocates nothing.
  *  - No pointer may be null, not even beside a length of 0, and no two that are given to
  *    one call may overlap. Pointers to uint16_t are aligned as C has it. Give a buffer to
  *    one thread at a time.
- *  - A card may be any bytes at all: it is judged anew in each call, and a card that is
- *    not good is refused with 1 to 9.
+ *  - A card and a program may be any bytes at all: they are judged anew in each call, and what
+ *    is not good is refused, a card with 1 to 9, a program with 19.
  *
  * Memory to lend: the card (RIGTEMPLE_MOST_CARD_BYTES), a configuration (1,062 bytes), a list
  * of RIGTEMPLE_MOST_LIST_ENTRIES (1,536 bytes) and a place of RIGTEMPLE_MOST_PLACE_BYTES are
- * always enough: 27,794 bytes together. To print takes RIGTEMPLE_MOST_PRINTED_BYTES; a text to be
- * read has no limit.
+ * always enough: 27,794 bytes together. A program takes RIGTEMPLE_MOST_PROGRAM_BYTES at most, and
+ * what remains of it RIGTEMPLE_MOST_REMAINING; to print takes RIGTEMPLE_MOST_PRINTED_BYTES; a text
+ * to be read has no limit.
  *
  * Bytes of stack, as tests/stack.sh measures them on x86-64: check 560, load 736, grade 2,000,
- * list 1,184, take 1,328, run 1,408, save 704, restore 768, text 33,536 (24,976 where nothing
- * nests, 128 more for the first bracket and 272 for each further one), print 1,904. All but text
- * run on a stack of 2,048.
+ * list 1,184, take 1,328, run 1,408, deliberate 2,016, save 704, restore 768, text 33,536 (24,976
+ * where nothing nests, 128 more for the first bracket and 272 for each further one), print 1,904.
+ * All but text run on a stack of 2,048.
  *
  * Save before you show. The weaver acts on what the screen tells; a move that is shown and
  * not kept is lost when the view is torn down, and a band is woven twice. And where a place
@@ -51,9 +52,9 @@ extern "C" {
 
 /* The version of this header's interface. The first number rises with a change that an app has
  * to follow, and the second is then 0; the second rises with what is only added. */
-#define RIGTEMPLE_VERSION "3.0"
+#define RIGTEMPLE_VERSION "3.1"
 #define RIGTEMPLE_VERSION_FIRST 3
-#define RIGTEMPLE_VERSION_SECOND 0
+#define RIGTEMPLE_VERSION_SECOND 1
 
 /* Marks an answer that must not be ignored, for the compilers that know it. */
 #if defined(__cplusplus) && __cplusplus >= 201703L
@@ -73,6 +74,9 @@ extern "C" {
 #define RIGTEMPLE_MOST_PLACE_BYTES 1068 /* the largest place: 44 and the longest plan */
 #define RIGTEMPLE_MOST_LIST_ENTRIES 768 /* choices that there are codes for: no list is longer */
 #define RIGTEMPLE_MOST_PRINTED_BYTES 894 /* the longest condition that is printed */
+#define RIGTEMPLE_ENTRY_BYTES 4          /* an entry of a program */
+#define RIGTEMPLE_MOST_PROGRAM_BYTES 512 /* the longest program: 128 entries */
+#define RIGTEMPLE_MOST_REMAINING 128     /* entry numbers, one byte each: no more ever remain */
 
 /* Answers; rigtemple_answer_name and rigtemple_answer_sentence say them in words. */
 #define RIGTEMPLE_ANSWER_DONE 0
@@ -93,6 +97,7 @@ extern "C" {
 #define RIGTEMPLE_ANSWER_CONDITION 16
 #define RIGTEMPLE_ANSWER_TEXT 17
 #define RIGTEMPLE_ANSWER_NESTED 18
+#define RIGTEMPLE_ANSWER_PROGRAM 19
 #define RIGTEMPLE_ANSWER_LARGE 25
 
 /* The name of an answer, for a log: "plan full" for 11. */
@@ -102,11 +107,11 @@ static inline const char *rigtemple_answer_name(uint16_t answer)
         "done",    "short",         "mark",        "count", "offsets",   "weight",
         "node",    "rule",          "action byte", "atom",  "given up",  "plan full",
         "no room", "configuration", "no rule",     "front", "condition", "text",
-        "nested",
+        "nested",  "program",
     };
     if (answer == RIGTEMPLE_ANSWER_LARGE)
         return "large";
-    return answer <= RIGTEMPLE_ANSWER_NESTED ? names[answer] : "no answer of the guide";
+    return answer <= RIGTEMPLE_ANSWER_PROGRAM ? names[answer] : "no answer of the guide";
 }
 
 /* What an answer says was refused. */
@@ -140,12 +145,15 @@ static inline const char *rigtemple_answer_sentence(uint16_t answer)
         "the text is not of the grammar; the place of the first byte that no continuation could "
         "make right is told with it",
         "brackets and ! nest more than 32 deep in a condition",
+        "the program is not 1 to 128 entries of 4 bytes; or an entry has an unknown kind, a part "
+        "that is not lower, an unknown rule or node, a condition of the wrong kind, or a byte that "
+        "should be zero",
     };
     if (answer == RIGTEMPLE_ANSWER_LARGE)
         return "a number is too large for its field, or there are more entries, nodes or pool "
                "bytes than a card can have; or a printed condition has more than 256 nodes";
-    return answer <= RIGTEMPLE_ANSWER_NESTED ? sentences[answer]
-                                             : "the guide gives no such answer";
+    return answer <= RIGTEMPLE_ANSWER_PROGRAM ? sentences[answer]
+                                              : "the guide gives no such answer";
 }
 
 /* Kinds of moves. */
@@ -170,6 +178,23 @@ static inline const char *rigtemple_answer_sentence(uint16_t answer)
 #define RIGTEMPLE_ENDING_REST 1  /* no move is possible */
 #define RIGTEMPLE_ENDING_FULL 2  /* the next move would leave more than 1,024 actions: not taken */
 
+/* Entries of a program: 1 to 128 of 4 bytes each, a kind, a, b and 0; a byte that a kind does not
+ * use is 0 too. They are numbered from 0, a part has a lower number than the entry that it is a
+ * part of, and several may share one. The last entry is the whole program. */
+#define RIGTEMPLE_ENTRY_EXECUTE 0      /* take the lowest enabled specification */
+#define RIGTEMPLE_ENTRY_APPLY 1        /* apply revision rule a */
+#define RIGTEMPLE_ENTRY_SELECT 2       /* apply selection rule a */
+#define RIGTEMPLE_ENTRY_WHILE_PLAN 3   /* while the plan is not empty do entry b */
+#define RIGTEMPLE_ENTRY_WHILE_BELIEF 4 /* while node a holds, a belief condition, do entry b */
+#define RIGTEMPLE_ENTRY_THEN 5         /* entry a, then entry b */
+#define RIGTEMPLE_ENTRY_OR 6           /* entry a if it has a first move, else entry b */
+
+/* Endings of a deliberation. */
+#define RIGTEMPLE_DELIBERATION_SPENT 0    /* as many moves were made as the budget allows */
+#define RIGTEMPLE_DELIBERATION_FINISHED 1 /* nothing remains of the program */
+#define RIGTEMPLE_DELIBERATION_STUCK 2    /* what remains has no first move */
+#define RIGTEMPLE_DELIBERATION_FULL 3     /* its first move would leave more than 1,024 actions */
+
 /* Verdicts on a card, and what makes it open. */
 #define RIGTEMPLE_VERDICT_BOUNDED 0 /* starting plans weigh at most 1,024, revisions lower it */
 #define RIGTEMPLE_VERDICT_OPEN 1    /* not so; an open card runs too */
@@ -183,12 +208,12 @@ static inline const char *rigtemple_answer_sentence(uint16_t answer)
  * after them are zero. The phase (0, 1 or 2) is the kind of move that the guide tries first:
  * it is part of the place as much as the plan is. `finished` is how many moves have left the
  * plan empty since the card was loaded, and an app shows it as it is: "bands finished". It counts
- * an action that was the plan's last and a revision that leaves nothing, the guide's own and
- * chosen ones alike; at 65,535 it stays, and moves are taken all the same. No move depends on it,
- * and no value of it is refused. The empty configuration is all zeros, and every good card
- * accepts it: after a refused load or restore a run from it may rest at once, like a pattern that
- * is done, so look at the answer first. Compare two by their members: the struct may have padding
- * that no call writes. */
+ * an action that was the plan's last and a revision that leaves nothing, the guide's own, chosen
+ * ones and a program's alike; at 65,535 it stays, and moves are taken all the same. No move
+ * depends on it, and no value of it is refused. The empty configuration is all zeros, and every
+ * good card accepts it: after a refused load or restore a run from it may rest at once, like a
+ * pattern that is done, so look at the answer first. Compare two by their members: the struct may
+ * have padding that no call writes. */
 struct rigtemple_configuration {
     uint8_t beliefs[RIGTEMPLE_SET_BYTES];
     uint8_t goals[RIGTEMPLE_SET_BYTES];
@@ -198,8 +223,8 @@ struct rigtemple_configuration {
     uint16_t finished;
 };
 
-/* ---- the functions of the library: the ten calls over the parts of a configuration.
- * `beliefs` and `goals` are 16 bytes each, `plan` is 1,024 bytes. ---- */
+/* ---- the functions of the library: the eleven calls over the parts of a configuration.
+ * `beliefs` and `goals` are 16 bytes each, `plan` is 1,024 bytes. `remaining` is 128 bytes. ---- */
 
 RIGTEMPLE_LOOK_AT_ANSWER
 uint16_t rigtemple_check_parts(const uint8_t *card, size_t card_len);
@@ -231,6 +256,14 @@ uint16_t rigtemple_run_parts(const uint8_t *card, size_t card_len, uint8_t *beli
                              uint8_t *ending);
 
 RIGTEMPLE_LOOK_AT_ANSWER
+uint16_t rigtemple_deliberate_parts(const uint8_t *card, size_t card_len, const uint8_t *program,
+                                    size_t program_len, uint8_t *beliefs, uint8_t *goals,
+                                    uint8_t *plan, uint16_t *length, uint8_t *phase,
+                                    uint16_t *finished, uint16_t budget, uint16_t *moves,
+                                    uint8_t *ending, uint8_t *remaining,
+                                    uint8_t *remaining_length);
+
+RIGTEMPLE_LOOK_AT_ANSWER
 uint16_t rigtemple_save_parts(const uint8_t *card, size_t card_len, const uint8_t *beliefs,
                               const uint8_t *goals, const uint8_t *plan, uint16_t length,
                               uint8_t phase, uint16_t finished, uint8_t *place,
@@ -250,7 +283,7 @@ RIGTEMPLE_LOOK_AT_ANSWER
 uint16_t rigtemple_print_parts(const uint8_t *card, size_t card_len, uint16_t node, uint8_t *text,
                                size_t room_in_bytes, uint16_t *bytes);
 
-/* ---- the ten calls ---- */
+/* ---- the eleven calls ---- */
 
 /* Judges a card.
  * Answers 0 if it is good, and 1 to 9 if it is not. Nothing is written. */
@@ -338,6 +371,41 @@ static inline uint16_t rigtemple_run(const uint8_t *card, size_t card_len,
 {
     return rigtemple_run_parts(card, card_len, c->beliefs, c->goals, c->plan, &c->length,
                                &c->phase, &c->finished, budget, moves, ending);
+}
+
+/* Moves by a program of the shed's own, for `budget` moves at most, and changes `c` to the
+ * configuration reached.
+ * A program, of RIGTEMPLE_ENTRY_... entries, says which move is made next, where rigtemple_run goes
+ * by the phase. An execute, an apply and a select make one move of the card, which changes `c` as
+ * a chosen one does, its phase and `finished` too. A `while` makes an idle move, which counts as
+ * one move and leaves `c` as it is: if its condition holds, its body is next and then the `while`
+ * again, else it is done. So a `while` always has a first move, and an `or` with one on its left
+ * never takes its right; nor does an `or` whose left is enabled but would leave too long a plan.
+ * `moves` becomes the number of moves made, idle ones too, and `ending` why it stopped, looked at
+ * in this order before each move: spent, finished, stuck or full. So a program that is done with
+ * the last move of its budget is spent, and none remains.
+ * What remains of the program are entry numbers, to be done one after the other. All 128 bytes of
+ * `remaining` are written, the next number first, then zeros, and how many numbers they are goes to
+ * `remaining_length`, for 0 is an entry's number too. At first the last entry's alone remains, and
+ * a sequence is one number until a move is made in it. Stuck and full leave what could not be done.
+ * To go on later keep the program and the remaining numbers beside the place, which does not hold
+ * them. They are gone on with as a program of their own: the entries up to the greatest of the
+ * numbers and, if there are several, entries behind them that join them: for x, y and z one
+ * "y then z", and one "x then" that one. A program of at most 64 entries has room for that, and
+ * for doing so again.
+ * Answers 0 (with each of the four endings), or 1 to 9, 19, or 13. A refusal leaves `c` as it came
+ * in, and writes 0 to `moves`, RIGTEMPLE_DELIBERATION_SPENT to `ending`, 128 zeros to `remaining`
+ * and 0 to `remaining_length`. */
+RIGTEMPLE_LOOK_AT_ANSWER
+static inline uint16_t rigtemple_deliberate(const uint8_t *card, size_t card_len,
+                                            const uint8_t *program, size_t program_len,
+                                            struct rigtemple_configuration *c, uint16_t budget,
+                                            uint16_t *moves, uint8_t *ending, uint8_t *remaining,
+                                            uint8_t *remaining_length)
+{
+    return rigtemple_deliberate_parts(card, card_len, program, program_len, c->beliefs, c->goals,
+                                      c->plan, &c->length, &c->phase, &c->finished, budget, moves,
+                                      ending, remaining, remaining_length);
 }
 
 /* Saves a configuration as a place. `room_in_bytes` is how many bytes `place` has;

@@ -15,6 +15,7 @@ import damage
 import drill
 import guide
 import prints
+import schemes
 import text
 import texts
 
@@ -23,14 +24,15 @@ REQUEST_LIMIT = 50
 # The longest card that a request 0 can hold.
 CARD_BYTES_LIMIT = 65535
 
-CALL_NAMES = ("check", "load", "grade", "list", "take", "run", "save", "restore", "text", "print")
-ANSWER_NUMBERS = (*range(19), 25)
+CALL_NAMES = ("check", "load", "grade", "list", "take", "run", "save", "restore")
+CALL_NAMES += ("text", "print", "deliberate")
+ANSWER_NUMBERS = (*range(20), 25)
 CALLS_ON_CONFIGURATIONS = (drill.LIST, drill.TAKE, drill.RUN, drill.SAVE)
 
 
 class Case(NamedTuple):
     """A case: its name (which clause or shape), a card, and requests about it
-    (kinds 1 to 10 of the drill). A text is read whatever the card is."""
+    (kinds 1 to 11 of the drill). A text is read whatever the card is."""
 
     name: str
     card: bytes
@@ -87,6 +89,19 @@ def read_text(request):
 def request_print(node, room):
     """10 print: node (2), room (2)."""
     return bytes([drill.PRINT]) + drill.two(node) + drill.two(room)
+
+
+def request_deliberate(random, program, configuration, budget):
+    """11 deliberate: length n (2), n bytes of program, image, budget (2)."""
+    about = request_about(random, drill.DELIBERATE, configuration, budget)
+    return about[:1] + drill.two(len(program)) + program + about[1:]
+
+
+def read_deliberate(request):
+    """The program, the configuration and the budget of a request 11."""
+    reader = drill.Reader(request[1:])
+    program = reader.next_bytes(reader.number(drill.PROGRAM_LIMIT))
+    return program, reader.image(), reader.number()
 
 
 def stream(cases):
@@ -512,7 +527,58 @@ def generate_texts(seed, count, largest=24128):
         yield text_case(Random("%s text %d" % (seed, index)), items, largest)
 
 
+# --- cases of programs ------------------------------------------------------
+
+
+def program_requests(random, card, accepted, count):
+    """So many programs about a good card, the configurations now and then damaged."""
+    held, made = some_configurations(random, card, accepted), []
+    for _ in range(count):
+        whole, found = schemes.some_program(random, card, accepted, random.choice(held))
+        budget = schemes.some_budget(random, card, whole, found)
+        if random.random() < 0.1:
+            one = random.choice(damage.CONFIGURATION_DAMAGES)
+            found = one.change(random, accepted, found) or found
+        made.append(request_deliberate(random, whole, found, budget))
+    return made
+
+
+def refused_card_requests(random, card, count):
+    """So many programs about a refused card, good ones and broken ones."""
+    base = cards.card(cards.roomy_card(random, 700))
+    _, accepted = guide.judge(base)
+    made = []
+    for _ in range(count):
+        held = random_configuration(random, accepted)
+        whole, found = schemes.some_program(random, base, accepted, held)
+        made.append(request_deliberate(random, whole, found, random.choice((0, 1, 9, 65535))))
+    return made
+
+
+def program_case(random, items, largest):
+    """A case of programs, nine of ten about a good card."""
+    if random.random() < 0.1:
+        card = next_damaged_case(random, items, largest).card
+    else:
+        card = cards.card(cards.good_card(random, largest))
+    _, accepted = guide.judge(card)
+    if accepted is None:
+        return Case("programs", card, refused_card_requests(random, card, 3))
+    return Case("programs", card, program_requests(random, card, accepted, 10))
+
+
+def generate_programs(seed, count, largest=24128):
+    """So many cases of programs, by seed: no card of more than `largest` bytes."""
+    items = itertools.cycle(damage_order(seed))
+    for index in range(count):
+        yield program_case(Random("%s program %d" % (seed, index)), items, largest)
+
+
 # --- the command ------------------------------------------------------------
+
+
+# The width of a column of the table.
+COLUMN = 11
 
 
 def count_answers(cases, requests, answers):
@@ -531,13 +597,16 @@ def count_answers(cases, requests, answers):
 
 def table(met):
     """The table of the answers met: a line a number, a column a call."""
-    lines = ["answer" + "".join("%9s" % name for name in CALL_NAMES) + "%9s" % "all"]
+    rows = [("answer", CALL_NAMES + ("all",))]
     for number in ANSWER_NUMBERS:
         counts = [column[number] for column in met]
-        lines.append("%6d" % number + "".join("%9d" % count for count in counts + [sum(counts)]))
+        rows.append((number, counts + [sum(counts)]))
     totals = [sum(column) for column in met]
-    lines.append("   all" + "".join("%9d" % count for count in totals + [sum(totals)]))
-    return "\n".join(lines)
+    rows.append(("all", totals + [sum(totals)]))
+    return "\n".join(
+        str(first).rjust(6) + "".join(str(one).rjust(COLUMN) for one in others)
+        for first, others in rows
+    )
 
 
 def main():
@@ -546,6 +615,7 @@ def main():
     parser.add_argument("--seed", required=True)
     parser.add_argument("--cards", type=int, required=True)
     parser.add_argument("--texts", type=int, default=0)
+    parser.add_argument("--programs", type=int, default=0)
     parser.add_argument("--largest", type=int, default=24128)
     parser.add_argument("--requests", required=True)
     parser.add_argument("--answers", required=True)
@@ -553,6 +623,7 @@ def main():
     cases = itertools.chain(
         generate(asked.seed, asked.cards, min(asked.largest, CARD_BYTES_LIMIT)),
         generate_texts(asked.seed, asked.texts, asked.largest),
+        generate_programs(asked.seed, asked.programs, min(asked.largest, CARD_BYTES_LIMIT)),
     )
     with open(asked.requests, "wb") as requests, open(asked.answers, "wb") as answers:
         met = count_answers(cases, requests, answers)

@@ -1,16 +1,17 @@
 """The drill: requests on standard input, an answer for each on standard output.
 
-The requests and answers are those of drill.md, with what the requests 1, 2 and 4 of
+The requests and answers are those of drill.md, with what the requests 1, 2, 4 and 6 of
 document 02 add to them; numbers of two or four bytes are low byte first.
 """
 
 import struct
 import sys
 
+import deliberation
 import guide
 import text
 
-CARD, CHECK, LOAD, GRADE, LIST, TAKE, RUN, SAVE, RESTORE, TEXT, PRINT = range(11)
+CARD, CHECK, LOAD, GRADE, LIST, TAKE, RUN, SAVE, RESTORE, TEXT, PRINT, DELIBERATE = range(12)
 
 IMAGE_LIMIT = 1024
 LIST_LIMIT = 1024
@@ -19,6 +20,7 @@ PLACE_LIMIT = 4096
 TEXT_LIMIT = 65536
 CARD_ROOM_LIMIT = 24200
 PRINT_ROOM_LIMIT = 2048
+PROGRAM_LIMIT = 1024
 
 # "It is lent filled with EEEE hex", "lent filled with EE hex".
 LENT = 0xEE
@@ -157,6 +159,17 @@ def answer_print(card, reader):
     return two(number) + two(len(printed)) + lent(printed, room)
 
 
+def answer_deliberate(card, reader):
+    """11 deliberate: number (2), image, count (2), ending (1), m (2), "the remaining
+    program: m numbers of one byte"."""
+    program = reader.next_bytes(reader.number(PROGRAM_LIMIT))
+    configuration, budget = reader.image(), reader.number()
+    found = deliberation.deliberate(card, program, configuration, budget)
+    number, configuration, count, ending, remaining = found
+    moved = two(number) + image(configuration) + two(count) + bytes([ending])
+    return moved + two(len(remaining)) + bytes(remaining)
+
+
 def lent(written, size):
     """A lent buffer of `size` bytes afterwards: "what lies after them stays"."""
     return written + bytes([LENT]) * (size - len(written))
@@ -173,6 +186,7 @@ ANSWERS = {
     RESTORE: answer_restore,
     TEXT: answer_text,
     PRINT: answer_print,
+    DELIBERATE: answer_deliberate,
 }
 
 

@@ -6,8 +6,9 @@ writes against the second.
     python3 oracle/stored.py --check    # says whether the files are just that
 
 Both files follow from a fixed seed and hold every clause of document 01's refusal
-table and of those of the requests 1 and 2, every range just inside, the edges of plans,
-rooms and budgets, the finished count of request 4 and the goals struck by request 5.
+table and of those of the requests 1, 2 and 6, every range just inside, the edges of
+plans, rooms and budgets, the finished count of request 4, the goals struck by request 5,
+and programs of request 6.
 """
 
 import argparse
@@ -17,6 +18,7 @@ import os
 import sys
 from random import Random
 
+import broken
 import cards
 import cases
 import closed
@@ -25,6 +27,8 @@ import drill
 import finished
 import guide
 import prints
+import programs
+import schemes
 import slips
 import struck
 import text
@@ -632,6 +636,116 @@ def print_cases():
         yield Case("prints %d" % index, card, cases.print_requests(random, card, 6))
 
 
+# --- programs ---------------------------------------------------------------
+
+# Of the programs by seed, longer requests are left out.
+LONG_PROGRAM = 260
+
+# A good program on the card of the programs by hand, and a configuration with a finished
+# count.
+GOOD_ENTRIES = programs.REPAIR + [programs.while_plan(2)]
+GOOD_HELD = closed.configuration((), (0,), (0, 1), 1, 300)
+
+
+def programs_by_hand():
+    """The programs by hand, all those about one card together."""
+    for card, some in itertools.groupby(programs.by_hand(), key=lambda one: one.card):
+        random = random_of("programs by hand", card)
+        made = [
+            cases.request_deliberate(random, one.program, one.held, one.budget) for one in some
+        ]
+        yield Case("programs by hand", card, made)
+
+
+def clause_programs(one):
+    """The bytes of a program with a clause broken or a limit just kept, once."""
+    _, accepted = guide.judge(programs.SHED)
+    return one.change(random_of(one.name), accepted, GOOD_ENTRIES)
+
+
+def clause_requests(name, damages, held):
+    """A program for each of some damages, from a configuration."""
+    random = random_of(name)
+    return [
+        cases.request_deliberate(random, clause_programs(one), held, random.choice((0, 1, 9)))
+        for one in damages
+    ]
+
+
+def program_clauses():
+    """Each clause of 19 alone, with 13 and with 9 at once, "after 9 and before 13"; and
+    each limit just kept, alone and with 13."""
+    wrong = GOOD_HELD._replace(phase=3)
+    atoms = cards.card(programs.shed_card())
+    atoms = atoms[:32] + b"\x02" + atoms[33:]
+    for name, card, damages, held in (
+        ("program clauses alone", programs.SHED, broken.PROGRAM_DAMAGES, GOOD_HELD),
+        ("program clauses and 13", programs.SHED, broken.PROGRAM_DAMAGES, wrong),
+        ("program clauses and 9", atoms, broken.PROGRAM_DAMAGES, GOOD_HELD),
+        ("program ranges", programs.SHED, broken.PROGRAM_RANGES, GOOD_HELD),
+        ("program ranges and 13", programs.SHED, broken.PROGRAM_RANGES, wrong),
+        ("program ranges and 9", atoms, broken.PROGRAM_RANGES[:3], wrong),
+    ):
+        yield Case(name, card, clause_requests(name, damages, held))
+
+
+def program_configurations():
+    """Each clause of 13 with a good program, and each range just inside."""
+    random, made = random_of("program configurations"), []
+    _, accepted = guide.judge(programs.SHED)
+    whole = programs.program(GOOD_ENTRIES)
+    for one in damage.CONFIGURATION_DAMAGES + damage.CONFIGURATION_RANGES:
+        held = one.change(random, accepted, GOOD_HELD)
+        if held is not None:
+            made.append(cases.request_deliberate(random, whole, held, 3))
+    return Case("program configurations", programs.SHED, made)
+
+
+def program_cards():
+    """A good program, and a broken one with a broken configuration, about cards of each
+    refusal."""
+    for number in range(1, 10):
+        one = damage.damages_of(number)[0]
+        name = "program and " + one.name
+        random = random_of(name)
+        made = [
+            cases.request_deliberate(random, whole, held, 3)
+            for whole, held in (
+                (programs.program(GOOD_ENTRIES), GOOD_HELD),
+                (b"", GOOD_HELD._replace(phase=3)),
+            )
+        ]
+        yield Case(name, damaged_case(one.name, (one,)).card, made)
+
+
+def seeded_programs():
+    """Programs by seed, the shorter ones; and a few of the longer ones."""
+    for index in range(60):
+        random = random_of("programs", index)
+        card = cards.card(cards.good_card(random, SIZES[1]))
+        made = cases.program_requests(random, card, guide.judge(card)[1], 12)
+        short = [request for request in made if len(request) <= LONG_PROGRAM]
+        yield Case("programs %d" % index, card, short[:8])
+    for index in range(6):
+        random = random_of("long programs", index)
+        card, accepted = small_card(random)
+        made = []
+        for make in (schemes.shared, schemes.deep):
+            whole = programs.program(make(random, accepted))
+            held = short_configuration(random, accepted)
+            made.append(cases.request_deliberate(random, whole, held, random.choice((3, 60, 900))))
+        yield Case("long programs %d" % index, card, made)
+
+
+def program_cases():
+    """Programs by hand; each clause of 19 and its order among the others; by seed."""
+    yield from programs_by_hand()
+    yield from program_clauses()
+    yield program_configurations()
+    yield from program_cards()
+    yield from seeded_programs()
+
+
 # --- all --------------------------------------------------------------------
 
 
@@ -643,6 +757,10 @@ def seeded_cases():
 
 def narrowed(request):
     """The same request with the least m in its image."""
+    if request[0] == drill.DELIBERATE:
+        program, held, budget = cases.read_deliberate(request)
+        first = request[:1] + drill.two(len(program)) + program
+        return first + drill.image(held) + drill.two(budget)
     if request[0] not in cases.CALLS_ON_CONFIGURATIONS:
         return request
     kind, held, value = cases.read_about(request)
@@ -671,6 +789,7 @@ def all_cases():
         seeded_cases(),
         text_cases(),
         print_cases(),
+        program_cases(),
     )
 
 

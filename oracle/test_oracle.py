@@ -1,13 +1,15 @@
 """Tests of the oracle: document 01's cases P1 to P13, its program's lines, the
 damages' numbers, the closed moves of request 1, the finished count of request 4, the
 struck goals of request 5, the drill's bytes, that a seed gives the same bytes, and what
-the stored requests hold. Those of request 2 are in `test_text.py` and run with these."""
+the stored requests hold. Those of request 2 are in `test_text.py`, those of request 6 in
+`test_deliberation.py`; they run with these."""
 
 import time
 from collections import Counter
 import unittest
 from random import Random
 
+import broken
 import cards
 import cases
 import closed
@@ -16,9 +18,11 @@ import drill
 import finished
 import guide
 import program
+import programs
 import slips
 import stored
 import struck
+import test_deliberation
 import test_text
 import text
 import texts
@@ -747,6 +751,7 @@ class Stored(unittest.TestCase):
         "restore": set(range(10)),
         "text": {0, 3, 5, 6, 7, 8, 9, 12, 17, 18, 25},
         "print": set(range(10)) | {12, 18, 25},
+        "deliberate": set(range(10)) | {13, 19},
     }
 
     @classmethod
@@ -1024,6 +1029,58 @@ class Stored(unittest.TestCase):
         self.assertLessEqual({-1, 0, 1}, spare)
 
 
+    def test_programs_by_hand(self):
+        """Each program by hand is asked, and answered as is written beside it."""
+        named = [case for case in self.cases if case.name == "programs by hand"]
+        asked = [(case.card, request) for case in named for request in case.requests]
+        expected = list(programs.by_hand())
+        self.assertEqual(len(asked), len(expected))
+        for (card, request), one in zip(asked, expected):
+            self.assertEqual((card, *cases.read_deliberate(request)), (card, *one[2:5]))
+            answer = drill.answer(card, request)
+            last = drill.two(one.count) + bytes([one.ending])
+            last += drill.two(len(one.remaining)) + bytes(one.remaining)
+            self.assertEqual(answer, b"\0\0" + drill.image(one.after) + last, one.name)
+
+    def test_clauses_of_programs(self):
+        """Each clause of 19 alone, before 13 and behind 9, and each limit just kept."""
+        count, ranges = len(broken.PROGRAM_DAMAGES), len(broken.PROGRAM_RANGES)
+        for name, expected in (
+            ("program clauses alone", [19] * count),
+            ("program clauses and 13", [19] * count),
+            ("program clauses and 9", [9] * count),
+            ("program ranges", [0] * ranges),
+            ("program ranges and 13", [13] * ranges),
+            ("program ranges and 9", [9] * 3),
+        ):
+            self.assertEqual(self.numbers(self.named[name]), expected, name)
+        for number in range(1, 10):
+            name = "program and " + damage.damages_of(number)[0].name
+            self.assertEqual(self.numbers(self.named[name]), [number] * 2)
+
+    def test_edges_of_programs(self):
+        """Each ending with the budgets 2 and 65,535, programs of 1 and of 128 entries,
+        remaining programs of up to 128 numbers, and runs of 65,535 moves. With budget 1
+        none is finished, as a program has a move to make or is stuck."""
+        endings, sizes, left, counts = set(), set(), set(), set()
+        for _, asked, answer in self.each(drill.DELIBERATE):
+            whole, _, budget = cases.read_deliberate(asked)
+            reader = drill.Reader(answer)
+            if reader.number() == 0:
+                reader.image()
+                count, ending = reader.number(), reader.byte()
+                endings.add((budget, ending))
+                sizes.add(len(whole) // 4)
+                left.add(reader.number())
+                counts.add(count)
+        self.assertLessEqual({(budget, e) for budget in (2, 65535) for e in range(4)}, endings)
+        self.assertEqual({e for budget, e in endings if budget == 0}, {0})
+        self.assertEqual({e for budget, e in endings if budget == 1}, {0, 2, 3})
+        self.assertLessEqual({1, 2, 3, 127, 128}, sizes)
+        self.assertLessEqual({0, 1, 2, 3, 126, 127, 128}, left)
+        self.assertLessEqual({0, 1, 2, 32768, 65535}, counts)
+
+
 class DrillBytes(unittest.TestCase):
     """The drill's requests and answers, written out by hand."""
 
@@ -1099,6 +1156,19 @@ class DrillBytes(unittest.TestCase):
         found = self.answers(b"\x06" + held + b"\x09\0")
         self.assertEqual(found, b"\x0d\0" + back + b"\0\0\0")
 
+    def test_deliberate(self):
+        """The stripe card: select 0 and then execute, in a budget of 1: the second
+        remains; in a budget of 2 it is stuck with that. A program of no bytes: 19."""
+        asked = bytes([2, 0, 0, 0, 0, 0, 0, 0, 5, 0, 1, 0])
+        about = b"\x0b\x0c\0" + asked + self.LOADED
+        after = self.LOADED[:32] + bytes([1, 0, 1, 0, 0, 1, 0, 4])
+        found = self.answers(about + b"\x01\0", about + b"\x02\0")
+        for ending, at in ((b"\0", 0), (b"\x02", 1)):
+            answer = b"\0\0" + after + b"\x01\0" + ending + b"\x01\0\x01"
+            self.assertEqual(found[at * len(answer):][:len(answer)], answer)
+        refused = self.answers(b"\x0b\0\0" + self.LOADED + b"\x02\0")
+        self.assertEqual(refused, b"\x13\0" + self.LOADED + bytes(5))
+
     def test_broken_requests_end_the_program(self):
         """A request that breaks the rules ends the program; answers so far are
         written."""
@@ -1110,6 +1180,7 @@ class DrillBytes(unittest.TestCase):
             b"\x07" + image + b"\x01\x08",
             b"\x08\x01\x10" + bytes(4097),
             b"\x05" + image[:-2] + b"\x01\x04" + bytes(1025) + b"\0\0",
+            b"\x0b\x01\x04" + bytes(1025) + image + b"\0\0",
         ]
         for request in broken:
             self.assertEqual(self.answers(b"\x01", request, b"\x01"), b"\0\0")
@@ -1123,8 +1194,9 @@ class DrillBytes(unittest.TestCase):
 
 
 def load_tests(loader, tests, pattern):
-    """The tests of this file, and those of request 2."""
+    """The tests of this file, and those of the requests 2 and 6."""
     tests.addTests(loader.loadTestsFromModule(test_text))
+    tests.addTests(loader.loadTestsFromModule(test_deliberation))
     return tests
 
 

@@ -17,8 +17,8 @@ text=$(stated text)
 [ -n "$text" ] || die "the header states no bytes of stack for text"
 text=$(((text + 15) / 16 * 16)) # a stack is aligned so
 archive=$("$tests/archive.sh")
-"$tests/build_c.sh" "$work/bound" "$tests/bound.c" "$tests/calls.c" "$tests/cards.c" "$tests/texts.c" \
-    "$archive"
+"$tests/build_c.sh" "$work/bound" "$tests/bound.c" "$tests/calls.c" "$tests/cards.c" \
+    "$tests/programs.c" "$tests/texts.c" "$archive"
 passed=0
 failed=0
 
@@ -30,10 +30,10 @@ hold() { # WANTED CALL BYTES
     "$1"*) passed=$((passed + 1)) fault= ;;
     *) failed=$((failed + 1)) fault="; failed: wanted is '$1'" ;;
     esac
-    printf '%-8s %6d bytes of stack: %s%s\n' "$2" "$3" "${said:-nothing is said}" "$fault"
+    printf '%-10s %6d bytes of stack: %s%s\n' "$2" "$3" "${said:-nothing is said}" "$fault"
 }
 
-for call in check load grade list take run save restore print; do
+for call in check load grade list take run save restore deliberate print; do
     hold ok "$call" 2048
 done
 hold ok text "$text"

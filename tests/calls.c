@@ -3,6 +3,7 @@
 
 #include "calls.h"
 #include "cards.h"
+#include "programs.h"
 #include "texts.h"
 
 enum { LENT = 0xEE };
@@ -11,6 +12,7 @@ enum { LENT = 0xEE };
 
 /* What they are made on, and the configuration that is lent. */
 static struct card_bytes card;
+static struct program_bytes program;
 static struct text_bytes text;
 static struct rigtemple_configuration held;
 static uint8_t kept[RIGTEMPLE_MOST_PLACE_BYTES];
@@ -55,6 +57,13 @@ static uint16_t call_run(void)
     return rigtemple_run(card.bytes, card.len, &lent.c, 500, &lent.moves, &lent.ending);
 }
 
+static uint16_t call_deliberate(void)
+{
+    return rigtemple_deliberate(card.bytes, card.len, program.bytes, program.len, &lent.c, 500,
+                                &lent.moves, &lent.ending, lent.remaining,
+                                &lent.remaining_length);
+}
+
 static uint16_t call_save(void)
 {
     return rigtemple_save(card.bytes, card.len, &lent.c, lent.place, sizeof lent.place,
@@ -78,7 +87,7 @@ static uint16_t call_print(void)
                            &lent.bytes);
 }
 
-enum { CHECK, LOAD, GRADE, LIST, TAKE, RUN, SAVE, RESTORE, TEXT, PRINT };
+enum { CHECK, LOAD, GRADE, LIST, TAKE, RUN, SAVE, RESTORE, DELIBERATE, TEXT, PRINT };
 
 const struct call calls[CALLS] = {
     [CHECK] = {"check", call_check}, [LOAD] = {"load", call_load},
@@ -86,17 +95,45 @@ const struct call calls[CALLS] = {
     [TAKE] = {"take", call_take},    [RUN] = {"run", call_run},
     [SAVE] = {"save", call_save},    [RESTORE] = {"restore", call_restore},
     [TEXT] = {"text", call_text},    [PRINT] = {"print", call_print},
+    [DELIBERATE] = {"deliberate", call_deliberate},
 };
 
 /* ---- the cases ---- */
 
 const char *made_on, *made_with;
 
-/* The eight calls on the card and the configuration at hand, take with each of some choices. */
-static void each_of_eight(void (*visit)(unsigned call), const char *with)
+/* While the plan is not empty the last revision rule of the card at hand, or else an action. */
+static void last_rule_program(void)
+{
+    program.len = 0;
+    put_entry(&program, RIGTEMPLE_ENTRY_EXECUTE, 0, 0);
+    put_entry(&program, RIGTEMPLE_ENTRY_APPLY, card.bytes[20] + 256u * card.bytes[21] - 1, 0);
+    put_entry(&program, RIGTEMPLE_ENTRY_OR, 1, 0);
+    put_entry(&program, RIGTEMPLE_ENTRY_WHILE_PLAN, 0, 2);
+}
+
+/* Deliberations on the card and the configuration at hand. */
+static void each_program(void (*visit)(unsigned call))
+{
+    teaching_program(&program, 1);
+    visit(DELIBERATE);
+    last_rule_program();
+    visit(DELIBERATE);
+    for (unsigned kind = RIGTEMPLE_ENTRY_WHILE_PLAN; kind <= RIGTEMPLE_ENTRY_OR; kind++) {
+        tower_program(&program, kind);
+        visit(DELIBERATE);
+    }
+    program.len -= 1; /* which is refused */
+    visit(DELIBERATE);
+}
+
+/* The nine calls on the card and the configuration at hand, take with each of some choices, and
+ * deliberate with each of some programs. */
+static void each_of_nine(void (*visit)(unsigned call), const char *with)
 {
     static const uint16_t choices[] = {0, 255, 256, 511, 512, 513, 767, 65535};
     made_with = with;
+    each_program(visit);
     for (unsigned call = CHECK; call <= RESTORE; call++)
         if (call != TAKE)
             visit(call);
@@ -112,7 +149,7 @@ static void each_phase(void (*visit)(unsigned call), const char *with)
     for (held.phase = 0; held.phase < 3; held.phase++) {
         if (rigtemple_save(card.bytes, card.len, &held, kept, sizeof kept, &kept_len) != 0)
             kept_len = 0;
-        each_of_eight(visit, with);
+        each_of_nine(visit, with);
     }
 }
 
@@ -132,13 +169,13 @@ static void on_card(void (*visit)(unsigned call), const char *on)
     each_node(visit, on);
     kept_len = 0;
     if (rigtemple_load(card.bytes, card.len, &held) == 0)
-        each_of_eight(visit, "its first configuration");
+        each_of_nine(visit, "its first configuration");
     memset(held.plan, 0, sizeof held.plan);
     held.length = 0;
     each_phase(visit, "no plan");
     held.length = RIGTEMPLE_MOST_PLAN_ACTIONS;
     each_phase(visit, "a plan of 1,024 actions");
-    each_of_eight(visit, "a configuration in phase 3");
+    each_of_nine(visit, "a configuration in phase 3");
     memset(held.beliefs, 0, sizeof held.beliefs);
     each_phase(visit, "a plan of 1,024 actions and no beliefs");
     held.length = 0;

@@ -1,5 +1,5 @@
 /*
- * The ten calls of include/rigtemple.h, each as a function without arguments, and the cases in
+ * The eleven calls of include/rigtemple.h, each as a function without arguments, and the cases in
  * which they are made: tests/stack.c measures the stack of these, and tests/bound.c holds these to
  * their bounds.
  */
@@ -8,7 +8,7 @@
 
 #include "../include/rigtemple.h"
 
-enum { CALLS = 10 };
+enum { CALLS = 11 };
 
 /* A call through the header: `make` answers what it answers. */
 struct call {
@@ -26,6 +26,7 @@ struct lent {
     uint8_t place[RIGTEMPLE_MOST_PLACE_BYTES];
     uint8_t card[RIGTEMPLE_MOST_CARD_BYTES];
     uint8_t text[RIGTEMPLE_MOST_PRINTED_BYTES];
+    uint8_t remaining[RIGTEMPLE_MOST_REMAINING], remaining_length;
     uint16_t bytes;
     size_t wrong;
 };
@@ -41,8 +42,10 @@ extern const char *made_on, *made_with;
  * the stripe card, that one made endless, the typical card, the two worst, the shared-nodes card,
  * the deepest card and a refused one, each with its first configuration, with no plan and with one
  * of 1,024 actions, in each phase, with beliefs and without, and with a configuration that is
- * refused; for print every node of these cards and of two that print much; for text texts with few
- * and many lines, nested 32 to 34 deep, and 60,000 brackets deep. */
+ * refused; for deliberate the same with programs that revise and act by the card's first rules and
+ * by its last, with 128 entries that share their parts, of each kind that has some, and with a
+ * refused program; for print every node of these cards and of two that print much; for text texts
+ * with few and many lines, nested 32 to 34 deep, and 60,000 brackets deep. */
 void each_case(void (*visit)(unsigned call));
 
 #endif

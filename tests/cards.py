@@ -1,13 +1,15 @@
 #!/usr/bin/env python3
 """Holds cards/ against the oracle. The last line is 'N passed, M failed'.
 
-    python3 tests/cards.py            the cards' bytes; what the gate runs the two programs for texts on; the lines of `./rigtemple`
-                                      for each file of cards/, the card that it writes of each text card, the stripe card as text;
-                                      and that cards/explain.py finds a line in each refused text of the oracle
+    python3 tests/cards.py            the cards' bytes; the two sheds' programs, as cards/README.md has their entries and their moves;
+                                      what the gate runs the two programs for texts on; the lines of `./rigtemple` for each file of
+                                      cards/, the card that it writes of each text card, the stripe card as text; and that
+                                      cards/explain.py finds a line in each refused text of the oracle
     python3 tests/cards.py --bytes    all of it but what needs the programs
-    python3 tests/cards.py --write    writes the cards that no text says, as they are described here
+    python3 tests/cards.py --write    writes the cards that no text says, as they are described here, and the two sheds' programs
 
-A card that a text can say is kept as that text alone. The others are described here in the oracle's words (oracle/cards.py).
+A card that a text can say is kept as that text alone. The others are described here in the oracle's words (oracle/cards.py); the
+sheds' programs are those of oracle/programs.py.
 """
 
 import glob
@@ -22,8 +24,11 @@ TOP = os.path.dirname(os.path.dirname(os.path.abspath(__file__)))
 FOLDER = os.path.join(TOP, "cards")
 sys.path[:0] = [os.path.join(TOP, "oracle"), FOLDER]
 import cards  # noqa: E402
+import deliberation  # noqa: E402
 import explain  # noqa: E402
+import guide  # noqa: E402
 import program  # noqa: E402
+import programs  # noqa: E402
 import slips  # noqa: E402
 import text  # noqa: E402
 import texts  # noqa: E402
@@ -102,6 +107,82 @@ PLAIN_STRIPE = re.sub(rb"(?m)^#.*\n| #.*", b"", slips.STRIPE_TEXT)
 
 MADE = {"stripe": cards.stripe_card, "loop": loop, "edition": edition, "shared": shared, "maximal": maximal}
 
+# ---- the two sheds
+
+SHEDS = {"teaching": programs.TEACHING, "fast": programs.FAST}
+KINDS = ("select", "act", "revise")
+ENDINGS = ("spent", "finished", "stuck", "full")
+BUDGET = 1000
+
+# A line behind the other "do" lines of stripe.text: a pick is woven as it is, with a broken thread, too.
+WOVEN_PICK = b"do 3 if B1 add 2 del 1\n"
+
+
+def woven_card():
+    """The stripe card's text with that line, as a card."""
+    before, rest = slips.STRIPE_TEXT.split(b"select", 1)
+    return text.read(before + WOVEN_PICK + b"select" + rest, cards.CARD_LIMIT)[2]
+
+
+def made_between(card, before, after):
+    """A move in words: idle, if it leaves the configuration as it is."""
+    if before == after:
+        return "idle"
+    codes = guide.list_choices(card, before, 1024)[2]
+    kind, number = divmod(next(code for code in codes if guide.take(card, before, code)[2] == after), 256)
+    return "%s %d" % (KINDS[kind], number)
+
+
+def numbers(values):
+    return " ".join(map(str, values)) or "none"
+
+
+def moves_of(card, whole):
+    """What a program makes of a card, move by move: the words, the plan afterwards, and what then remains."""
+    held = guide.load(card)[1]
+    count = deliberation.deliberate(card, whole, held, BUDGET)[2]
+    for budget in range(1, count + 1):
+        reached, remaining = deliberation.deliberate(card, whole, guide.load(card)[1], budget)[1::3]
+        yield made_between(card, held, reached), numbers(reached.plan[: reached.length]), numbers(remaining)
+        held = reached
+
+
+def table(rows):
+    return "".join("| %s |\n" % " | ".join(row) for row in rows)
+
+
+def end_of(card, whole):
+    """How a program ends on a card, in words."""
+    _, reached, count, ending, _ = deliberation.deliberate(card, whole, guide.load(card)[1], BUDGET)
+    believed = [k for k in range(128) if reached.beliefs[k // 8] >> k % 8 & 1]
+    return "%s after %d moves, with the beliefs %s" % (ENDINGS[ending], count, numbers(believed))
+
+
+def sheds_kept():
+    """The sheds' programs are what cards/README.md says, and go as it says."""
+    readme = read("README.md").decode()
+    flat = " ".join(readme.split())
+    yield "each program of cards/ is a shed's", of_folder(".program") == sorted(name + ".program" for name in SHEDS)
+    for name, entries in SHEDS.items():
+        yield "the bytes of %s.program" % name, read(name + ".program") == programs.program(entries)
+        for file in ("stripe.card", "stripe.text"):
+            card = read(file) if file.endswith(".card") else text.read(read(file), cards.CARD_LIMIT)[2]
+            moves = table((str(count), *move) for count, move in enumerate(moves_of(card, programs.program(entries)), 1))
+            yield "the moves of %s.program on %s" % (name, file), moves in readme
+            yield "the end of %s.program on %s" % (name, file), "It is %s." % end_of(card, programs.program(entries)) in flat
+        yield "the end of %s.program where they part" % name, (
+            "`%s.program`: %s" % (name, end_of(woven_card(), programs.program(entries))) in readme
+        )
+    for number, both in enumerate(zip(programs.TEACHING, programs.FAST)):
+        row = "| %d | %s | %s |" % (number, *map(numbers, both))
+        yield "entry %d of both programs" % number, row in readme
+    octal = "".join("\\%o" % byte for byte in programs.program(programs.TEACHING))
+    yield "the teaching shed's program in octal", "printf '%s' >" % octal in readme
+    yield "the line with which they part", "    %s" % WOVEN_PICK.decode() in readme
+    parting = zip(*(moves_of(woven_card(), programs.program(entries)) for entries in SHEDS.values()))
+    rows = [(str(count), *one[:2], *other[:2]) for count, (one, other) in enumerate(parting, 1) if one != other]
+    yield "the moves where they part", len(rows) == 2 and table(rows) in readme
+
 
 def path_of(name):
     return os.path.join(FOLDER, name)
@@ -113,10 +194,12 @@ def read(name):
 
 
 def write():
-    """Writes the cards that no text says."""
-    for name, made in MADE.items():
-        with open(path_of(name + ".card"), "wb") as file:
-            file.write(cards.card(made()))
+    """Writes the cards that no text says, and the sheds' programs."""
+    made = {name + ".card": cards.card(describe()) for name, describe in MADE.items()}
+    made.update((name + ".program", programs.program(entries)) for name, entries in SHEDS.items())
+    for name, data in made.items():
+        with open(path_of(name), "wb") as file:
+            file.write(data)
 
 
 def of_folder(ending):
@@ -198,7 +281,7 @@ def main(words):
     if words == ["--write"]:
         write()
     passed = failed = 0
-    for held in (bytes_kept, runs_of_the_gate, explained) + (() if words else (programs_kept,)):
+    for held in (bytes_kept, sheds_kept, runs_of_the_gate, explained) + (() if words else (programs_kept,)):
         for what, so in held():
             passed, failed = passed + so, failed + (not so)
             if not so:

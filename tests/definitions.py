@@ -1,14 +1,15 @@
 #!/usr/bin/env python3
 """Has the checker compute the definitions and compares them with the independent program.
 
-    python3 tests/definitions.py --seed 1 --cards 500 --texts 50
+    python3 tests/definitions.py --seed 1 --cards 500 --texts 50 --programs 50
 
 Cards, places, configurations and choices come from oracle/ by the seed; the answers to them from oracle/ too. Each request
 becomes one equation, "what the definition answers is what the oracle answers", in a temporary crate over the project's own
 definitions, and the checker computes both sides. The last line is 'N passed, M failed': N requests on which both agree.
 Nothing is written into the repository.
 
-A case of --texts has six texts to be read, a card, and five of its nodes to be printed; --stored has those of the gate too. The
+A case of --programs has a card and ten programs to deliberate by, or three if the card is refused. A case of --texts has six
+texts to be read, a card, and five of its nodes to be printed; --stored has those of the gate too. The
 grammar is a relation, which does not compute: what reading a text answers is computed as crates/notation/proofs/Computing.antt
 does it, where it is proved that this is so by the relation `Reads`.
 """
@@ -32,11 +33,12 @@ import guide  # noqa: E402
 import stored  # noqa: E402
 import text  # noqa: E402
 
-DEFINITIONS = ("paper", "runs", "meaning", "notation")
-CALLS = ("check", "load", "grade", "list", "take", "run", "save", "restore", "text", "print")
-# The numbers that the guide may answer; the last of them are those of a text or a print alone.
-ANSWERS = (*range(10), *range(11, 19), 25)
+DEFINITIONS = ("paper", "runs", "meaning", "notation", "deliberation")
+CALLS = ("check", "load", "grade", "list", "take", "run", "save", "restore", "text", "print", "deliberate")
+# The numbers that the guide may answer; some of them are those of a text or a print alone, or of a program.
+ANSWERS = (*range(10), *range(11, 20), 25)
 OF_TEXTS = (17, 18, 25)
+OF_PROGRAMS = (19,)
 # The checker computes a run step by step, so longer budgets are cut to this.
 LONGEST_RUN = 200
 # The checker computes the whole tree of a node, each occurrence of a shared one, so nodes of larger trees are left out.
@@ -52,15 +54,15 @@ use Rattle.meaning.specs.Configurations.{padded}
 use Rattle.meaning.proofs.Computing.{computing}
 use Rattle.notation.proofs.Computing as Text
 use Rattle.CRATE.specs.Drill.{image, checkBytes, loadBytes, gradeBytes, listBytes, takeBytes, runBytes, saveBytes, restoreBytes, all-shown}
-use Rattle.CRATE.specs.Drill.{textBytes, printBytes}
+use Rattle.CRATE.specs.Drill.{textBytes, printBytes, deliberateBytes}
 
 """
 
-DRILL = """-- The answers of the eight calls, of reading a text and of printing a node, as the drill writes them.
+DRILL = """-- The answers of the nine calls, of reading a text and of printing a node, as the drill writes them.
 use mathlib.Core.List.{List, [], _∷_, _++_, map, flatten}
 use mathlib.Core.Option.{Option, none, some}
 use Prim.Native.Nat.{ℕ, zero, suc, _/_}
-use lib.ListN.{length, replicate}
+use lib.ListN.{length, take, replicate}
 use Rattle.runs.specs.declared.Ending.{Ending}
 use Rattle.runs.specs.declared.Offender.{Offender}
 use Rattle.runs.specs.declared.Verdict.{Verdict}
@@ -77,6 +79,12 @@ use Rattle.meaning.specs.Place.{twoBytes}
 use Rattle.meaning.specs.Refusals.{numberOf, answerNumber, answerCarried}
 use Rattle.meaning.specs.Calls.{checks, loads, grades, lists, listLeaves, takes, runs, saves, saveLeaves, restores}
 use Rattle.meaning.specs.Refusals.{carried}
+use Rattle.deliberation.specs.declared.Deliberated.{Deliberated}
+use Rattle.deliberation.specs.declared.Remaining.{Remaining}
+use Rattle.deliberation.specs.Programs.{𝒲}
+use Rattle.deliberation.specs.FirstMove.{lowestAction, ifEnabled}
+use Rattle.deliberation.specs.Entries.{entryAt, entries, programGood, programTable, deliberateAnswer, moves}
+use Rattle.deliberation.specs.Deliberate.{leads, deliberate, remainingOf, deliberates, deliberationEndingNumber}
 use Rattle.notation.specs.Printing.{printAnswer, printCount, printLeaves}
 use Rattle.notation.proofs.Computing.{Answered, textAnswered}
 
@@ -156,6 +164,17 @@ ranBytes r = number (r .answer) ++ (image (r .configuration) ++ (twoBytes (r .co
 unfoldable pub runBytes : Bytes → Configuration → ℕ → Bytes
 runBytes b c budget = ranBytes (runs b c budget)
 
+abbrev remainingBytes : Remaining → Bytes
+remainingBytes r = twoBytes (r .length) ++ take (r .length) (r .numbers)
+
+abbrev deliberatedBytes : Deliberated → Bytes
+deliberatedBytes d =
+    let told : Bytes = twoBytes (d .count) ++ (deliberationEndingNumber (d .ending) ∷ remainingBytes (d .remaining)) in
+    number (d .answer) ++ (image (d .configuration) ++ told)
+
+unfoldable pub deliberateBytes : Bytes → Bytes → Configuration → ℕ → Bytes
+deliberateBytes b p c budget = deliberatedBytes (deliberates b p c budget)
+
 abbrev place : Answer → ℕ
 place Done = 0
 place (Refused r) = carried r
@@ -175,7 +194,7 @@ printBytes b n room =
     number (printAnswer b n out) ++ (twoBytes (printCount b n out) ++ printLeaves b n out)
 
 unfoldable pub all-shown : Unit {0}
-unfolding flatten image checkBytes loadBytes gradeBytes listBytes takeBytes runBytes saveBytes restoreBytes textBytes printBytes
+unfolding flatten image checkBytes loadBytes gradeBytes listBytes takeBytes runBytes saveBytes restoreBytes textBytes printBytes deliberateBytes 𝒲 lowestAction ifEnabled entryAt entries programGood programTable deliberateAnswer moves leads deliberate remainingOf deliberates deliberationEndingNumber
 all-shown = tt
 """
 
@@ -201,8 +220,8 @@ def literal(data):
 
 
 def cut_budget(request):
-    """A run's budget cut to what the checker computes in a moment."""
-    if request[0] == 6 and two(request, len(request) - 2) > LONGEST_RUN:
+    """A budget cut to what the checker computes in a moment."""
+    if request[0] in (drill.RUN, drill.DELIBERATE) and two(request, len(request) - 2) > LONGEST_RUN:
         return request[:-2] + bytes([LONGEST_RUN % 256, LONGEST_RUN // 256])
     return request
 
@@ -230,8 +249,12 @@ def term(card, request):
         return f"textBytes {literal(held)} {room}"
     if call == "print":
         return f"printBytes {card} {two(request, 1)} {two(request, 3)}"
+    program = ""
+    if call == "deliberate":
+        length = two(request, 1)
+        program, request = literal(request[3 : 3 + length]), request[:1] + request[3 + length :]
     configuration, at = image_term(request)
-    return f"{call}Bytes {card} {configuration} {two(request, at)}"
+    return f"{call}Bytes {card} {program} {configuration} {two(request, at)}"
 
 
 def theorem(name, card, request, answer):
@@ -300,6 +323,7 @@ def arguments():
     parser.add_argument("--seed", type=int, default=1)
     parser.add_argument("--cards", type=int, default=500)
     parser.add_argument("--texts", type=int, default=50, help="cases of texts and prints")
+    parser.add_argument("--programs", type=int, default=50, help="cases of programs")
     parser.add_argument("--stored", action="store_true", help="the texts and prints on which the gate runs the drill, too")
     parser.add_argument("--largest", type=int, default=700, help="bytes of the largest card and text")
     parser.add_argument("--requests", type=int, default=8, help="the most requests of a card")
@@ -320,6 +344,8 @@ def asked(options):
     random = Random(options.seed)
     for case in cases.generate(options.seed, options.cards, largest=options.largest):
         yield case, chosen(random, case.requests, options.requests)
+    for case in cases.generate_programs(options.seed, options.programs, options.largest):
+        yield case, case.requests
     made = enumerate(cases.generate_texts(options.seed, options.texts, options.largest))
     texts = [case._replace(name=f"texts and prints {index}") for index, case in made]
     if options.stored:
@@ -357,10 +383,10 @@ def gather(options):
 
 def table(met):
     """How often each answer was met for each call."""
-    lines = ["answer  " + "".join(f"{call:>9}" for call in CALLS) + "      all"]
+    lines = ["answer  " + "".join(f"{call:>11}" for call in CALLS) + "      all"]
     for number in ANSWERS:
         row = [met[call, number] for call in CALLS]
-        lines.append(f"{number:>6}  " + "".join(f"{n:>9}" for n in row) + f"{sum(row):>9}")
+        lines.append(f"{number:>6}  " + "".join(f"{n:>11}" for n in row) + f"{sum(row):>9}")
     return "\n".join(lines)
 
 
@@ -400,8 +426,8 @@ def main():
     prepare(root)
     chunks = [gathered[i : i + PER_CRATE] for i in range(0, len(gathered), PER_CRATE)]
     names = [write_crate(root, i, chunk) for i, chunk in enumerate(chunks)]
-    listed = ["paper:", "runs: paper", "meaning: paper runs", "notation: paper runs meaning"]
-    listed += [f"{name}: paper runs meaning notation" for name in names]
+    listed = ["paper:", "runs: paper", "meaning: paper runs", "notation: paper runs meaning", "deliberation: paper runs meaning"]
+    listed += [f"{name}: paper runs meaning notation deliberation" for name in names]
     write(os.path.join(root, "crates.txt"), "\n".join(listed) + "\n")
     refused, trouble = hold(root, chunks)
     if not options.keep:
@@ -414,12 +440,14 @@ def main():
 def report(options, met, total, refused, trouble):
     print("\n".join(refused) + trouble)
     expected = [n for n in ANSWERS if options.texts or options.stored or n not in OF_TEXTS]
+    expected = [n for n in expected if options.programs or n not in OF_PROGRAMS]
     rare = [n for n in expected if sum(met[call, n] for call in CALLS) < 10]
     if rare:
         print("answers met fewer than ten times:", *rare)
     failed = total if trouble else len(refused)
-    texts = f" and {options.texts} cases of texts and prints" if options.texts else ""
-    print(f"{options.cards} cards{texts} of at most {options.largest} bytes, {total} requests, by seed {options.seed}")
+    programs = f", {options.programs} cases of programs" if options.programs else ""
+    texts = f", {options.texts} cases of texts and prints" if options.texts else ""
+    print(f"{options.cards} cards{programs}{texts} of at most {options.largest} bytes, {total} requests, by seed {options.seed}")
     print(f"{total - failed} passed, {failed} failed")
     sys.exit(1 if failed else 0)
 

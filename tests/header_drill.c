@@ -15,13 +15,16 @@
  *   9 text     length (4), bytes, room (2)
  *                                       number (2), place (4), length (2), the lent card (room)
  *  10 print    node (2), room (2)       number (2), length (2), the lent text (room bytes)
+ *  11 deliberate  length (2), bytes of program, image, budget (2)
+ *                                       number (2), image, count (2), ending (1), m (2), the
+ *                                       remaining program: m numbers (1)
  *
  * An image: beliefs (16), goals (16), plan length (2), phase (1), finished count (2), m (2), m
  * bytes of the plan's array; the rest of it is zero. In an answer m is the least that serves. The
  * node of a take is with 16 the one that settled the condition, else 0; the place of a text with 17
  * that of the first wrong byte, else 0. Lent buffers are lent filled with EE hex. What a refused
  * grading says beside its number is written as 0. A request that breaks these rules ends the
- * program.
+ * program, and so does what a call leaves wrong and no answer shows.
  */
 #include <stdlib.h>
 #include <string.h>
@@ -29,9 +32,9 @@
 
 #include "../include/rigtemple.h"
 
-enum { CARD, CHECK, LOAD, GRADE, LIST, TAKE, RUN, SAVE, RESTORE, TEXT, PRINT };
+enum { CARD, CHECK, LOAD, GRADE, LIST, TAKE, RUN, SAVE, RESTORE, TEXT, PRINT, DELIBERATE };
 enum { LIST_LIMIT = 1024, SAVE_LIMIT = 2048, PLACE_LIMIT = 4096, LENT = 0xEE };
-enum { TEXT_LIMIT = 65536, CARD_ROOM_LIMIT = 24200, PRINT_LIMIT = 2048 };
+enum { TEXT_LIMIT = 65536, CARD_ROOM_LIMIT = 24200, PRINT_LIMIT = 2048, PROGRAM_LIMIT = 1024 };
 
 static uint8_t card[65535];
 static size_t card_len;
@@ -259,6 +262,32 @@ static void answer_print(void)
     put_bytes(text, room);
 }
 
+/* What lies behind the numbers that remain is not in the answer: a byte that is not 0 ends the
+ * program. */
+static void answer_deliberate(void)
+{
+    struct rigtemple_configuration c;
+    uint8_t program[PROGRAM_LIMIT], remaining[RIGTEMPLE_MOST_REMAINING];
+    uint8_t ending = LENT, remaining_length = LENT;
+    uint16_t count = LENT;
+    size_t program_len = get_number(PROGRAM_LIMIT);
+    get_bytes(program, program_len);
+    get_image(&c);
+    memset(remaining, LENT, sizeof remaining);
+    put_number(rigtemple_deliberate(card, card_len, program, program_len, &c, get_number(65535),
+                                    &count, &ending, remaining, &remaining_length));
+    if (remaining_length > sizeof remaining)
+        end(3);
+    for (size_t i = remaining_length; i < sizeof remaining; i++)
+        if (remaining[i] != 0)
+            end(3);
+    put_image(&c);
+    put_number(count);
+    put_byte(ending);
+    put_number(remaining_length);
+    put_bytes(remaining, remaining_length);
+}
+
 static void answer(uint8_t request)
 {
     switch (request) {
@@ -295,6 +324,9 @@ static void answer(uint8_t request)
         break;
     case PRINT:
         answer_print();
+        break;
+    case DELIBERATE:
+        answer_deliberate();
         break;
     default:
         end(1);

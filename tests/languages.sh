@@ -63,17 +63,28 @@ fi
 python() {
     cc -shared -Wl,--whole-archive "$linked/librigtemple.a" -Wl,--no-whole-archive \
         -o "$room/machine.so" &&
-        python3 -B "$root/examples/by_ctypes.py" "$room/machine.so" "$1"
+        python3 -B "$root/examples/by_ctypes.py" "$room/machine.so" "$@"
 }
 stripe() {
     python "$root/cards/stripe.card" >"$room/lines" &&
         printf '%s\n' 'rest after 6 moves' 'bands finished: 1' \
             'a place of 44 bytes, restored the same' | cmp - "$room/lines"
 }
+teaching() {
+    python "$root/cards/stripe.card" "$root/cards/teaching.program" >"$room/lines" &&
+        printf '%s\n' 'finished after 12 moves, remaining: nothing' 'bands finished: 1' \
+            'a place of 44 bytes, restored the same' | cmp - "$room/lines"
+}
 refused() { ! python "$root/cards/loop.card" && grep -q 'load is refused with 6' "$room/said"; }
+refused_program() {
+    ! python "$root/cards/stripe.card" "$root/cards/stripe.card" &&
+        grep -q 'deliberate is refused with 19' "$room/said"
+}
 if [ -n "$linked" ]; then
     expect 'Python runs the stripe card' stripe
+    expect 'Python runs the program of the teaching shed' teaching
     expect 'Python is told of a refusal' refused
+    expect 'Python is told of a refused program' refused_program
     printf 'Python with %s\n' "$what"
 else
     printf 'Python is not tried: there is no C compiler\n'

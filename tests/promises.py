@@ -33,10 +33,15 @@ READING = (
     ("what is proved of the definitions", ("paper/specs/Theorems.antt", "runs/specs/Theorems.antt", "meaning/specs/Theorems.antt")),
     ("the letter's demands", ("demands/specs/Contracts.antt", "demands/specs/Demands.antt", "demands/specs/TestOrder.antt",
                               "demands/specs/Closed.antt", "demands/specs/Struck.antt", "demands/specs/Shown.antt")),
+    ("our own deliberation", ("deliberation/src/lib.rt", "deliberation/specs/Programs.antt", "deliberation/specs/MetaTransitions.antt",
+                              "deliberation/specs/FirstMove.antt", "deliberation/specs/Entries.antt", "deliberation/specs/Deliberate.antt",
+                              "deliberation/specs/Interpreter.antt")),
+    ("what is proved of deliberation", ("deliberation/specs/Theorems.antt", "deliberation/specs/Equivalence.antt")),
     ("cards as text", ("notation/specs/Words.antt", "notation/specs/Conditions.antt", "notation/specs/Lines.antt", "meaning/specs/Assembled.antt",
                        "notation/specs/Built.antt", "notation/specs/Reading.antt", "notation/specs/Printing.antt")),
     ("what is proved of texts", ("notation/specs/Theorems.antt",)),
-    ("the cases", ("paper/specs/Cases.antt", "meaning/specs/Stripe.antt", "meaning/specs/Cases.antt", "notation/specs/Cases.antt")),
+    ("the cases", ("paper/specs/Cases.antt", "meaning/specs/Stripe.antt", "meaning/specs/Cases.antt", "notation/specs/Cases.antt",
+                   "deliberation/specs/Cases.antt")),
 )
 READ_CRATES = ("paper", "runs", "meaning", "demands", "notation")
 

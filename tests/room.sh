@@ -33,14 +33,17 @@ done <<END
 $calls
 END
 
-# What an app lends: the largest card, a configuration as the header lays it out, a list of every choice, the largest place.
+# What an app lends: the largest card, a configuration as the header lays it out, a list of every choice, the largest place, the
+# longest program and what remains of it.
 card=24128
 configuration=1062
 list=$((2 * 768))
 place=$((44 + 1024))
+longest=512
+remaining=128
 printf '%-42s %6d bytes\n' 'the largest card' "$card" 'a configuration' "$configuration" 'a list of 768 choices' "$list" \
-    'the largest place' "$place"
-within 'all of it with the deepest stack' $((card + configuration + list + place + deepest)) "$most"
+    'the largest place' "$place" 'the longest program' "$longest" 'what remains of it' "$remaining"
+within 'all of it with the deepest stack' $((card + configuration + list + place + longest + remaining + deepest)) "$most"
 # To read a text an app lends the text, of any length, and room for a card.
 within 'the largest card with the stack of text' $((card + reading)) "$most"
 

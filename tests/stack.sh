@@ -15,8 +15,8 @@ work=$tests/../target/c
 # shellcheck source=tests/stated.sh
 . "$tests/stated.sh"
 archive=$("$tests/archive.sh" "$@")
-"$tests/build_c.sh" "$work/stack" "$tests/stack.c" "$tests/calls.c" "$tests/cards.c" "$tests/texts.c" \
-    "$archive"
+"$tests/build_c.sh" "$work/stack" "$tests/stack.c" "$tests/calls.c" "$tests/cards.c" \
+    "$tests/programs.c" "$tests/texts.c" "$archive"
 "$tests/run_c.sh" "$work/stack" >"$work/stack.out"
 passed=0
 failed=0
@@ -28,7 +28,7 @@ while read -r call bytes; do
     [ "$bytes" -le $most ] || fault=", which is over $most"
     [ $# -gt 0 ] || [ "$bytes" = "$(stated "$call")" ] || fault="$fault, not as the header states"
     if [ -z "$fault" ]; then passed=$((passed + 1)); else failed=$((failed + 1)); fi
-    printf '%-8s %6d bytes of stack%s\n' "$call" "$bytes" "$fault"
+    printf '%-10s %6d bytes of stack%s\n' "$call" "$bytes" "$fault"
 done <"$work/stack.out"
 printf '%d passed, %d failed\n' "$passed" "$failed"
-[ "$passed" -eq 10 ]
+[ "$passed" -eq 11 ]

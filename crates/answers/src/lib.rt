@@ -3,6 +3,8 @@ ghost use mathlib.Core.Path.{_≡_};
 ghost use Prim.Native.Nat.{_<_};
 ghost use Rattle.meaning.specs.Refusals.{numberOf, answerNumber, carried, answerCarried};
 ghost use Rattle.meaning.specs.Numbers.{endingNumber, verdictNumber, offenderNumber, offenderRule, verdictOffender, verdictRule};
+ghost use Rattle.deliberation.specs.Deliberate.{deliberationEndingNumber};
+use deliberation::DeliberationEnding;
 use meaning::Answer;
 use meaning::Refusal;
 use runs::Ending;
@@ -32,6 +34,7 @@ pub fn refusal_number(r: Refusal) -> u16
         Refusal::Text(_) => 17,
         Refusal::Nested => 18,
         Refusal::Large => 25,
+        Refusal::Program => 19,
     }
 }
 
@@ -75,6 +78,18 @@ pub fn ending_number(e: Ending) -> u8
         Ending::Spent => 0,
         Ending::Rest => 1,
         Ending::Full => 2,
+    }
+}
+
+// A deliberation's ending's number.
+pub fn deliberation_ending_number(e: DeliberationEnding) -> u8
+    ensures { λ n. ⌜ n ≡ deliberationEndingNumber e ⌝ }
+{
+    match e {
+        DeliberationEnding::Spent => 0,
+        DeliberationEnding::Finished => 1,
+        DeliberationEnding::Stuck => 2,
+        DeliberationEnding::Full => 3,
     }
 }
 

@@ -1,4 +1,4 @@
--- The contract of each of the ten functions for C, by the one name that its `ensures` cites, and that it leaves one answer
+-- The contract of each of the eleven functions for C, by the one name that its `ensures` cites, and that it leaves one answer
 -- (proved in proofs/). n is the return value. What is lent to be written is named as it is left: c for a configuration's six
 -- parts, left for a list, a place, a card or a text, the others as in include/rigtemple.h. What is lent to be read stays as it is.
 use mathlib.Core.Path.{_≡_}
@@ -12,7 +12,8 @@ use Rattle.meaning.specs.Refusals.{answerNumber}
 use Rattle.meaning.specs.Numbers.{checkedNumber}
 use Rattle.notation.specs.Reading.{Reads}
 use Rattle.notation.specs.Printing.{printAnswer, printCount, printLeaves}
-use Rattle.board.specs.Header.{whole, replied, took, gradedAs, wrote, readAs, ranTo}
+use Rattle.deliberation.specs.Deliberate.{deliberates}
+use Rattle.board.specs.Header.{whole, replied, took, gradedAs, wrote, readAs, ranTo, deliberatedTo}
 
 -- ---- the contracts
 
@@ -42,6 +43,12 @@ Takes card d choice n c node = took (takes card d choice) n c node
 -- taken, and one of three endings"
 abbrev pub Runs : Bytes → Configuration → ℕ → ℕ → Configuration → ℕ → ℕ → Type 0
 Runs card d budget n c count ending = ranTo (runs card d budget) n c count ending
+
+-- 02, Wish 6: a program under a card, from a configuration d. "The answer holds the remaining program as entry numbers, the next
+-- first": remaining, of which length are such, and zeros behind them.
+abbrev pub Deliberates : Bytes → Bytes → Configuration → ℕ → ℕ → Configuration → ℕ → ℕ → Bytes → ℕ → Type 0
+Deliberates card program d budget n c count ending remaining length =
+    deliberatedTo (deliberates card program d budget) n c count ending remaining length
 
 -- 01, "What the guide does": "save a place": of a configuration d, into a place. "Saving writes 44 + L bytes and no others."
 abbrev pub Saves : Bytes → Configuration → Bytes → ℕ → Bytes → ℕ → Type 0
@@ -79,6 +86,11 @@ pub record DeterminedParts : Type 0 where
   pub run : (card : Bytes) (d : Configuration) (budget n n′ : ℕ) (c c′ : Configuration) (count count′ ending ending′ : ℕ)
       → Runs card d budget n c count ending → Runs card d budget n′ c′ count′ ending′
       → (n ≡ n′) × (c ≡ c′) × (count ≡ count′) × (ending ≡ ending′)
+  pub deliberate : (card program : Bytes) (d : Configuration) (budget n n′ : ℕ) (c c′ : Configuration) (count count′ ending ending′ : ℕ)
+      (remaining remaining′ : Bytes) (length length′ : ℕ)
+      → Deliberates card program d budget n c count ending remaining length
+      → Deliberates card program d budget n′ c′ count′ ending′ remaining′ length′
+      → (n ≡ n′) × (c ≡ c′) × (count ≡ count′) × (ending ≡ ending′) × (remaining ≡ remaining′) × (length ≡ length′)
   pub save : (card : Bytes) (d : Configuration) (place left left′ : Bytes) (n n′ count count′ : ℕ)
       → Saves card d place n left count → Saves card d place n′ left′ count′ → (n ≡ n′) × (left ≡ left′) × (count ≡ count′)
   pub restore : (card place : Bytes) (n n′ : ℕ) (c c′ : Configuration)

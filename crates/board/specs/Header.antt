@@ -11,6 +11,8 @@ use Rattle.meaning.specs.declared.Ran.{Ran}
 use Rattle.meaning.specs.Card.{Bytes}
 use Rattle.meaning.specs.Refusals.{answerNumber, answerCarried}
 use Rattle.meaning.specs.Numbers.{endingNumber, verdictNumber, verdictOffender, verdictRule}
+use Rattle.deliberation.specs.declared.Deliberated.{Deliberated}
+use Rattle.deliberation.specs.Deliberate.{deliberationEndingNumber}
 
 -- A configuration from its parts: "`beliefs` and `goals` are 16 bytes each, `plan` is 1,024 bytes."
 abbrev pub whole : Bytes → Bytes → Bytes → ℕ → ℕ → ℕ → Configuration
@@ -49,3 +51,13 @@ ranTo x n c count ending =
     × (c ≡ x .configuration)
     × (count ≡ x .count)
     × (ending ≡ endingNumber (x .ending))
+
+-- of `deliberate`: how many moves, why it ended, and the numbers that remain, in 128 bytes, with how many they are
+abbrev pub deliberatedTo : Deliberated → ℕ → Configuration → ℕ → ℕ → Bytes → ℕ → Type 0
+deliberatedTo x n c count ending remaining length =
+    (n ≡ answerNumber (x .answer))
+    × (c ≡ x .configuration)
+    × (count ≡ x .count)
+    × (ending ≡ deliberationEndingNumber (x .ending))
+    × (remaining ≡ x .remaining .numbers)
+    × (length ≡ x .remaining .length)

@@ -1,10 +1,11 @@
-// The board: the guide's ten calls for C, as include/rigtemple.h declares them. A configuration is lent in its six parts;
+// The board: the guide's eleven calls for C, as include/rigtemple.h declares them. A configuration is lent in its six parts;
 // the return value is the answer's number.
 ghost use mathlib.Core.Path.{_≡_};
 ghost use Rattle.board.specs.Header.{whole};
-ghost use Rattle.board.specs.Determined.{Checks, Loads, Grades, Lists, Takes, Runs, Saves, Restores, ReadsText, Prints};
+ghost use Rattle.board.specs.Determined.{Checks, Loads, Grades, Lists, Takes, Runs, Deliberates, Saves, Restores, ReadsText, Prints};
 use answers::answer_carried;
 use answers::answer_number;
+use answers::deliberation_ending_number;
 use answers::ending_number;
 use answers::refusal_number;
 use answers::verdict_number;
@@ -147,6 +148,49 @@ pub extern "C" fn rigtemple_run_parts(
     let e = ran.ending;
     *ending = ending_number(e);
     let a = ran.answer;
+    answer_number(a)
+}
+
+// The configuration after at most budget moves of a deliberation program, how many they were, how it ended, and the numbers that
+// remain: all 128 are written, the next first, then zeros.
+#[no_mangle]
+pub extern "C" fn rigtemple_deliberate_parts(
+    card: &[u8],
+    program: &[u8],
+    beliefs: &mut [u8; 16],
+    goals: &mut [u8; 16],
+    plan: &mut [u8; 1024],
+    length: &mut u16,
+    phase: &mut u8,
+    finished: &mut u16,
+    budget: u16,
+    count: &mut u16,
+    ending: &mut u8,
+    remaining: &mut [u8; 128],
+    remaining_length: &mut u8,
+) -> u16
+    ensures { λ r. ⌜ Deliberates (now (card .entry)) (now (program .entry))
+        (whole (now (beliefs .entry)) (now (goals .entry)) (now (plan .entry)) (now (length .entry)) (now (phase .entry))
+        (now (finished .entry))) budget r
+        (whole (now (beliefs .exit)) (now (goals .exit)) (now (plan .exit)) (now (length .exit)) (now (phase .exit))
+        (now (finished .exit)))
+        (now (count .exit)) (now (ending .exit)) (now (remaining .exit)) (now («remaining_length» .exit)) ⌝ }
+{
+    let made = deliberate::call::deliberate(
+        card,
+        program,
+        mind(beliefs, goals, *length, *phase, *finished),
+        plan,
+        budget,
+        remaining,
+    );
+    let m = made.mind;
+    put(m, beliefs, goals, length, phase, finished);
+    *count = made.count;
+    *remaining_length = made.length;
+    let e = made.ending;
+    *ending = deliberation_ending_number(e);
+    let a = made.answer;
     answer_number(a)
 }
 

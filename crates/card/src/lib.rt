@@ -1,5 +1,5 @@
 // The card: checked. Whatever its bytes, the answer is document 01's.
 pub mod check;
 pub mod contents;
-mod nodes;
+pub mod nodes;
 mod rules;

@@ -1,10 +1,11 @@
 // The nodes: row 6 of the refusal table, and which nodes contain an atom of a kind, each in one pass.
 ghost use mathlib.Core.Path.{_≡_};
-ghost use mathlib.Core.Bool.{true};
-ghost use lib.ListN.{replicate};
+ghost use mathlib.Core.Bool.{true, not};
+ghost use Prim.Native.Nat.{_≤_};
+ghost use lib.ListN.{getD, replicate};
 ghost use Rattle.meaning.specs.Refusals.{kindGood, nodesGood};
 ghost use Rattle.layout.specs.GoodLayout.{GoodLayout};
-ghost use Rattle.card.specs.Marks.{markOf, Marks};
+ghost use Rattle.card.specs.Marks.{tells, markOf, Marks};
 use layout::entries::read_node;
 use meaning::Layout;
 use meaning::Node;
@@ -76,4 +77,12 @@ pub fn mark_nodes(card: &[u8], l: Layout, marks: &mut [u8; 256])
         marks[i] = mark_of(x.kind, first, second);
         i += 1;
     }
+}
+
+// A node that is not marked for a kind of atoms: 1 believes, 2 has goal.
+pub fn free_of(marks: &[u8; 256], kind: u8, node: u8) -> bool
+    requires { ⌜ 1 ≤ kind ⌝ }
+    ensures { λ r. ⌜ r ≡ not (tells kind (getD (now (marks .entry)) node 0)) ⌝ }
+{
+    !(marks[node as usize] / kind % 2 == 1)
 }

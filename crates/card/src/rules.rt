@@ -1,16 +1,16 @@
 // Specifications, rules and the initial plan: row 7 of the refusal table. `marks` tells the nodes that contain a belief atom, and
 // those that contain a goal atom; the unknown ones are marked for both.
 ghost use mathlib.Core.Path.{_≡_};
-ghost use mathlib.Core.Bool.{true, not};
-ghost use Prim.Native.Nat.{_≤_, _<_};
-ghost use lib.ListN.{getD};
+ghost use mathlib.Core.Bool.{true};
+ghost use Prim.Native.Nat.{_<_};
 ghost use Rattle.meaning.specs.Card.{Bytes};
 ghost use Rattle.meaning.specs.Refusals.{every, nodesGood, containing, spanGood, specificationGood, selectionGood, revisionGood, rulesGood};
 ghost use Rattle.layout.specs.Entries.{countOf};
 ghost use Rattle.layout.specs.GoodLayout.{GoodLayout, TwoByteSpan};
-ghost use Rattle.card.specs.Marks.{tells, Marks};
+ghost use Rattle.card.specs.Marks.{Marks};
 ghost use Rattle.card.specs.Entries.{entryGood};
 use crate::nodes::all_marks;
+use crate::nodes::free_of;
 use crate::nodes::mark_nodes;
 use layout::bytes::byte_below;
 use layout::entries::count_of;
@@ -24,14 +24,6 @@ use meaning::RevisionEntry;
 use meaning::SelectionEntry;
 use meaning::Span;
 use meaning::SpecificationEntry;
-
-// A node that is not marked for a kind of atoms: 1 believes, 2 has goal.
-fn free_of(marks: &[u8; 256], kind: u8, node: u8) -> bool
-    requires { ⌜ 1 ≤ kind ⌝ }
-    ensures { λ r. ⌜ r ≡ not (tells kind (getD (now (marks .entry)) node 0)) ⌝ }
-{
-    !(marks[node as usize] / kind % 2 == 1)
-}
 
 // A plan of a length from least to 1,024 that lies within the pool.
 fn span_good(l: Layout, least: usize, s: Span) -> bool

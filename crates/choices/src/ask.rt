@@ -177,7 +177,7 @@ pub fn is_open(
 }
 
 // The lowest open choice of a kind.
-fn first_of_kind(
+pub fn first_of_kind(
     card: &[u8],
     l: Layout,
     m: Mind,

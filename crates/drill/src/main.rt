@@ -1,11 +1,12 @@
 // The drill: requests on standard input, an answer for each on standard output, so that any other program can be compared with the
-// ten calls byte for byte. Numbers of two or four bytes are low byte first. "A request that breaks these rules, or is not there
+// eleven calls byte for byte. Numbers of two or four bytes are low byte first. "A request that breaks these rules, or is not there
 // yet, ends the program."
 ghost use mathlib.Core.Path.{_≡_};
 ghost use Prim.Native.Nat.{_≤_};
 ghost use lib.ListN.{length};
 use answers::answer_carried;
 use answers::answer_number;
+use answers::deliberation_ending_number;
 use answers::ending_number;
 use answers::refusal_number;
 use answers::verdict_number;
@@ -484,6 +485,64 @@ fn print(card: &[u8]) -> bool {
     true
 }
 
+// The numbers that remain are told.
+fn tell_numbers(numbers: &[u8; 128], m: usize) {
+    tell_first(numbers, m);
+}
+
+// "count (2), ending (1: 0 spent, 1 finished, 2 stuck, 3 full), m (2), the remaining program: m numbers of one byte"
+fn deliberate_with(card: &[u8], program: &[u8], c: Configuration, budget: u16) {
+    let r = guide::deliberate(card, program, c, budget);
+    let a = r.answer;
+    let e = r.ending;
+    let reached = r.configuration;
+    let remaining = r.remaining;
+    let numbers = remaining.numbers;
+    let n = r.count;
+    tell(answer_number(a));
+    tell_image(reached);
+    let told = [
+        low(n),
+        high(n),
+        deliberation_ending_number(e),
+        remaining.length,
+        0,
+    ];
+    io::write_all(1, &told);
+    tell_numbers(&numbers, remaining.length as usize);
+}
+
+// The program's bytes are read, and then an image and a budget.
+fn deliberate_from(card: &[u8], program: &mut [u8]) -> bool {
+    if !fill(program) {
+        return false;
+    }
+    let asked = next_image();
+    if !asked.whole {
+        return false;
+    }
+    let c = asked.configuration;
+    let most = next_number();
+    let Number::Is(budget) = most else {
+        return false;
+    };
+    deliberate_with(card, program, c, budget);
+    true
+}
+
+// Request 11: "length n (2, at most 1,024), n bytes of program, image, budget (2)"
+fn deliberate(card: &[u8]) -> bool {
+    let size = next_number();
+    let Number::Is(n) = size else {
+        return false;
+    };
+    if 1024 < n {
+        return false;
+    }
+    let mut program = io::buffer();
+    deliberate_from(card, &mut program[..n as usize])
+}
+
 // ---- the requests
 
 // Request 0: "it is the card of the requests that follow".
@@ -514,6 +573,7 @@ fn answer(card: &[u8], request: u8) -> bool {
         8 => restore(card),
         9 => text(),
         10 => print(card),
+        11 => deliberate(card),
         _ => false,
     }
 }

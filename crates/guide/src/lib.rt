@@ -1,11 +1,16 @@
-// The guide: the eight calls. Nothing is assumed of any byte or number; each contract cites one definition of the whole answer,
+// The guide: the nine calls. Nothing is assumed of any byte or number; each contract cites one definition of the whole answer,
 // refusals too, and of what a lent buffer holds afterwards. A configuration goes in and comes back by value.
 ghost use mathlib.Core.Path.{_≡_};
 ghost use Rattle.paper.specs.Theorems.{AreBytes};
 ghost use Rattle.demands.specs.Contracts.{Checks, Loads, Grades, Lists, Takes, Runs, Saves, Restores, Shaped};
+ghost use Rattle.deliberation.specs.Theorems.{Deliberates};
 ghost use Rattle.choices.specs.InPlace.{replyWith, ranWith};
+ghost use Rattle.deliberate.specs.InPlace.{deliberatedWith};
 use choices::in_place::RanInPlace;
 use choices::in_place::ReplyInPlace;
+use deliberate::call::DeliberatedInPlace;
+use deliberation::Deliberated;
+use deliberation::Remaining;
 use meaning::Checked;
 use meaning::Configuration;
 use meaning::Graded;
@@ -118,6 +123,41 @@ pub fn run(card: &[u8], c: Configuration, budget: u16) -> Ran
     let mut plan = c.plan;
     let r = moves::run::run(card, m, &mut plan, budget);
     ran_with(r, plan)
+}
+
+// What a deliberation answered in place, with the plan and the numbers that remain.
+fn deliberated_with(r: DeliberatedInPlace, plan: [u8; 1024], numbers: [u8; 128]) -> Deliberated
+    ensures { λ x. ⌜ x ≡ deliberatedWith r plan numbers ⌝ }
+    ensures { λ x. ⌜ Shaped (x .configuration) ⌝ }
+{
+    let a = r.answer;
+    let e = r.ending;
+    let m = r.mind;
+    Deliberated {
+        answer: a,
+        count: r.count,
+        ending: e,
+        configuration: Configuration {
+            mind: m,
+            plan: plan,
+        },
+        remaining: Remaining {
+            length: r.length,
+            numbers: numbers,
+        },
+    }
+}
+
+// At most budget moves of a deliberation program.
+pub fn deliberate(card: &[u8], program: &[u8], c: Configuration, budget: u16) -> Deliberated
+    ensures { λ r. ⌜ Deliberates (now (card .entry)) (now (program .entry)) c budget r ⌝ }
+    ensures { λ r. ⌜ Shaped (r .configuration) ⌝ }
+{
+    let m = c.mind;
+    let mut plan = c.plan;
+    let mut numbers = [0u8; 128];
+    let r = deliberate::call::deliberate(card, program, m, &mut plan, budget, &mut numbers);
+    deliberated_with(r, plan, numbers)
 }
 
 // The configuration into a lent buffer: 44 + L bytes and no others.

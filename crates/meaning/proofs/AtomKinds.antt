@@ -7,10 +7,11 @@ use borrow.Author.Tests.{not-true, ltb-true}
 use lib.Dec.{ltb}
 use lib.ListN.{getD}
 use Rattle.paper.proofs.Relation.{both, false≢true}
+use Rattle.meaning.specs.declared.Answer.the-variants.{Done}
 use Rattle.meaning.specs.declared.Layout.{Layout}
 use Rattle.meaning.specs.Card.{Bytes, layout, nodeAt, specificationAt, selectionAt, revisionAt}
-use Rattle.meaning.specs.Refusals.{nodesGood, containsOf, containing, conditionGood, specificationGood, selectionGood, revisionGood}
-use Rattle.meaning.specs.Theorems.{StandsIn, is-it, in-first, in-second, KindLaw}
+use Rattle.meaning.specs.Refusals.{nodesGood, containsOf, containing, conditionGood, specificationGood, selectionGood, revisionGood, cardAnswer}
+use Rattle.meaning.specs.Theorems.{StandsIn, is-it, in-first, in-second, Without, KindLaw}
 use Rattle.meaning.proofs.Accepted.{accepted}
 use Rattle.meaning.proofs.Entries.{good-entries}
 use Rattle.meaning.proofs.Nodes.{node-rule, contains-at}
@@ -72,6 +73,10 @@ module _ (l : Layout) (b : Bytes) (good : nodesGood l b ≡ true) {kind : ℕ} (
 
   asked : (i : ℕ) → conditionGood l (containing kind l b) i ≡ true → (j : ℕ) → StandsIn l b j i → nodeAt l b j .kind ≡ kind → ⊥
   asked i e j = let (known, free) = both (ltb i (l .nodes .count)) _ e in without (ltb-true _ _ known) (not-true _ free)
+
+-- what is asked for as a belief condition contains no goal atom
+pub no-goal-atom : (b : Bytes) → cardAnswer b ≡ Done → (n : ℕ) → conditionGood (layout b) (containing 2 (layout b) b) n ≡ true → Without b 2 n
+no-goal-atom b card n e = asked (layout b) b (accepted b card .nodes) goal n e
 
 pub kind-law : KindLaw
 unfolding specificationGood selectionGood revisionGood

@@ -29,3 +29,4 @@ carries Refusal.NoRoom = nothing refl
 carries (Refusal.Text p) = a-place
 carries Refusal.Nested = nothing refl
 carries Refusal.Large = nothing refl
+carries Refusal.Program = nothing refl

@@ -21,7 +21,8 @@ use Rattle.meaning.specs.declared.RevisionEntry.{RevisionEntry}
 use Rattle.meaning.specs.Card.{Bytes, byte, numberAt, part, layout, weightAt, nodeAt, nodes, pass, specificationAt, selectionAt, revisionAt, initialBeliefs, initialGoals}
 
 -- 01, "Numbers the guide may answer": the columns "no." and "name"; 02, Wish 1: "10 gives way to three in its place", 14, 15 and
--- 16; 02, Wish 2: "17 text", "18 nested too deep", "25 a number too large for its field, or more entries or pool bytes".
+-- 16; 02, Wish 2: "17 text", "18 nested too deep", "25 a number too large for its field, or more entries or pool bytes"; 02, Wish
+-- 6: "19 a program breaking these rules".
 unfoldable pub numberOf : Refusal → ℕ
 numberOf Refusal.Short = 1
 numberOf Refusal.Mark = 2
@@ -41,6 +42,7 @@ numberOf Refusal.NoRoom = 12
 numberOf (Refusal.Text p) = 17
 numberOf Refusal.Nested = 18
 numberOf Refusal.Large = 25
+numberOf Refusal.Program = 19
 
 -- 01, "Numbers the guide may answer", row 0: "done", "none below holds".
 unfoldable pub answerNumber : Answer → ℕ
@@ -68,6 +70,7 @@ carried Refusal.NoRoom = 0
 carried (Refusal.Text p) = p
 carried Refusal.Nested = 0
 carried Refusal.Large = 0
+carried Refusal.Program = 0
 
 -- The number that an answer carries, and 0 where it carries none: 02, Wish 1: "only a refused choice shows it".
 unfoldable pub answerCarried : Answer → ℕ

@@ -5,7 +5,7 @@ use runs::Verdict;
 
 // 01, "Numbers the guide may answer": the rows of the table but the first, by their names, in its order; in the place of "not
 // enabled" the three of 02, Wish 1: no such rule or specification, the plan's front, a condition with the node that settled it.
-// Then those of 02, Wish 2: a text with the place of the wrong byte, nested too deep, too large.
+// Then those of 02, Wish 2: a text with the place of the wrong byte, nested too deep, too large; and that of Wish 6: a program.
 pub enum Refusal {
     Short,
     Mark,
@@ -25,6 +25,7 @@ pub enum Refusal {
     Text(usize),
     Nested,
     Large,
+    Program,
 }
 
 // 01, "Numbers the guide may answer": "done", row 0, or one of the others.

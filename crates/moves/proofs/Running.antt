@@ -45,13 +45,13 @@ use Rattle.moves.specs.Steps.{transitionOf, configurationAfter, Open, Ad
 
 -- ---- the choice that was found is the guide's own
 
-choice-back : (k : Choice) (n i : ℕ) → Chosen.At (kind k) (number k) ≡ Chosen.At n i → choiceAt n i ≡ k
+pub choice-back : (k : Choice) (n i : ℕ) → Chosen.At (kind k) (number k) ≡ Chosen.At n i → choiceAt n i ≡ k
 unfolding kind number
 choice-back (select m) n i e = let a : 0 ≡ n = cc in let b : m ≡ i = cc in rw (← a, ← b)
 choice-back (act m) n i e = let a : 1 ≡ n = cc in let b : m ≡ i = cc in rw (← a, ← b)
 choice-back (revise m) n i e = let a : 2 ≡ n = cc in let b : m ≡ i = cc in rw (← a, ← b)
 
-kind-below : (k : Choice) → kind k < 3
+pub kind-below : (k : Choice) → kind k < 3
 unfolding kind
 kind-below (select m) = omega arith
 kind-below (act m) = omega arith
@@ -94,7 +94,7 @@ ready-back l b c h =
     let n : length (take (m .length) (c .plan)) ≡ m .length = length-take-le (m .length) (c .plan) (let f = h .fits in let r = h .room in omega arith) in
     λ i. record { mind = record { beliefs = m .beliefs; goals = m .goals; length = n i; phase = m .phase; finished = m .finished }; plan = sym (h .zeros) i }
 
-ready-after : (l : Layout) (b : Bytes) → GoodCard l b → (s : State) → length (s .mental .π) ≤ 1024 → s .phase ≤ 2 → Ready l b (configurationOf s)
+pub ready-after : (l : Layout) (b : Bytes) → GoodCard l b → (s : State) → length (s .mental .π) ≤ 1024 → s .phase ≤ 2 → Ready l b (configurationOf s)
 unfolding configurationOf
 ready-after l b g s h p =
     let t = take-padded (s .mental .π) (length (s .mental .π)) refl in
@@ -102,7 +102,7 @@ ready-after l b g s h p =
 
 -- ---- only an action changes beliefs and goals
 
-no-action-keeps : {A : Agent} {c c′ : Config} {k : Choice} → Step A c k c′ → (kind k ≡ 1 → ⊥) → (c′ .σ ≡ c .σ) × (c′ .γ ≡ c .γ)
+pub no-action-keeps : {A : Agent} {c c′ : Config} {k : Choice} → Step A c k c′ → (kind k ≡ 1 → ⊥) → (c′ .σ ≡ c .σ) × (c′ .γ ≡ c .γ)
 unfolding kind
 no-action-keeps (execute e p) h = absurd (h refl)
 no-action-keeps (apply-PS e p q) h = (refl, refl)

@@ -27,7 +27,7 @@ use meaning::Mind;
 use runs::Ending;
 
 // The nodes are judged, unless their marks are known to be true.
-fn refresh(card: &[u8], l: Layout, m: Mind, known: bool, marks: &mut [bool; 256])
+pub fn refresh(card: &[u8], l: Layout, m: Mind, known: bool, marks: &mut [bool; 256])
     requires { ⌜ GoodCard l (now card) × (length (now marks) ≡ 256) × (known ≡ true → Marked l (now card) m (now marks)) ⌝ }
     ensures { λ r. ⌜ Marked l (now (card .entry)) m (now (marks .exit)) × (length (now (marks .exit)) ≡ 256) ⌝ }
 {

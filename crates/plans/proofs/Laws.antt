@@ -104,7 +104,7 @@ clear-more d from to i h ht hd =
 
 -- ---- zeros after the end
 
-drop-replicate : (m n a : ℕ) → drop m (replicate n a) ≡ replicate (n - m) a
+pub drop-replicate : (m n a : ℕ) → drop m (replicate n a) ≡ replicate (n - m) a
 drop-replicate zero n a = rw sub-zero
 drop-replicate (suc m) zero a = rw zero-sub
 drop-replicate (suc m) (suc n) a = rw (suc-sub-suc n m) (drop-replicate m n a)

@@ -1,4 +1,4 @@
-//! The ten calls of the weaving guide for Rust. What each does is said in rigtemple.h.
+//! The eleven calls of the weaving guide for Rust. What each does is said in rigtemple.h.
 //!
 //! SAFETY of every call below: the pointers come from references and slices, so that none is null,
 //! all are aligned, the lengths are true, and what is written overlaps nothing.
@@ -7,7 +7,7 @@ mod parts;
 mod words;
 
 use words::{done, done_with};
-pub use words::{Choice, Ending, Offender, Refusal, Verdict};
+pub use words::{Choice, DeliberationEnding, Ending, Entry, Offender, Refusal, Verdict};
 
 pub const SET_BYTES: usize = 16;
 pub const MOST_CARD_BYTES: usize = 24128;
@@ -15,6 +15,8 @@ pub const MOST_PLAN_ACTIONS: usize = 1024;
 pub const MOST_PLACE_BYTES: usize = 1068;
 pub const MOST_LIST_ENTRIES: usize = 768;
 pub const MOST_PRINTED_BYTES: usize = 894;
+pub const MOST_PROGRAM_BYTES: usize = 512;
+pub const MOST_REMAINING: usize = 128;
 
 /// Where a weaver stands in a card; the plan is the first `length` bytes of `plan`, and `finished`
 /// is how many moves have left it empty, to be shown as "bands finished".
@@ -45,6 +47,15 @@ impl Configuration {
 pub struct Ran {
     pub moves: u16,
     pub ending: Ending,
+}
+
+/// What a deliberation made, idle moves too, why it ended, and what remains of its program: the
+/// entry numbers, the next first.
+#[derive(Clone, Debug, PartialEq, Eq)]
+pub struct Deliberated {
+    pub moves: u16,
+    pub ending: DeliberationEnding,
+    pub remaining: Vec<u8>,
 }
 
 /// Judges a card.
@@ -147,6 +158,41 @@ pub fn run(card: &[u8], c: &mut Configuration, budget: u16) -> Result<Ran, Refus
     Ok(Ran {
         moves,
         ending: Ending::of(ending),
+    })
+}
+
+/// Moves by a program, for `budget` moves at most; `Entry::bytes` makes the program's entries.
+pub fn deliberate(
+    card: &[u8],
+    program: &[u8],
+    c: &mut Configuration,
+    budget: u16,
+) -> Result<Deliberated, Refusal> {
+    let (mut moves, mut ending, mut remaining_length) = (0, 0, 0);
+    let mut remaining = [0; MOST_REMAINING];
+    done(unsafe {
+        parts::rigtemple_deliberate_parts(
+            card.as_ptr(),
+            card.len(),
+            program.as_ptr(),
+            program.len(),
+            c.beliefs.as_mut_ptr(),
+            c.goals.as_mut_ptr(),
+            c.plan.as_mut_ptr(),
+            &mut c.length,
+            &mut c.phase,
+            &mut c.finished,
+            budget,
+            &mut moves,
+            &mut ending,
+            remaining.as_mut_ptr(),
+            &mut remaining_length,
+        )
+    })?;
+    Ok(Deliberated {
+        moves,
+        ending: DeliberationEnding::of(ending),
+        remaining: remaining[..usize::from(remaining_length)].to_vec(),
     })
 }
 

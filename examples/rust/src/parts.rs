@@ -1,5 +1,5 @@
-//! The functions of the archive, as rigtemple.h declares them: the ten calls over the parts of a
-//! configuration. `beliefs` and `goals` point to 16 bytes each, `plan` to 1,024.
+//! The functions of the archive, as rigtemple.h declares them: the eleven calls over the parts of a
+//! configuration. `beliefs` and `goals` point to 16 bytes each, `plan` to 1,024, `remaining` to 128.
 
 extern "C" {
     pub fn rigtemple_check_parts(card: *const u8, card_len: usize) -> u16;
@@ -62,6 +62,24 @@ extern "C" {
         budget: u16,
         moves: *mut u16,
         ending: *mut u8,
+    ) -> u16;
+
+    pub fn rigtemple_deliberate_parts(
+        card: *const u8,
+        card_len: usize,
+        program: *const u8,
+        program_len: usize,
+        beliefs: *mut u8,
+        goals: *mut u8,
+        plan: *mut u8,
+        length: *mut u16,
+        phase: *mut u8,
+        finished: *mut u16,
+        budget: u16,
+        moves: *mut u16,
+        ending: *mut u8,
+        remaining: *mut u8,
+        remaining_length: *mut u8,
     ) -> u16;
 
     pub fn rigtemple_save_parts(

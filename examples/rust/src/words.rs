@@ -24,6 +24,7 @@ pub enum Refusal {
     /// The text is not of the grammar; the place of the first wrong byte.
     Text(usize),
     Nested,
+    Program,
     Large,
 }
 
@@ -53,6 +54,7 @@ impl Refusal {
             Refusal::Condition(_) => (16, "condition"),
             Refusal::Text(_) => (17, "text"),
             Refusal::Nested => (18, "nested"),
+            Refusal::Program => (19, "program"),
             Refusal::Large => (25, "large"),
         }
     }
@@ -77,6 +79,7 @@ impl Refusal {
             16 => Refusal::Condition(carried as u16),
             17 => Refusal::Text(carried),
             18 => Refusal::Nested,
+            19 => Refusal::Program,
             25 => Refusal::Large,
             other => panic!("no refusal has the number {other}"),
         }
@@ -120,6 +123,51 @@ pub enum Ending {
 impl Ending {
     pub(crate) fn of(number: u8) -> Ending {
         [Ending::Spent, Ending::Rest, Ending::Full][usize::from(number)]
+    }
+}
+
+/// Why a deliberation ended.
+#[derive(Clone, Copy, Debug, PartialEq, Eq)]
+pub enum DeliberationEnding {
+    Spent,
+    Finished,
+    Stuck,
+    Full,
+}
+
+impl DeliberationEnding {
+    pub(crate) fn of(number: u8) -> DeliberationEnding {
+        use DeliberationEnding::*;
+        [Spent, Finished, Stuck, Full][usize::from(number)]
+    }
+}
+
+/// An entry of a program. A rule and a node are numbers of the card, a part is the number of an
+/// entry before it; the last entry is the whole.
+#[derive(Clone, Copy, Debug, PartialEq, Eq)]
+pub enum Entry {
+    Execute,
+    Apply(u8),
+    Select(u8),
+    WhilePlan(u8),
+    /// While a node holds, a part.
+    WhileBelief(u8, u8),
+    Then(u8, u8),
+    Or(u8, u8),
+}
+
+impl Entry {
+    /// "a kind, a, b and 0".
+    pub fn bytes(self) -> [u8; 4] {
+        match self {
+            Entry::Execute => [0, 0, 0, 0],
+            Entry::Apply(rule) => [1, rule, 0, 0],
+            Entry::Select(rule) => [2, rule, 0, 0],
+            Entry::WhilePlan(body) => [3, 0, body, 0],
+            Entry::WhileBelief(node, body) => [4, node, body, 0],
+            Entry::Then(first, second) => [5, first, second, 0],
+            Entry::Or(left, right) => [6, left, right, 0],
+        }
     }
 }
 

@@ -1,7 +1,9 @@
 //! The stored requests of crates/drill: each is read, the call is made, and every byte that is
 //! answered is held against the stored answers. `drill.md` says how both are written.
 
-use rigtemple::{Configuration, Ending, Offender, Refusal, Verdict, SET_BYTES};
+use rigtemple::{
+    Configuration, Deliberated, DeliberationEnding, Ending, Offender, Refusal, Verdict, SET_BYTES,
+};
 
 /// What a lent list and a lent place are filled with.
 const LENT_ENTRY: u16 = 0xEEEE;
@@ -132,6 +134,33 @@ fn run(card: &[u8], requests: &mut Requests, answers: &mut Answers) {
     });
 }
 
+/// Deliberates: a refusal answers no moves, spent, and that nothing remains.
+fn deliberate(card: &[u8], requests: &mut Requests, answers: &mut Answers) {
+    let program = requests.counted();
+    let mut c = requests.image();
+    let answer = rigtemple::deliberate(card, program, &mut c, requests.number());
+    answers.answer(&answer);
+    answers.image(&c);
+    let Deliberated {
+        moves,
+        ending,
+        remaining,
+    } = answer.unwrap_or(Deliberated {
+        moves: 0,
+        ending: DeliberationEnding::Spent,
+        remaining: Vec::new(),
+    });
+    answers.number(moves);
+    answers.byte(match ending {
+        DeliberationEnding::Spent => 0,
+        DeliberationEnding::Finished => 1,
+        DeliberationEnding::Stuck => 2,
+        DeliberationEnding::Full => 3,
+    });
+    answers.number(remaining.len() as u16);
+    answers.0.extend(remaining);
+}
+
 /// Saves; the number of bytes is not in the answer, and is held here.
 fn save(card: &[u8], requests: &mut Requests, answers: &mut Answers) {
     let c = requests.image();
@@ -194,6 +223,7 @@ fn answer<'a>(card: &mut &'a [u8], requests: &mut Requests<'a>, answers: &mut An
         8 => begun(rigtemple::restore(card, requests.counted()), answers),
         9 => text(requests, answers),
         10 => print(card, requests, answers),
+        11 => deliberate(card, requests, answers),
         other => panic!("there is no request {other}"),
     }
 }

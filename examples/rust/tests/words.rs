@@ -1,6 +1,6 @@
-//! The words of the answers and the codes of choices.
+//! The words of the answers, the codes of choices and the bytes of entries.
 
-use rigtemple::{Choice, Refusal};
+use rigtemple::{Choice, DeliberationEnding, Entry, Refusal};
 
 #[test]
 fn refusals_have_their_numbers_and_names() {
@@ -13,6 +13,8 @@ fn refusals_have_their_numbers_and_names() {
     assert_eq!(Refusal::Condition(2).to_string(), "condition (node 2)");
     assert_eq!(Refusal::Text(70000).number(), 17);
     assert_eq!(Refusal::Text(70000).to_string(), "text (place 70000)");
+    assert_eq!(Refusal::Program.number(), 19);
+    assert_eq!(Refusal::Program.to_string(), "program");
     assert_eq!(Refusal::Large.number(), 25);
 }
 
@@ -21,4 +23,34 @@ fn choices_have_their_codes() {
     assert_eq!(Choice::Selection(255).code(), 255);
     assert_eq!(Choice::Action(0).code(), 256);
     assert_eq!(Choice::Revision(1).code(), 513);
+}
+
+#[test]
+fn entries_make_a_program() {
+    let cards = concat!(env!("CARGO_MANIFEST_DIR"), "/../../cards");
+    let read = |name| std::fs::read(format!("{cards}/{name}")).expect("the file is there");
+    let teaching = [
+        Entry::Execute,
+        Entry::Apply(0),
+        Entry::Apply(1),
+        Entry::Apply(2),
+        Entry::Or(1, 2),
+        Entry::Or(4, 3),
+        Entry::Or(5, 0),
+        Entry::WhilePlan(6),
+        Entry::Select(0),
+        Entry::Then(8, 7),
+    ];
+    let program = teaching.map(Entry::bytes).concat();
+    assert_eq!(program, read("teaching.program"));
+    assert_eq!(Entry::WhileBelief(2, 1).bytes(), [4, 2, 1, 0]);
+    let card = read("stripe.card");
+    let mut c = rigtemple::load(&card).expect("the card is good");
+    let first = rigtemple::deliberate(&card, &program, &mut c, 2).expect("the program is good");
+    assert_eq!(first.ending, DeliberationEnding::Spent);
+    assert_eq!((first.moves, first.remaining), (2, vec![6, 7]));
+    let before = c.clone();
+    let broken = rigtemple::deliberate(&card, &program[..5], &mut c, 2);
+    assert_eq!(broken, Err(Refusal::Program));
+    assert_eq!(c, before);
 }

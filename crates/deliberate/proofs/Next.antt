@@ -1,0 +1,93 @@
+-- The next of the numbers that remain, and what is left of them where its move is not made.
+use mathlib.Core.Path.{_≡_, refl, ap, _∙_, sym, subst}
+use mathlib.Core.Bool.{false}
+use mathlib.Core.List.{List, _∷_}
+use mathlib.Core.Option.{Option, none, some}
+use Prim.Native.Nat.{ℕ, _+_, _-_, _≤_, _<_}
+use native.Mathlib.Numerals.{add-one}
+use native.Mathlib.Omega.{arith}
+use lib.ListN.{length, drop, set, getD, length-set, length-drop}
+use lib.Seq.{drop-cons}
+use Rattle.paper.specs.Next.{isSome}
+use Rattle.paper.proofs.Relation.{false≢true}
+use Rattle.meaning.specs.declared.Layout.{Layout}
+use Rattle.meaning.specs.declared.Configuration.{Configuration}
+use Rattle.meaning.specs.Card.{Bytes, agentFor}
+use Rattle.meaning.specs.Configurations.{stateOf}
+use Rattle.choices.specs.Truth.{Marked}
+use Rattle.deliberation.specs.FirstMove.{Move}
+use Rattle.deliberation.specs.Entries.{entryCount}
+use Rattle.deliberation.specs.Deliberate.{Came, stuck, too-long, on, came}
+use Rattle.deliberation.proofs.Room.{Stacked}
+use Rattle.program.specs.GoodProgram.{GoodProgram}
+use Rattle.deliberate.specs.declared.made.Made.{Made}
+use Rattle.deliberate.specs.declared.made.Moved.{Moved}
+use Rattle.deliberate.specs.First.{moveAt}
+use Rattle.deliberate.specs.Descent.{Stack}
+use Rattle.deliberate.specs.Made.{madeOf, configurationAfter, numbersAfter, Makes, MakesNext, Remains, stayed, keptAs, keptIn}
+use Rattle.deliberate.proofs.Descending.{pushed, later-kept, stacked-room}
+
+module _ (p stack : Bytes) (top : ℕ) (r : Remains p stack top) (h : top < 128) where
+  pub next-first : drop top stack ≡ getD stack top 0 ∷ drop (top + 1) stack
+  next-first = let s = r .room in drop-cons stack top 0 (omega arith) ∙ ap (λ n. getD stack top 0 ∷ drop n stack) (sym (add-one top))
+
+  pub next-stack : Stack p stack (getD stack top 0) (top + 1)
+  next-stack = record { room = r .room; within = omega arith; stacked = subst (Stacked (entryCount p - 1)) next-first (r .stacked) }
+
+  pub next-known : (l : Layout) (b : Bytes) → GoodProgram l b p → (getD stack top 0 < entryCount p) × (getD stack top 0 < 128)
+  next-known l b g =
+      let k = stacked-room (next-stack .stacked) in
+      let some = g .some in
+      let most = g .most in
+      (omega arith, omega arith)
+
+module _ (l : Layout) (b p : Bytes) (c : Configuration) (stack : Bytes) (top : ℕ) (r : Remains p stack top) (h : top < 128) where
+  abbrev next : ℕ
+  next = getD stack top 0
+
+  -- the stack and the top after a descent, the move that is made then, and what it leaves
+  module _ (down : Bytes) (rest : ℕ) (room : length down ≡ 128) (rising : rest ≤ top + 1) (behind : drop (top + 1) down ≡ drop (top + 1) stack)
+      (x : Moved) (plan left : Bytes) where
+    not-made : (m : Made) (o : Came) → Makes l b c (drop rest down) o x plan left → m ≡ madeOf o → numbersAfter o (drop rest down) ≡ drop rest down
+        → numbersAfter o (drop top stack) ≡ drop top stack → configurationAfter o c ≡ c → Makes l b c (drop top stack) o (stayed (x .mind) m top) plan (set left top next)
+    not-made m o k e f g u =
+        let s = k .room in
+        let w = k .within in
+        let same : length (drop (x .top) left) ≡ length (drop rest down) = ap length (k .numbers ∙ f) in
+        let t : x .top ≡ rest = (let d = length-drop (x .top) left in let v = length-drop rest down in omega arith) in
+        let q : drop rest left ≡ drop rest down = ap (λ n. drop n left) (sym t) ∙ k .numbers ∙ f in
+        let z = later-kept rest (top + 1) left down rising q ∙ behind in
+        record {
+          told = e;
+          configuration = k .configuration;
+          numbers = pushed left top next (omega arith) ∙ ap (λ ns. next ∷ ns) z ∙ sym (next-first p stack top r h) ∙ sym g;
+          within = omega arith;
+          room = simp length-set s;
+          keeps = λ _ marks v. subst (λ (y : Configuration). Marked l b (y .mind) marks) (sym (k .configuration ∙ u)) v;
+        }
+
+    by-made : (o : Came) → Makes l b c (drop rest down) o x plan left
+        → Makes l b c (drop top stack) o (keptAs (x .made) x top) plan (keptIn (x .made) left top next)
+    by-made stuck k = subst (λ m. Makes l b c (drop top stack) stuck (keptAs m x top) plan (keptIn m left top next)) (sym (k .told)) (not-made Made.Stuck stuck k refl refl refl refl)
+    by-made too-long k = subst (λ m. Makes l b c (drop top stack) too-long (keptAs m x top) plan (keptIn m left top next)) (sym (k .told)) (not-made Made.Full too-long k refl refl refl refl)
+    by-made (on ns s) k =
+        subst (λ m. Makes l b c (drop top stack) (on ns s) (keptAs m x top) plan (keptIn m left top next)) (sym (k .told))
+        (record { told = k .told; configuration = k .configuration; numbers = k .numbers; within = k .within; room = k .room; keeps = k .keeps })
+
+    pub kept-so : (o : Came) → Makes l b c (drop rest down) o x plan left → (y : Moved) (end : Bytes) → y ≡ keptAs (x .made) x top
+        → end ≡ keptIn (x .made) left top next → Makes l b c (drop top stack) o y plan end
+    kept-so o k y end e f = subst (λ z. Makes l b c (drop top stack) o z plan end) (sym e) (subst (λ z. Makes l b c (drop top stack) o (keptAs (x .made) x top) plan z) (sym f) (by-made o k))
+
+-- a number that has no first move is stuck, and all stays as it was
+module _ (l : Layout) (b p : Bytes) (c : Configuration) (stack : Bytes) (top : ℕ) (r : Remains p stack top) where
+  came-none : (o : Option (Move (List ℕ))) (ns : List ℕ) → isSome o ≡ false → came (agentFor l b) (stateOf c) o ns ≡ stuck
+  came-none none ns e = refl
+  came-none (some m) ns e = absurd (false≢true (sym e))
+
+  pub stuck-so : isSome (moveAt l b p c (getD stack top 0)) ≡ false → (y : Moved) → y ≡ stayed (c .mind) Made.Stuck top
+      → MakesNext l b p c stack top y (c .plan) stack
+  stuck-so e y f =
+      let o = came-none (moveAt l b p c (getD stack top 0)) (drop (top + 1) stack) e in
+      subst (λ z. Makes l b c (drop top stack) z y (c .plan) stack) (sym o)
+      (subst (λ z. Makes l b c (drop top stack) stuck z (c .plan) stack) (sym f)
+      (record { told = refl; configuration = refl; numbers = refl; within = r .within; room = r .room; keeps = λ _ marks v. v }))

@@ -1,0 +1,28 @@
+-- What the call answers where the plan and the numbers are lent, together with what these hold, as one answer.
+use Prim.Native.Nat.{ℕ}
+use Rattle.meaning.specs.declared.Answer.{Answer}
+use Rattle.meaning.specs.declared.Mind.{Mind}
+use Rattle.meaning.specs.Card.{Bytes}
+use Rattle.layout.specs.PlaceParts.{lent}
+use Rattle.deliberation.specs.declared.DeliberationEnding.{DeliberationEnding}
+use Rattle.deliberation.specs.declared.Remaining.{Remaining}
+use Rattle.deliberation.specs.declared.Deliberated.{Deliberated}
+use Rattle.deliberate.specs.declared.call.DeliberatedInPlace.{DeliberatedInPlace}
+
+-- the numbers that remain, by how many they are and what is lent for them
+abbrev pub remains : ℕ → Bytes → Remaining
+remains n numbers = record { length = n; numbers = numbers }
+
+-- with the plan and the numbers afterwards
+abbrev pub deliberatedWith : DeliberatedInPlace → Bytes → Bytes → Deliberated
+deliberatedWith r plan numbers = record {
+  answer = r .answer;
+  count = r .count;
+  ending = r .ending;
+  configuration = lent (r .mind) plan;
+  remaining = remains (r .length) numbers;
+}
+
+-- of a refusal: 01, "Numbers the guide may answer": "Any count in a refusal is 0."; 02, Wish 6: "none when refused"
+abbrev pub refusedWith : Answer → Mind → DeliberatedInPlace
+refusedWith a m = record { answer = a; count = 0; ending = DeliberationEnding.Spent; mind = m; length = 0 }

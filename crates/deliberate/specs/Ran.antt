@@ -1,0 +1,17 @@
+-- What a deliberation comes to, of what the code answers and leaves in the lent plan and the numbers that remain.
+use mathlib.Core.Path.{_≡_}
+use Prim.Native.Nat.{_≤_}
+use lib.ListN.{length, drop}
+use Rattle.meaning.specs.Card.{Bytes}
+use Rattle.meaning.specs.Configurations.{configurationOf}
+use Rattle.layout.specs.PlaceParts.{lent}
+use Rattle.deliberation.specs.Deliberate.{Outcome}
+use Rattle.deliberate.specs.declared.run.Ran.{Ran}
+
+pub record RanTo (o : Outcome) (r : Ran) (plan stack : Bytes) : Type 0 where
+  pub count : r .count ≡ o .count
+  pub ending : r .ending ≡ o .ending
+  pub configuration : lent (r .mind) plan ≡ configurationOf (o .state)
+  pub numbers : drop (r .top) stack ≡ o .remaining
+  pub within : r .top ≤ 128
+  pub room : length stack ≡ 128

@@ -1,0 +1,83 @@
+// A deliberation: moves one after the other, at most as many as the budget says.
+ghost use mathlib.Core.Path.{_≡_};
+ghost use lib.ListN.{drop};
+ghost use Rattle.paper.specs.Language.{𝐁};
+ghost use Rattle.meaning.specs.Card.{conditions, agentFor};
+ghost use Rattle.meaning.specs.Configurations.{stateOf};
+ghost use Rattle.layout.specs.PlaceParts.{lent};
+ghost use Rattle.choices.specs.Ready.{Ready};
+ghost use Rattle.deliberation.specs.Entries.{entries};
+ghost use Rattle.deliberation.specs.Deliberate.{deliberate};
+ghost use Rattle.program.specs.GoodProgram.{GoodProgram};
+ghost use Rattle.deliberate.specs.Made.{Remains};
+ghost use Rattle.deliberate.specs.Ran.{RanTo};
+use crate::made::Made;
+use crate::made::make_move;
+use choices::truth::no_marks;
+use deliberation::DeliberationEnding;
+use meaning::Layout;
+use meaning::Mind;
+use moves::run::refresh;
+
+// What a deliberation comes to beside the plan and the numbers that remain: where these begin.
+pub struct Ran {
+    pub mind: Mind,
+    pub count: u16,
+    pub ending: DeliberationEnding,
+    pub top: usize,
+}
+
+// Where a deliberation ends.
+fn ended(m: Mind, count: u16, ending: DeliberationEnding, top: usize) -> Ran
+    ensures { λ r. ⌜ r ≡ record { mind = m; count = count; ending = ending; top = top } ⌝ }
+{
+    Ran {
+        mind: m,
+        count: count,
+        ending: ending,
+        top: top,
+    }
+}
+
+// "Endings, in this order: spent, finished, stuck, full." The nodes are judged at most once a move: their marks stay true until an
+// action.
+pub fn run_moves(
+    card: &[u8],
+    l: Layout,
+    m: Mind,
+    plan: &mut [u8; 1024],
+    program: &[u8],
+    budget: u16,
+    stack: &mut [u8; 128],
+    top: usize,
+) -> Ran
+    requires { ⌜ Ready l (now card) (lent m (now plan)) × GoodProgram l (now card) (now program) × Remains (now program) (now stack) top ⌝ }
+    ensures { λ r. ⌜ RanTo (deliberate (agentFor l (now (card .entry))) (conditions 𝐁 l (now (card .entry))) (entries (now (program .entry)))
+        budget (drop top (now (stack .entry))) (stateOf (lent m (now (plan .entry))))) r (now (plan .exit)) (now (stack .exit)) ⌝ }
+{
+    let mut cur = m;
+    let mut marks = no_marks();
+    let mut known = false;
+    let mut rest = top;
+    let mut count: u16 = 0;
+    while count < budget {
+        if rest == 128 {
+            return ended(cur, count, DeliberationEnding::Finished, rest);
+        }
+        refresh(card, l, cur, known, &mut marks);
+        let moved = make_move(card, l, cur, plan, &marks, program, stack, rest);
+        let made = moved.made;
+        let after = moved.mind;
+        match made {
+            Made::On => {
+                known = moved.known;
+                cur = after;
+                rest = moved.top;
+                count += 1;
+            }
+            Made::Stuck => return ended(after, count, DeliberationEnding::Stuck, moved.top),
+            Made::Full => return ended(after, count, DeliberationEnding::Full, moved.top),
+        }
+    }
+    ended(cur, count, DeliberationEnding::Spent, rest)
+}

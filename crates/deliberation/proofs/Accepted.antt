@@ -1,0 +1,76 @@
+-- Of an accepted card: what the entries of a program name, and that it has no reactive rules, so that 000's theorems hold of it.
+use mathlib.Core.Path.{_≡_, ap, _∙_, sym}
+use mathlib.Core.Bool.{Bool, true}
+use mathlib.Core.List.{List}
+use Prim.Native.Nat.{ℕ, _+_, _≤_, _<_}
+use native.Mathlib.Omega.{arith}
+use lib.Dec.{ltb, eqb}
+use lib.ListN.{length}
+use borrow.Author.Tests.{leb-true, ltb-true}
+use Rattle.paper.specs.Language.{Revision}
+use Rattle.paper.proofs.Relation.{both, some-inj}
+use Rattle.runs.proofs.Order.{entry-lt}
+use Rattle.meaning.specs.declared.Layout.{Layout}
+use Rattle.meaning.specs.declared.Span.{Span}
+use Rattle.meaning.specs.Card.{Bytes, layout, plan, revisionAt, revisionOf, agentOf, agentFor, agent}
+use Rattle.meaning.specs.Refusals.{within, containing, conditionGood, spanGood, revisionGood}
+use Rattle.meaning.proofs.Accepted.{accepted, offsets, within-low, length-entries}
+use Rattle.meaning.proofs.Entries.{good-entries}
+use Rattle.meaning.proofs.AtomKinds.{no-goal-atom}
+use Rattle.meaning.proofs.AgentEntries.{revisionFor, revision-entry}
+use Rattle.meaning.proofs.Parts.{length-part}
+use Rattle.deliberation.specs.Theorems.{EntryLaw}
+use Rattle.deliberation.specs.Equivalence.{NoReactiveLaw, InterpreterLaws}
+use Rattle.deliberation.specs.Entries.{entryAt}
+use Rattle.deliberation.proofs.Good.{entry-rule}
+use Rattle.deliberation.proofs.Equivalence.{proposition-1, lemma-1, theorem-1}
+
+-- row 7 asks that a head lies in the pool and is not empty
+head-good : (gs : List Bool) (l : Layout) (b : Bytes) (i : ℕ) → revisionGood gs l (revisionAt l b i) ≡ true → spanGood l 1 (revisionAt l b i .head) ≡ true
+unfolding revisionGood
+head-good gs l b i e =
+    let r = revisionAt l b i in
+    let (h1, e1) = both (conditionGood l gs (r .node)) _ e in
+    let (h2, e2) = both (eqb (r .plain) 0) _ e1 in
+    both (spanGood l 1 (r .head)) _ e2 .0
+
+plan-long : (l : Layout) (b : Bytes) (s : Span) → length b ≡ l .pool .offset + l .pool .count → spanGood l 1 s ≡ true → 1 ≤ length (plan l b s)
+unfolding plan
+plan-long l b s n e =
+    let (h, t) = both (within 1 1024 (s .length)) _ e in
+    let some-length = within-low 1 1024 (s .length) h in
+    let inside = leb-true (s .start + s .length) (l .pool .count) t in
+    rw (length-part b (l .pool .offset + s .start) (s .length) (omega arith)) some-length
+
+pub no-reactive : NoReactiveLaw
+unfolding agent agentFor agentOf revisionOf
+no-reactive b e n r entry empty =
+    let a = accepted b e in
+    let l = layout b in
+    let h : n < l .revisions .count = rw (length-entries _ (l .revisions)) at (entry-lt (agent b .PR) n entry) in
+    let q : revisionFor l b n ≡ r = some-inj (sym (revision-entry l b n h) ∙ entry) in
+    let g = head-good (containing 2 l b) l b n (good-entries l b (a .rules) .revision n h) in
+    let long : 1 ≤ length (plan l b (revisionAt l b n .head)) = plan-long l b (revisionAt l b n .head) (offsets l (length b) (a .offsets) .ends) g in
+    let none-there : length (plan l b (revisionAt l b n .head)) ≡ 0 = ap (λ (x : Revision). length (x .πₕ)) q ∙ ap length empty in
+    omega arith
+
+pub interpreter-laws : InterpreterLaws
+interpreter-laws = record { proposition-1 = proposition-1; lemma-1 = lemma-1; theorem-1 = theorem-1; no-reactive = no-reactive }
+
+-- ---- the entries of a program
+
+pub entry-law : EntryLaw
+unfolding agent agentFor agentOf
+entry-law b p card good i h =
+    let l = layout b in
+    let x = entryAt p i in
+    let r = entry-rule (containing 2 l b) l p good i h in
+    record {
+      first-part = r .first;
+      second-part = r .second;
+      known-revision = λ k. rw (length-entries _ (l .revisions)) (r .revision k);
+      known-selection = λ k. rw (length-entries _ (l .selections)) (r .selection k);
+      belief-condition = λ k. (
+          let e = r .node k in
+          (ltb-true (x .a) (l .nodes .count) (both (ltb (x .a) (l .nodes .count)) _ e .0), no-goal-atom b card (x .a) e));
+    }

@@ -1,0 +1,41 @@
+-- The cases, by computation.
+use mathlib.Core.Path.{refl}
+use mathlib.Core.List.{flatten}
+use Rattle.meaning.specs.Assembled.{assembled}
+use Rattle.meaning.specs.Stripe.{set, specification, selection, revision, stripeWith, stripe}
+use Rattle.meaning.specs.Cases.{loaded}
+use Rattle.meaning.proofs.Computing.{computing}
+use Rattle.deliberation.specs.Programs.{𝒲}
+use Rattle.deliberation.specs.FirstMove.{lowestAction, ifEnabled}
+use Rattle.deliberation.specs.Entries.{entryAt, entries, programGood, programTable, deliberateAnswer, moves}
+use Rattle.deliberation.specs.Deliberate.{leads, deliberate, remainingOf, deliberates, deliberationEndingNumber}
+use Rattle.deliberation.specs.Cases.{entry, told, teaching, doubling, withPlan, long, wrong, DeliberationCases}
+
+pub cases : DeliberationCases
+unfolding computing flatten assembled set specification selection revision stripeWith stripe loaded 𝒲 lowestAction ifEnabled entryAt entries programGood programTable deliberateAnswer moves leads deliberate remainingOf deliberates deliberationEndingNumber entry told teaching doubling withPlan long wrong
+cases =
+    record {
+      finished = refl;
+      finished-at = refl;
+      spent-first = refl;
+      no-budget = refl;
+      left-done = refl;
+      idle-counted = refl;
+      idle-leaves = refl;
+      stuck = refl;
+      right-taken = refl;
+      idle-left = refl;
+      full-left = refl;
+      belief-while = refl;
+      shared = refl;
+      no-entry = refl;
+      byte-more = refl;
+      too-many = refl;
+      no-kind = refl;
+      unused-byte = refl;
+      own-part = refl;
+      no-rule = refl;
+      goal-condition = refl;
+      before-13 = refl;
+      then-13 = refl;
+    }

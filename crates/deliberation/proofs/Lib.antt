@@ -1,0 +1,12 @@
+pub mod Cases
+pub mod Moves
+pub mod Good
+pub mod Room
+pub mod First
+pub mod Parts
+pub mod Standing
+pub mod Followed
+pub mod Run
+pub mod Call
+pub mod Equivalence
+pub mod Accepted

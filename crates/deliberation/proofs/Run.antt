@@ -1,0 +1,211 @@
+-- A deliberation makes the first move of what remains, again and again, counts them, and ends for the reason that it gives.
+use mathlib.Core.Path.{_≡_, refl, ap, _∙_, sym, subst}
+use mathlib.Core.Bool.{Bool, true}
+use mathlib.Core.List.{List, [], _∷_, _++_}
+use mathlib.Core.Option.{Option, none, some}
+use Prim.Native.Nat.{ℕ, zero, suc, _<_}
+use native.Mathlib.Omega.{arith}
+use lib.ListN.{length, getD}
+use Rattle.paper.specs.Language.{𝐁, Query, Agent}
+use Rattle.paper.specs.Transitions.{Choice}
+use Rattle.runs.specs.Order.{State}
+use Rattle.runs.specs.Step.{after, Reached, nothing, full, to, step}
+use Rattle.runs.proofs.Step.{StepsTo, none-there, too-long, taken, steps-to}
+use Rattle.meaning.specs.declared.Layout.{Layout}
+use Rattle.meaning.specs.declared.Node.{Node}
+use Rattle.meaning.specs.Card.{Bytes}
+use Rattle.deliberation.specs.declared.DeliberationEnding.{DeliberationEnding}
+use Rattle.deliberation.specs.Programs.{Prog, Rest, E, still}
+use Rattle.deliberation.specs.MetaTransitions.{Label, idle, taking, MetaStep}
+use Rattle.deliberation.specs.FirstMove.{Move, firstMove}
+use Rattle.deliberation.specs.Entries.{entryCount, entries, programGood, program, standing, moves}
+use Rattle.deliberation.specs.Deliberate.{Came, stuck, on, leads, came, Outcome, ended, oneMore, deliberate, deliberationEndingNumber}
+use Rattle.deliberation.specs.Deliberate as Deliberate
+use Rattle.deliberation.specs.Theorems.{NoTransition, parts, partsOf, Goes, stays, goes, Followed, no-move, one-move, Overflows, EndsExactly}
+use Rattle.deliberation.proofs.Room.{Stacked, put, move-within}
+use Rattle.deliberation.proofs.First.{is-one, none-exactly}
+use Rattle.deliberation.proofs.Parts.{mapped, mapped-none, mapped-some, some-parts, no-parts, still-inj, still≢E}
+use Rattle.deliberation.proofs.Standing.{stood, stood-next, numbers-same}
+use Rattle.deliberation.proofs.Followed.{object}
+
+-- ---- the equations of a move and of a run
+
+module _ (A : Agent) (s : State) (k : Choice) (ns : List ℕ) where
+  pub leads-nothing : step A s k ≡ nothing → leads A s (taking k) ns ≡ stuck
+  unfolding leads
+  leads-nothing e = rw (e, leads)
+
+  pub leads-full : step A s k ≡ full → leads A s (taking k) ns ≡ Deliberate.too-long
+  unfolding leads
+  leads-full e = rw (e, leads)
+
+  pub leads-to : (s′ : State) → step A s k ≡ to k s′ → leads A s (taking k) ns ≡ on ns s′
+  unfolding leads
+  leads-to s′ e = rw (e, leads)
+
+module _ (A : Agent) (βs : List (Query 𝐁)) (es : List Node) (b n : ℕ) (ns : List ℕ) (s : State) where
+  abbrev what-comes : Came
+  what-comes = came A s (getD (moves A βs (s .mental) es) n none) ns
+
+  pub run-stuck : what-comes ≡ stuck → deliberate A βs es (suc b) (n ∷ ns) s ≡ ended DeliberationEnding.Stuck (n ∷ ns) s
+  unfolding deliberate
+  run-stuck e = rw (e, deliberate)
+
+  pub run-full : what-comes ≡ Deliberate.too-long → deliberate A βs es (suc b) (n ∷ ns) s ≡ ended DeliberationEnding.Full (n ∷ ns) s
+  unfolding deliberate
+  run-full e = rw (e, deliberate)
+
+  pub run-on : (ns′ : List ℕ) (s′ : State) → what-comes ≡ on ns′ s′ → deliberate A βs es (suc b) (n ∷ ns) s ≡ oneMore (deliberate A βs es b ns′ s′)
+  unfolding deliberate
+  run-on ns′ s′ e = rw (e, deliberate)
+
+-- ---- what a move comes to
+
+module _ (gs : List Bool) (l : Layout) (p : Bytes) (good : programGood gs l p ≡ true) (A : Agent) (βs : List (Query 𝐁)) (j : ℕ) (known : j < entryCount p) where
+  -- what the first move of a program comes to, where it then goes on with numbers
+  pub data Comes (P : Prog) (s : State) : Came → Type 0 where
+    no-move-there : NoTransition A P (s .mental) → Comes P s stuck
+    does-not-fit : Overflows A s P → Comes P s Deliberate.too-long
+    goes-on : (m : Move Rest) (ns : List ℕ) (s′ : State) → firstMove A (s .mental) P ≡ some m → Goes A s (m .label) s′
+        → partsOf (m .remaining) ≡ stood βs (entries p) ns → Stacked j ns → Comes P s (on ns s′)
+
+  module _ (P : Prog) (s : State) (m : Move Rest) (f : firstMove A (s .mental) P ≡ some m) (ns : List ℕ) (q : partsOf (m .remaining) ≡ stood βs (entries p) ns)
+      (room : Stacked j ns) where
+    pub by-step : (k : Choice) → m .label ≡ taking k → {r : Reached} → step A s k ≡ r → StepsTo A s k r → Comes P s (leads A s (taking k) ns)
+    by-step k x e (none-there h) =
+        let (c, t) = is-one A (s .mental) P m f in
+        absurd (h c (object (subst (λ y. MetaStep A P (s .mental) y (m .remaining) c) x t)))
+    by-step k x e (too-long c t h) =
+        rw (leads-full A s k ns e)
+        (does-not-fit (record { move = m; first = f; choice = k; takes = x; reached = c; leads = t; long = h }))
+    by-step k x e (taken c t h) =
+        rw (leads-to A s k ns (after s k c) e) (goes-on m ns (after s k c) f (subst (λ y. Goes A s y (after s k c)) (sym x) (goes t h)) q room)
+
+    pub by-label : (x : Label) → m .label ≡ x → Comes P s (leads A s x ns)
+    unfolding leads
+    by-label idle e = goes-on m ns s f (subst (λ y. Goes A s y s) (sym e) stays) q room
+    by-label (taking k) e = by-step k e refl (steps-to A s k)
+
+  first-known : {n : ℕ} {ns : List ℕ} → Stacked j (n ∷ ns) → n < entryCount p
+  first-known (put _ _ h t) = omega arith
+
+  comes : (P : Prog) (n : ℕ) (ns : List ℕ) (s : State) → Stacked j (n ∷ ns) → parts P ≡ stood βs (entries p) (n ∷ ns)
+      → Comes P s (came A s (getD (moves A βs (s .mental) (entries p)) n none) ns)
+  comes P n ns s t e =
+      go (getD (moves A βs (s .mental) (entries p)) n none) refl (numbers-same gs l p good A βs (s .mental) P n ns (first-known t) e)
+    where
+      go : (o : Option (Move (List ℕ))) → getD (moves A βs (s .mental) (entries p)) n none ≡ o → mapped partsOf (firstMove A (s .mental) P) ≡ mapped (λ ms. stood βs (entries p) (ms ++ ns)) o → Comes P s (came A s o ns)
+      go none r q = no-move-there (none-exactly A (s .mental) P .0 (mapped-none partsOf (firstMove A (s .mental) P) q))
+      go (some m) r q =
+          let (m′, (f, (x, w))) = mapped-some partsOf (firstMove A (s .mental) P) _ q in
+          by-label P s m′ f (m .remaining ++ ns) w (move-within A βs (s .mental) gs l p good j n ns m known t r) (m .label) x
+
+-- ---- why a deliberation ends
+
+pub data Because (A : Agent) (budget n : ℕ) : Rest → State → DeliberationEnding → Type 0 where
+  is-spent : {R : Rest} {s : State} → n ≡ budget → Because A budget n R s DeliberationEnding.Spent
+  is-finished : {s : State} → n < budget → Because A budget n E s DeliberationEnding.Finished
+  is-stuck : {P : Prog} {s : State} → n < budget → NoTransition A P (s .mental) → Because A budget n (still P) s DeliberationEnding.Stuck
+  is-full : {P : Prog} {s : State} → n < budget → Overflows A s P → Because A budget n (still P) s DeliberationEnding.Full
+
+one-later : {A : Agent} {b n : ℕ} {R : Rest} {s : State} {e : DeliberationEnding} → Because A b n R s e → Because A (suc b) (suc n) R s e
+one-later (is-spent h) = is-spent (ap suc h)
+one-later (is-finished h) = is-finished (omega arith)
+one-later (is-stuck h x) = is-stuck (omega arith) x
+one-later (is-full h x) = is-full (omega arith) x
+
+-- two endings with two numbers are two
+two : {e e′ : DeliberationEnding} → (deliberationEndingNumber e ≡ deliberationEndingNumber e′ → ⊥) → e ≡ e′ → ⊥
+two h e = h (ap deliberationEndingNumber e)
+
+moves-on : {A : Agent} {s : State} {P Q : Prog} → still P ≡ still Q → Overflows A s P → NoTransition A Q (s .mental) → ⊥
+moves-on {A} {s} {P} e o h =
+    let (c, t) = is-one A (s .mental) P (o .move) (o .first) in
+    subst (λ Q. NoTransition A Q (s .mental) → ⊥) (still-inj e) (λ h. h _ _ c t) h
+
+pub ends-exactly : {A : Agent} {b n : ℕ} {R : Rest} {s : State} {e : DeliberationEnding} → Because A b n R s e → EndsExactly A b n R s e
+unfolding deliberationEndingNumber
+ends-exactly (is-spent h) =
+    record {
+      spent = (λ e. h, λ e. refl);
+      finished = (λ e. absurd (two (λ z. omega arith) e), λ w. absurd (let k = w .0 in omega arith));
+      stuck = (λ e. absurd (two (λ z. omega arith) e), λ w. absurd (let k = w .0 in omega arith));
+      full = (λ e. absurd (two (λ z. omega arith) e), λ w. absurd (let k = w .0 in omega arith));
+    }
+ends-exactly (is-finished h) =
+    record {
+      spent = (λ e. absurd (two (λ z. omega arith) e), λ k. absurd (omega arith));
+      finished = (λ e. (h, refl), λ w. refl);
+      stuck = (λ e. absurd (two (λ z. omega arith) e), λ w. absurd (still≢E (sym (w .1 .1 .0))));
+      full = (λ e. absurd (two (λ z. omega arith) e), λ w. absurd (still≢E (sym (w .1 .1 .0))));
+    }
+ends-exactly (is-stuck {P = P} h x) =
+    record {
+      spent = (λ e. absurd (two (λ z. omega arith) e), λ k. absurd (omega arith));
+      finished = (λ e. absurd (two (λ z. omega arith) e), λ w. absurd (still≢E (w .1)));
+      stuck = (λ e. (h, (P, (refl, x))), λ w. refl);
+      full = (λ e. absurd (two (λ z. omega arith) e), λ w. absurd (moves-on (sym (w .1 .1 .0)) (w .1 .1 .1) x));
+    }
+ends-exactly (is-full {P = P} h x) =
+    record {
+      spent = (λ e. absurd (two (λ z. omega arith) e), λ k. absurd (omega arith));
+      finished = (λ e. absurd (two (λ z. omega arith) e), λ w. absurd (still≢E (w .1)));
+      stuck = (λ e. absurd (two (λ z. omega arith) e), λ w. absurd (moves-on (w .1 .1 .0) x (w .1 .1 .1)));
+      full = (λ e. (h, (P, (refl, x))), λ w. refl);
+    }
+
+-- ---- the run
+
+module _ (gs : List Bool) (l : Layout) (p : Bytes) (good : programGood gs l p ≡ true) (A : Agent) (βs : List (Query 𝐁)) (k : ℕ) (known : k < entryCount p) where
+  pub record Walked (b : ℕ) (R : Rest) (s : State) (o : Outcome) : Type 0 where
+    pub labels : List Label
+    pub rest : Rest
+    pub followed : Followed A R s labels rest (o .state)
+    pub stands : partsOf rest ≡ stood βs (entries p) (o .remaining)
+    pub counted : o .count ≡ length labels
+    pub stacked : Stacked k (o .remaining)
+    pub because : Because A b (o .count) rest (o .state) (o .ending)
+
+  ends-here : (b : ℕ) (e : DeliberationEnding) (R : Rest) (ns : List ℕ) (s : State) → partsOf R ≡ stood βs (entries p) ns → Stacked k ns
+      → Because A b 0 R s e → Walked b R s (ended e ns s)
+  ends-here b e R ns s q t w = record { labels = []; rest = R; followed = no-move; stands = q; counted = refl; stacked = t; because = w }
+
+  some-stood : (n : ℕ) (ns : List ℕ) → [] ≡ stood βs (entries p) (n ∷ ns) → ⊥
+  some-stood n ns e =
+      let r = some-parts (program βs (entries p) n) in
+      let q : [] ≡ (r .front ∷ r .behind) ++ stood βs (entries p) ns = e ∙ stood-next βs (entries p) n ns ∙ ap (λ Ps. Ps ++ stood βs (entries p) ns) (r .are) in
+      let z : _≡_ {A = ℕ} 0 1 = cc in
+      omega arith
+
+  nothing-stood : (P : Prog) → parts P ≡ stood βs (entries p) [] → ⊥
+  unfolding standing
+  nothing-stood P e = still≢E (no-parts (still P) e)
+
+  pub walked : (b : ℕ) (R : Rest) (ns : List ℕ) (s : State) → partsOf R ≡ stood βs (entries p) ns → Stacked k ns
+      → Walked b R s (deliberate A βs (entries p) b ns s)
+  unfolding deliberate
+  walked zero R ns s q t = ends-here zero DeliberationEnding.Spent R ns s q t (is-spent refl)
+  walked (suc b) E [] s q t = ends-here (suc b) DeliberationEnding.Finished E [] s q t (is-finished (omega arith))
+  walked (suc b) E (n ∷ ns) s q t = absurd (some-stood n ns q)
+  walked (suc b) (still P) [] s q t = absurd (nothing-stood P q)
+  walked (suc b) (still P) (n ∷ ns) s q t = go refl (comes gs l p good A βs k known P n ns s t q) (walked b)
+    where
+      go : {c : Came} → came A s (getD (moves A βs (s .mental) (entries p)) n none) ns ≡ c → Comes gs l p good A βs k known P s c
+          → ((R : Rest) (ns : List ℕ) (s : State) → partsOf R ≡ stood βs (entries p) ns → Stacked k ns → Walked b R s (deliberate A βs (entries p) b ns s))
+          → Walked (suc b) (still P) s (deliberate A βs (entries p) (suc b) (n ∷ ns) s)
+      go e (no-move-there h) ih =
+          rw (run-stuck A βs (entries p) b n ns s e) (ends-here (suc b) DeliberationEnding.Stuck (still P) (n ∷ ns) s q t (is-stuck (omega arith) h))
+      go e (does-not-fit h) ih =
+          rw (run-full A βs (entries p) b n ns s e) (ends-here (suc b) DeliberationEnding.Full (still P) (n ∷ ns) s q t (is-full (omega arith) h))
+      go e (goes-on m ms s′ f g w room) ih =
+          let r = ih (m .remaining) ms s′ w room in
+          rw (run-on A βs (entries p) b n ns s ms s′ e)
+          (record {
+            labels = m .label ∷ r .labels;
+            rest = r .rest;
+            followed = one-move f g (r .followed);
+            stands = r .stands;
+            counted = ap suc (r .counted);
+            stacked = r .stacked;
+            because = one-later (r .because);
+          })

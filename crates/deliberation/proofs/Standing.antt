@@ -1,0 +1,160 @@
+-- What entry numbers stand for: the first move of an entry is that of the program which it stands for.
+use mathlib.Core.Path.{_≡_, refl, ap, ap₂, _∙_, sym, subst}
+use mathlib.Core.Logic.{_↔_}
+use mathlib.Core.Bool.{Bool, true}
+use mathlib.Core.List.{List, [], _∷_, _++_, append-nil, append-assoc}
+use mathlib.Core.Option.{Option, none, some}
+use Prim.Native.Nat.{ℕ, zero, suc, _<_}
+use native.Mathlib.Omega.{arith}
+use lib.ListN.{getD}
+use Rattle.paper.specs.Language.{𝐁, Query, Agent, Config}
+use Rattle.paper.specs.Transitions.{Choice}
+use Rattle.meaning.specs.declared.Layout.{Layout}
+use Rattle.meaning.specs.declared.Node.{Node}
+use Rattle.meaning.specs.Card.{Bytes, layout, agent, conditions, condition}
+use Rattle.meaning.specs.Refusals.{containing}
+use Rattle.deliberation.specs.Programs.{Bexp, notEmptyPlan, holds, Prog, execute, apply, select, while_doing_od, _⨾_, _⊕_, Rest, E, still, 𝒲}
+use Rattle.deliberation.specs.MetaTransitions.{MetaStep}
+use Rattle.deliberation.specs.FirstMove.{Move, takes, lowestAction, ifEnabled, idles, followedBy, leftElseRight, firstMove}
+use Rattle.deliberation.specs.Entries.{entryAt, entryCount, entries, programGood, progOf, program, standing, moveOf, moves}
+use Rattle.deliberation.specs.Theorems.{NoTransition, parts, partsOf, _≈_, standFor, moveAt, NumbersLaw}
+use Rattle.deliberation.proofs.Good.{Rule, from-lower, entry-rule, program-at, move-at}
+use Rattle.deliberation.proofs.First.{is-one, none-exactly}
+use Rattle.deliberation.proofs.Parts.{mapped, mapped-takes, mapped-idles, mapped-followed, mapped-either, mapped-none, mapped-some, mapped-twice, mapped-same, sequence, first-in}
+
+-- P, and then what remains
+abbrev then : Prog → Rest → Prog
+then P R = elim R [ E ↦ P | still Q ↦ P ⨾ Q ]
+
+parts-then : (P : Prog) (R : Rest) → parts (then P R) ≡ parts P ++ partsOf R
+unfolding parts
+parts-then P E = sym (append-nil (parts P))
+parts-then P (still Q) = refl
+
+module _ (βs : List (Query 𝐁)) (es : List Node) where
+  -- the parts that numbers stand for
+  abbrev pub stood : List ℕ → List Prog
+  stood ns = partsOf (standing βs es ns)
+
+  pub stood-next : (n : ℕ) (ns : List ℕ) → stood (n ∷ ns) ≡ parts (program βs es n) ++ stood ns
+  unfolding standing
+  stood-next n ns = parts-then (program βs es n) (standing βs es ns)
+
+  pub stood-append : (ns rs : List ℕ) → stood (ns ++ rs) ≡ stood ns ++ stood rs
+  unfolding standing
+  stood-append [] rs = refl
+  stood-append (n ∷ ns) rs =
+      stood-next n (ns ++ rs) ∙ ap (λ Ps. parts (program βs es n) ++ Ps) (stood-append ns rs)
+      ∙ sym (append-assoc (parts (program βs es n)) (stood ns) (stood rs)) ∙ ap (λ Ps. Ps ++ stood rs) (sym (stood-next n ns))
+
+  pub stood-one : (n : ℕ) → stood (n ∷ []) ≡ parts (program βs es n)
+  unfolding standing
+  stood-one n = refl
+
+  module _ (A : Agent) (s : Config) where
+    -- the first move of a program and one over numbers are the same
+    abbrev Same : Prog → Option (Move (List ℕ)) → Type 0
+    Same P o = mapped partsOf (firstMove A s P) ≡ mapped stood o
+
+    same-takes : (P : Prog) (o : Option Choice) → firstMove A s P ≡ takes o E → Same P (takes o [])
+    unfolding standing
+    same-takes P o e = ap (mapped partsOf) e ∙ mapped-takes partsOf o E ∙ sym (mapped-takes stood o [])
+
+    same-while : (i b : ℕ) (c : Bexp) → program βs es i ≡ while c doing program βs es b od
+        → Same (while c doing program βs es b od) (idles (𝒲 c s) (b ∷ i ∷ []) [])
+    unfolding firstMove parts standing
+    same-while i b c e =
+        let P : Prog = program βs es b in
+        let two : parts P ++ ((while c doing P od) ∷ []) ≡ stood (b ∷ i ∷ []) = ap (λ Q. parts P ++ parts Q) (sym e) ∙ ap (λ Ps. parts P ++ Ps) (sym (stood-one i)) ∙ sym (stood-next b (i ∷ [])) in
+        mapped-idles partsOf (𝒲 c s) (still (P ⨾ while c doing P od)) E ∙ ap (λ Ps. idles (𝒲 c s) Ps []) two
+        ∙ sym (mapped-idles stood (𝒲 c s) (b ∷ i ∷ []) [])
+
+    same-sequence : (a b : ℕ) (o : Option (Move (List ℕ))) → Same (program βs es a) o
+        → Same (program βs es a ⨾ program βs es b) (followedBy (λ ns. ns ++ (b ∷ [])) o)
+    same-sequence a b o h =
+        let P : Prog = program βs es b in
+        sequence A s (program βs es a) P ∙ ap (mapped (λ Ps. Ps ++ parts P)) h ∙ mapped-twice (λ Ps. Ps ++ parts P) stood o
+        ∙ mapped-same _ _ (λ ns. sym (stood-append ns (b ∷ []) ∙ ap (λ Ps. stood ns ++ Ps) (stood-one b))) o
+        ∙ sym (mapped-followed stood (λ ns. ns ++ (b ∷ [])) o)
+
+    same-choice : (a b : ℕ) (o u : Option (Move (List ℕ))) → Same (program βs es a) o → Same (program βs es b) u
+        → Same (program βs es a ⊕ program βs es b) (leftElseRight o u)
+    unfolding firstMove
+    same-choice a b o u h k =
+        mapped-either partsOf (firstMove A s (program βs es a)) (firstMove A s (program βs es b)) ∙ ap₂ leftElseRight h k
+        ∙ sym (mapped-either stood o u)
+
+    of-kind : {gs : List Bool} {l : Layout} (i k a b : ℕ) (q : ℕ → Option (Move (List ℕ))) → Rule gs l i k a b → program βs es i ≡ progOf βs k a b (program βs es)
+        → ((j : ℕ) → j < i → Same (program βs es j) (q j)) → Same (progOf βs k a b (program βs es)) (moveOf A βs s i k a b q)
+    unfolding firstMove
+    of-kind i zero a b q r e h = same-takes execute (lowestAction A s) refl
+    of-kind i (suc zero) a b q r e h = same-takes (apply a) (ifEnabled A s (Choice.revise a)) refl
+    of-kind i (suc (suc zero)) a b q r e h = same-takes (select a) (ifEnabled A s (Choice.select a)) refl
+    of-kind i (suc (suc (suc zero))) a b q r e h = same-while i b notEmptyPlan e
+    of-kind i (suc (suc (suc (suc zero)))) a b q r e h = same-while i b (holds (condition βs a)) e
+    of-kind i (suc (suc (suc (suc (suc zero))))) a b q r e h = same-sequence a b (q a) (h a (r .first (omega arith)))
+    of-kind i (suc (suc (suc (suc (suc (suc zero)))))) a b q r e h =
+        same-choice a b (q a) (q b) (h a (r .first (omega arith))) (h b (r .second (omega arith)))
+    of-kind i (suc (suc (suc (suc (suc (suc (suc k))))))) a b q r e h = same-takes execute (lowestAction A s) refl
+
+module _ (gs : List Bool) (l : Layout) (p : Bytes) (good : programGood gs l p ≡ true) (A : Agent) (βs : List (Query 𝐁)) (s : Config) where
+  -- the first move of an entry is that of its program
+  entry-same : (i : ℕ) → i < entryCount p → Same βs (entries p) A s (program βs (entries p) i) (getD (moves A βs s (entries p)) i none)
+  entry-same i h =
+      from-lower (λ i. i < entryCount p → Same βs (entries p) A s (program βs (entries p) i) (getD (moves A βs s (entries p)) i none))
+      (λ i lower h. (
+      let e = program-at gs l p good i h βs in
+      let x = entryAt p i in
+      subst (λ P. Same βs (entries p) A s P (getD (moves A βs s (entries p)) i none)) (sym e)
+      (rw (move-at gs l p good i h A βs s)
+      (of-kind βs (entries p) A s i (x .kind) (x .a) (x .b) (λ j. getD (moves A βs s (entries p)) j none) (entry-rule gs l p good i h) e (λ j k. lower j k (omega arith))))))
+      (suc i) i (omega arith) h
+
+  -- the first move of numbers is that of any program which they stand for
+  pub numbers-same : (P : Prog) (n : ℕ) (ns : List ℕ) → n < entryCount p → parts P ≡ stood βs (entries p) (n ∷ ns)
+      → mapped partsOf (firstMove A s P) ≡ mapped (λ ms. stood βs (entries p) (ms ++ ns)) (getD (moves A βs s (entries p)) n none)
+  numbers-same P n ns h e =
+      let Q = program βs (entries p) n in
+      let Rs = stood βs (entries p) ns in
+      let o = getD (moves A βs s (entries p)) n none in
+      first-in A s P Q Rs (e ∙ stood-next βs (entries p) n ns) ∙ sym (mapped-twice (λ Ps. Ps ++ Rs) partsOf (firstMove A s Q))
+      ∙ ap (mapped (λ Ps. Ps ++ Rs)) (entry-same n h) ∙ mapped-twice (λ Ps. Ps ++ Rs) (stood βs (entries p)) o
+      ∙ mapped-same _ _ (λ ms. sym (stood-append βs (entries p) ms ns)) o
+
+-- ---- the laws of numbers
+
+module _ (b p : Bytes) (good : programGood (containing 2 (layout b) b) (layout b) p ≡ true) (s : Config) (n : ℕ) (ns : List ℕ) (h : n < entryCount p) where
+  abbrev A : Agent
+  A = agent b
+
+  abbrev stands : Prog
+  stands = then (program (conditions 𝐁 (layout b) b) (entries p) n) (standFor b p ns)
+
+  pub standing-for : standFor b p (n ∷ ns) ≡ still stands
+  unfolding standing
+  standing-for = refl
+
+  same : mapped partsOf (firstMove A s stands) ≡ mapped (λ ms. partsOf (standFor b p (ms ++ ns))) (moveAt b p s n)
+  same = numbers-same (containing 2 (layout b) b) (layout b) p good A (conditions 𝐁 (layout b) b) s stands n ns h (sym (ap partsOf standing-for))
+
+  one : (m : Move (List ℕ)) → moveAt b p s n ≡ some m
+      → (P′ : Rest) × ((s′ : Config) × (MetaStep A stands s (m .label) P′ s′ × (P′ ≈ standFor b p (m .remaining ++ ns))))
+  one m e =
+      let (m′, (f, (x, l))) = mapped-some partsOf (firstMove A s stands) _ (same ∙ ap (mapped (λ ms. partsOf (standFor b p (ms ++ ns)))) e) in
+      let (s′, t) = is-one A s stands m′ f in
+      (m′ .remaining, (s′, (subst (λ y. MetaStep A stands s y (m′ .remaining) s′) x t, l)))
+
+  none-there : (moveAt b p s n ≡ none) ↔ NoTransition A stands s
+  none-there = (
+    λ e. none-exactly A s stands .0 (mapped-none partsOf (firstMove A s stands) (same ∙ ap (mapped (λ ms. partsOf (standFor b p (ms ++ ns)))) e)),
+    λ none-here. mapped-none (λ ms. partsOf (standFor b p (ms ++ ns))) (moveAt b p s n) (sym same ∙ ap (mapped partsOf) (none-exactly A s stands .1 none-here)),
+  )
+
+pub numbers-law : NumbersLaw
+numbers-law b p good s n ns h =
+    record {
+      stands = stands b p good s n ns h;
+      standing-for = standing-for b p good s n ns h;
+      is-one = one b p good s n ns h;
+      none-exactly = none-there b p good s n ns h;
+    }

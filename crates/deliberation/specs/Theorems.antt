@@ -1,0 +1,254 @@
+-- What is proved of deliberation (in proofs/).
+use mathlib.Core.Path.{_≡_}
+use mathlib.Core.Logic.{_↔_}
+use mathlib.Core.Bool.{true, false}
+use mathlib.Core.List.{List, [], _∷_, _++_, List·Memᴰ}
+use mathlib.Core.Option.{Option, none, some}
+use Prim.Native.Nat.{ℕ, _+_, _*_, _-_, _≤_, _<_}
+use lib.ListN.{length, take, getD}
+use Rattle.paper.specs.Language.{𝐁, Agent, Config}
+use Rattle.paper.specs.Transitions.{Choice, Step}
+use Rattle.runs.specs.Limits.{longestPlan, heaviestPlan}
+use Rattle.runs.specs.declared.Verdict.{Verdict}
+use Rattle.runs.specs.Order.{State}
+use Rattle.runs.specs.Step.{after}
+use Rattle.runs.specs.Run.{Chain}
+use Rattle.runs.specs.Weight.{weigh, verdict, selections}
+use Rattle.meaning.specs.declared.Refusal.{Refusal}
+use Rattle.meaning.specs.declared.Answer.the-variants.{Done, Refused}
+use Rattle.meaning.specs.declared.Configuration.{Configuration}
+use Rattle.meaning.specs.Card.{Bytes, layout, conditions, agent, weight, initialPlan}
+use Rattle.meaning.specs.Configurations.{stateOf}
+use Rattle.meaning.specs.Theorems.{Without}
+use Rattle.meaning.specs.Refusals.{answerNumber, cardAnswer, containing, configurationGood}
+use Rattle.deliberation.specs.declared.DeliberationEnding.{DeliberationEnding}
+use Rattle.deliberation.specs.declared.Remaining.{Remaining}
+use Rattle.deliberation.specs.declared.Deliberated.{Deliberated}
+use Rattle.deliberation.specs.Programs.{Prog, execute, apply, select, while_doing_od, _⨾_, _⊕_, Rest, E, still}
+use Rattle.deliberation.specs.MetaTransitions.{Label, idle, taking, MetaStep, Computation, notIdle}
+use Rattle.deliberation.specs.FirstMove.{Move, firstMove}
+use Rattle.deliberation.specs.Entries.{entryAt, entryCount, entries, programGood, deliberateAnswer, program, standing, moves}
+use Rattle.deliberation.specs.Deliberate.{deliberates}
+
+-- ---- the first move
+
+-- No transition of the relation from a program in a configuration.
+abbrev pub NoTransition : Agent → Prog → Config → Type 0
+NoTransition A P s = (x : Label) (P′ : Rest) (s′ : Config) → MetaStep A P s x P′ s′ → ⊥
+
+-- 02, Wish 6: "Each move is one of the document's meta-level transitions, with selection added".
+pub record FirstMoveLaws (A : Agent) (s : Config) (P : Prog) : Type 0 where
+  -- the first move is one of the relation's transitions
+  pub is-one : (m : Move Rest) → firstMove A s P ≡ some m → (s′ : Config) × MetaStep A P s (m .label) (m .remaining) s′
+  -- and there is none exactly if the relation has none
+  pub none-exactly : (firstMove A s P ≡ none) ↔ NoTransition A P s
+
+-- The same of every agent, configuration and program.
+abbrev pub FirstMoveLaw : Type 0
+FirstMoveLaw = (A : Agent) (s : Config) (P : Prog) → FirstMoveLaws A s P
+
+-- 000, section 2.2 has "a non-deterministic choice operator": which of the relation's transitions the first move is.
+pub record WayOut (A : Agent) (s : Config) : Type 0 where
+  -- 02, Wish 6: "Execute takes the lowest enabled specification."
+  pub lowest : (m : Move Rest) (n : ℕ) → firstMove A s execute ≡ some m → m .label ≡ taking (Choice.act n)
+      → (i : ℕ) → i < n → (s′ : Config) → Step A s (Choice.act i) s′ → ⊥
+  -- 02, Wish 6: "Choice takes the left if it has a first move, idle or not, fitting or not"
+  pub left : (P₁ P₂ : Prog) (x : Label) (P₁′ : Rest) (s′ : Config) → MetaStep A P₁ s x P₁′ s′
+      → firstMove A s (P₁ ⊕ P₂) ≡ firstMove A s P₁
+  -- 02, Wish 6: "else the right"
+  pub right : (P₁ P₂ : Prog) → NoTransition A P₁ s → firstMove A s (P₁ ⊕ P₂) ≡ firstMove A s P₂
+
+abbrev pub WayOutLaw : Type 0
+WayOutLaw = (A : Agent) (s : Config) → WayOut A s
+
+-- ---- an entry
+
+-- What holds of entry i of a program that is not refused.
+pub record EntryLaws (b p : Bytes) (i : ℕ) : Type 0 where
+  -- 02, Wish 6: "part numbers are lower than their own"
+  pub first-part : 5 ≤ entryAt p i .kind → entryAt p i .a < i
+  pub second-part : 3 ≤ entryAt p i .kind → entryAt p i .b < i
+  -- 02, Wish 6: "1 apply a, 2 select a", none of them "naming an unknown rule"
+  pub known-revision : entryAt p i .kind ≡ 1 → entryAt p i .a < length (agent b .PR)
+  pub known-selection : entryAt p i .kind ≡ 2 → entryAt p i .a < length (agent b .PS)
+  -- 02, Wish 6: "4 while belief condition a holds do b": 01, "A configuration and its transitions": "A belief condition contains no
+  -- goal atom"
+  pub belief-condition : entryAt p i .kind ≡ 4 → (entryAt p i .a < layout b .nodes .count) × Without b 2 (entryAt p i .a)
+
+-- The same of every accepted card and every entry.
+abbrev pub EntryLaw : Type 0
+EntryLaw = (b p : Bytes) → cardAnswer b ≡ Done → programGood (containing 2 (layout b) b) (layout b) p ≡ true → (i : ℕ) → i < entryCount p
+    → EntryLaws b p i
+
+-- ---- what entry numbers stand for
+
+-- The parts of a program that are done one after the other, however its sequences are nested: (P₁; P₂); P₃ and P₁; (P₂; P₃) have
+-- the same.
+unfoldable pub parts : Prog → List Prog
+parts execute = execute ∷ []
+parts (apply ρ) = apply ρ ∷ []
+parts (select ρ) = select ρ ∷ []
+parts (while b doing P od) = (while b doing P od) ∷ []
+parts (P₁ ⨾ P₂) = parts P₁ ++ parts P₂
+parts (P₁ ⊕ P₂) = (P₁ ⊕ P₂) ∷ []
+
+-- The same of what a transition leaves; E has none.
+abbrev pub partsOf : Rest → List Prog
+partsOf E = []
+partsOf (still P) = parts P
+
+infix 20 _≈_
+-- The same program but for the nesting of its sequences.
+abbrev pub _≈_ : Rest → Rest → Type 0
+R ≈ R′ = partsOf R ≡ partsOf R′
+
+-- The nesting does not matter: what one of two such programs may do, the other may.
+pub record NestingLaws (A : Agent) : Type 0 where
+  pub same-transitions : {P Q : Prog} {s s′ : Config} {x : Label} {P′ : Rest} → still P ≈ still Q → MetaStep A P s x P′ s′
+      → (Q′ : Rest) × (MetaStep A Q s x Q′ s′ × (P′ ≈ Q′))
+
+abbrev pub NestingLaw : Type 0
+NestingLaw = (A : Agent) → NestingLaws A
+
+-- 02, Wish 6: "the remaining program as entry numbers": what entry numbers of a program stand for under a card.
+abbrev pub standFor : Bytes → Bytes → List ℕ → Rest
+standFor b p ns = standing (conditions 𝐁 (layout b) b) (entries p) ns
+
+-- The first move of an entry of a program under a card, in a configuration.
+abbrev pub moveAt : Bytes → Bytes → Config → ℕ → Option (Move (List ℕ))
+moveAt b p s n = getD (moves (agent b) (conditions 𝐁 (layout b) b) s (entries p)) n none
+
+-- What the numbers n, ns stand for, and their first move, which is that of n.
+pub record NumbersLaws (b p : Bytes) (s : Config) (n : ℕ) (ns : List ℕ) : Type 0 where
+  -- the numbers stand for a program
+  pub stands : Prog
+  pub standing-for : standFor b p (n ∷ ns) ≡ still stands
+  -- their first move is one of the relation's transitions from it, to what the numbers then stand for
+  pub is-one : (m : Move (List ℕ)) → moveAt b p s n ≡ some m
+      → (P′ : Rest) × ((s′ : Config) × (MetaStep (agent b) stands s (m .label) P′ s′ × (P′ ≈ standFor b p (m .remaining ++ ns))))
+  -- and they have none exactly if the relation has none
+  pub none-exactly : (moveAt b p s n ≡ none) ↔ NoTransition (agent b) stands s
+
+-- The same of a program that is not refused, and its entries.
+abbrev pub NumbersLaw : Type 0
+NumbersLaw = (b p : Bytes) → programGood (containing 2 (layout b) b) (layout b) p ≡ true → (s : Config) (n : ℕ) (ns : List ℕ)
+    → n < entryCount p → NumbersLaws b p s n ns
+
+-- ---- a run of moves
+
+-- The state after a move: 02, Wish 6: "idle moves, which leave the whole configuration as it is"; any other leaves the state that
+-- any transition leaves, and its plan fits.
+pub data Goes (A : Agent) (s : State) : Label → State → Type 0 where
+  stays : Goes A s idle s
+  goes : {k : Choice} {c : Config} → Step A (s .mental) k c → length (c .π) ≤ longestPlan → Goes A s (taking k) (after s k c)
+
+-- First moves one after the other, with the states between them.
+pub data Followed (A : Agent) : Rest → State → List Label → Rest → State → Type 0 where
+  no-move : {P : Rest} {s : State} → Followed A P s [] P s
+  one-move : {P : Prog} {m : Move Rest} {s s′ s″ : State} {xs : List Label} {P″ : Rest} → firstMove A (s .mental) P ≡ some m
+      → Goes A s (m .label) s′ → Followed A (m .remaining) s′ xs P″ s″ → Followed A (still P) s (m .label ∷ xs) P″ s″
+
+-- The first move of a program takes a choice that leaves too long a plan: 01, "A configuration and its transitions": "would leave
+-- more than 1,024 actions".
+pub record Overflows (A : Agent) (s : State) (P : Prog) : Type 0 where
+  pub move : Move Rest
+  pub first : firstMove A (s .mental) P ≡ some move
+  pub choice : Choice
+  pub takes : move .label ≡ taking choice
+  pub reached : Config
+  pub leads : Step A (s .mental) choice reached
+  pub long : longestPlan < length (reached .π)
+
+-- 02, Wish 6: "Endings, in this order: spent, finished, stuck, full.": why a deliberation with a budget ends after n moves, where R
+-- remains in a state.
+pub record EndsExactly (A : Agent) (budget n : ℕ) (R : Rest) (s : State) (e : DeliberationEnding) : Type 0 where
+  -- 02, Wish 6: "spent": the count has reached the budget
+  pub spent : (e ≡ DeliberationEnding.Spent) ↔ (n ≡ budget)
+  -- "finished": with budget left, nothing remains
+  pub finished : (e ≡ DeliberationEnding.Finished) ↔ ((n < budget) × (R ≡ E))
+  -- "stuck": with budget left, what remains has no transition
+  pub stuck : (e ≡ DeliberationEnding.Stuck) ↔ ((n < budget) × ((P : Prog) × ((R ≡ still P) × NoTransition A P (s .mental))))
+  -- "full": with budget left, the first move of what remains leaves too long a plan
+  pub full : (e ≡ DeliberationEnding.Full) ↔ ((n < budget) × ((P : Prog) × ((R ≡ still P) × Overflows A s P)))
+
+-- 02, Wish 6: "the last one the whole": the program that a program's bytes stand for under a card.
+abbrev pub wholeOf : Bytes → Bytes → Prog
+wholeOf b p = program (conditions 𝐁 (layout b) b) (entries p) (entryCount p - 1)
+
+-- The numbers that remain, as they are answered.
+abbrev pub numbersIn : Remaining → List ℕ
+numbersIn r = take (r .length) (r .numbers)
+
+-- ---- the call
+
+-- What the contract of `deliberate` says of an answer r.
+abbrev pub Deliberates : Bytes → Bytes → Configuration → ℕ → Deliberated → Type 0
+Deliberates b p c budget r = r ≡ deliberates b p c budget
+
+-- What the answer to an accepted card, program and configuration tells.
+pub record Tells (b p : Bytes) (c : Configuration) (budget : ℕ) (r : Deliberated) : Type 0 where
+  pub done : r .answer ≡ Done
+  -- the labels of the moves that were made, and the program that then remains
+  pub labels : List Label
+  pub rest : Rest
+  -- 02, Wish 6: "Each move is one of the document's meta-level transitions, with selection added"
+  pub computation : Computation (agent b) (still (wholeOf b p)) (stateOf c .mental) labels rest (stateOf (r .configuration) .mental)
+  -- each is the first move of what remains, and an idle one leaves the whole configuration
+  pub followed : Followed (agent b) (still (wholeOf b p)) (stateOf c) labels rest (stateOf (r .configuration))
+  -- 02, Wish 6: "the budget counts idle moves"
+  pub counted : r .count ≡ length labels
+  -- 02, Wish 6: "Endings, in this order"
+  pub ends : EndsExactly (agent b) budget (r .count) rest (stateOf (r .configuration)) (r .ending)
+  -- 02, Wish 6: "The answer holds the remaining program as entry numbers, the next first"
+  pub remains : rest ≈ standFor b p (numbersIn (r .remaining))
+  -- there is room for the numbers, and each is one of the program's
+  pub room : r .remaining .length ≤ 128
+  pub known : (n : ℕ) → List·Memᴰ n (numbersIn (r .remaining)) → n < entryCount p
+  -- the moves that are not idle are a chain of 004's Definitions 9 to 11
+  pub chain : Chain (agent b) (stateOf c .mental) (notIdle labels) (stateOf (r .configuration) .mental)
+
+-- The same of every answer that meets the contract.
+abbrev pub TellsLaw : Type 0
+TellsLaw = (b p : Bytes) (c : Configuration) (budget : ℕ) → deliberateAnswer b p c ≡ Done → (r : Deliberated) → Deliberates b p c budget r
+    → Tells b p c budget r
+
+-- 02, Wish 6: "Demand 3 holds for transitions that are not idle.": under a card that is graded bounded, from a plan that weighs W,
+-- at most 1,024.
+pub record BoundedMoves (b p : Bytes) (c : Configuration) (budget : ℕ) (r : Deliberated) (w : ℕ) : Type 0 where
+  pub tells : Tells b p c budget r
+  -- 00, demand 3: "no run of more than W transitions without a plan selection exists"
+  pub without-selection : selections (notIdle (tells .labels)) ≡ 0 → length (notIdle (tells .labels)) ≤ w
+  -- 00, demand 3: "a run with S selections has at most W plus 1,025 times S transitions"
+  pub with-selections : length (notIdle (tells .labels)) ≤ w + 1025 * selections (notIdle (tells .labels))
+  -- 00, demand 3: "no run, selections included, ever meets a plan too long"
+  pub never-full : r .ending ≡ DeliberationEnding.Full → ⊥
+
+-- The same of every answer that meets the contract.
+abbrev pub BoundedMovesLaw : Type 0
+BoundedMovesLaw = (b p : Bytes) (c : Configuration) (budget : ℕ) → deliberateAnswer b p c ≡ Done → (r : Deliberated) → Deliberates b p c budget r
+    → verdict (weight b) (agent b) (initialPlan b) ≡ Verdict.Bounded → weigh (weight b) (stateOf c .mental .π) ≤ heaviestPlan
+    → BoundedMoves b p c budget r (weigh (weight b) (stateOf c .mental .π))
+
+-- 02, Wish 6: "Refusals: 19 …, after 9 and before 13.", of every answer that meets the contract.
+pub record RefusalLaws (b p : Bytes) (c : Configuration) (budget : ℕ) (r : Deliberated) : Type 0 where
+  -- "after 9": the card's own refusals
+  pub by-card : (q : Refusal) → cardAnswer b ≡ Refused q → r .answer ≡ Refused q
+  -- "19 a program breaking these rules or naming an unknown rule or node", whatever the configuration
+  pub by-program : cardAnswer b ≡ Done → programGood (containing 2 (layout b) b) (layout b) p ≡ false → answerNumber (r .answer) ≡ 19
+  -- "before 13"
+  pub by-configuration : cardAnswer b ≡ Done → programGood (containing 2 (layout b) b) (layout b) p ≡ true
+      → configurationGood (layout b) c ≡ false → answerNumber (r .answer) ≡ 13
+  -- "done" otherwise
+  pub otherwise : cardAnswer b ≡ Done → programGood (containing 2 (layout b) b) (layout b) p ≡ true
+      → configurationGood (layout b) c ≡ true → r .answer ≡ Done
+  -- 00, demand 1: "A refusal hands back the configuration it was given"; 01, "Numbers the guide may answer": "Any count in a
+  -- refusal is 0."; 02, Wish 6: "none when refused"
+  pub hands-back : (q : Refusal) → r .answer ≡ Refused q → (r .configuration ≡ c) × ((r .count ≡ 0) × (r .remaining .length ≡ 0))
+
+abbrev pub RefusalLaw : Type 0
+RefusalLaw = (b p : Bytes) (c : Configuration) (budget : ℕ) (r : Deliberated) → Deliberates b p c budget r → RefusalLaws b p c budget r
+
+-- 01, "What the contracts settle": "equality of any two conforming answers is proved"
+abbrev pub DeterminedLaw : Type 0
+DeterminedLaw = (b p : Bytes) (c : Configuration) (budget : ℕ) (r r′ : Deliberated) → Deliberates b p c budget r → Deliberates b p c budget r′
+    → r ≡ r′

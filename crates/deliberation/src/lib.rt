@@ -1,0 +1,28 @@
+// Our own deliberation (02, Wish 6): the words in which the call answers. The definitions of what it answers are in specs/. It
+// holds no code.
+use meaning::Answer;
+use meaning::Configuration;
+
+// 02, Wish 6: "Endings, in this order: spent, finished, stuck, full."
+pub enum DeliberationEnding {
+    Spent,
+    Finished,
+    Stuck,
+    Full,
+}
+
+// 02, Wish 6: "the remaining program as entry numbers, the next first": the first `length` of the numbers; the rest are 0.
+pub struct Remaining {
+    pub length: u8,
+    pub numbers: [u8; 128],
+}
+
+// What `deliberate` answers: 02, Wish 6: "Endings", "The answer holds the remaining program"; the count is of moves, idle ones
+// too.
+pub struct Deliberated {
+    pub answer: Answer,
+    pub count: u16,
+    pub ending: DeliberationEnding,
+    pub configuration: Configuration,
+    pub remaining: Remaining,
+}
