@@ -54,6 +54,8 @@ try tests/script.sh
 try python3 tests/cards.py
 try tests/c.sh --seed "$seed"
 try tests/c.sh --seed "$seed" --engine
+try tests/turned.sh --seed "$seed"
+try tests/turned.sh --seed "$seed" --engine
 try tests/library.sh
 try tests/example.sh
 try tests/languages.sh

@@ -33,6 +33,7 @@ READING = (
     ("what is proved of the definitions", ("paper/specs/Theorems.antt", "runs/specs/Theorems.antt", "meaning/specs/Theorems.antt")),
     ("the letter's demands", ("demands/specs/Contracts.antt", "demands/specs/Demands.antt", "demands/specs/TestOrder.antt",
                               "demands/specs/Closed.antt", "demands/specs/Struck.antt", "demands/specs/Shown.antt")),
+    ("the turned screen", ("demands/specs/TurnedScreen.antt",)),
     ("our own deliberation", ("deliberation/src/lib.rt", "deliberation/specs/Programs.antt", "deliberation/specs/MetaTransitions.antt",
                               "deliberation/specs/FirstMove.antt", "deliberation/specs/Entries.antt", "deliberation/specs/Deliberate.antt",
                               "deliberation/specs/Interpreter.antt")),

@@ -110,7 +110,7 @@ module _ (n : ℕ) where
 
 -- ---- the entries of an agent
 
-entry-of : {R : Type 0} (read : ℕ → R) (s : Section) (n : ℕ) (r : R) → Entry (entries read s) n r → (n < s .count) × (read n ≡ r)
+pub entry-of : {R : Type 0} (read : ℕ → R) (s : Section) (n : ℕ) (r : R) → Entry (entries read s) n r → (n < s .count) × (read n ≡ r)
 entry-of read s n r e = elim (decLt n (s .count)) [
   | yes l ↦ (l, rw (zero-add n) at (some-inj (sym (made-entry read 0 (s .count) n l) ∙ e)))
   | no l ↦ absurd (none≢some (sym (made-none read 0 (s .count) n (omega arith)) ∙ e))

@@ -14,4 +14,6 @@ pub mod Testing
 pub mod Showing
 pub mod Closing
 pub mod Striking
+pub mod Keeping
 pub mod Demands
+pub mod Turning

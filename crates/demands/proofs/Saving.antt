@@ -135,7 +135,7 @@ place-accepted : (b : Bytes) (s : State) → cardAnswer b ≡ Done → Kept (lay
 unfolding placeAnswer
 place-accepted b s e k = ap (λ a. andThen a (firstGiven (placeTable (layout b)) (place s))) e ∙ place-done (layout b) s k
 
-kept : (b : Bytes) (c : Configuration) → OnAccepted b c → Shaped c → Kept (layout b) (stateOf c)
+pub kept : (b : Bytes) (c : Configuration) → OnAccepted b c → Shaped c → Kept (layout b) (stateOf c)
 unfolding stateOf
 kept b c on h = record { beliefs = h .beliefs; goals = h .goals; finished = h .finished; known = known-of (layout b) c (passed-good b c on) }
 

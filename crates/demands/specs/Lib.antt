@@ -4,3 +4,4 @@ pub mod Closed
 pub mod Struck
 pub mod Shown
 pub mod TestOrder
+pub mod TurnedScreen
