@@ -7,7 +7,8 @@ use borrow.Author.Tests.{le-leb, lt-leb, eq-eqb, ne-eqb}
 use lib.Dec.{leb, eqb}
 use Rattle.utf8.specs.Grammar.{From}
 use Rattle.utf8.specs.declared.Awaited.{Awaited}
-use Rattle.utf8.specs.Reading.{if, awaited, never, begins, tailsOf, lowOf, highOf, behindFirst}
+use Rattle.utf8.specs.Characters.{if}
+use Rattle.utf8.specs.Reading.{awaited, never, begins, tailsOf, lowOf, highOf, behindFirst}
 
 module _ (x : ℕ) where
   pub tails-none : x ≤ 0x7F → tailsOf x ≡ 0

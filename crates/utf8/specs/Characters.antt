@@ -8,6 +8,11 @@ use lib.Dec.{leb}
 use Rattle.meaning.specs.Card.{Bytes}
 use Rattle.utf8.specs.Grammar.{From}
 
+-- one of two, by a truth value
+abbrev pub if : {X : Type 0} → Bool → X → X → X
+if true x y = x
+if false x y = y
+
 -- RFC 3629, section 3: "characters from the U+0000..U+10FFFF range", of which it "prohibits encoding character numbers between
 -- U+D800 and U+DFFF": 1,112,064 of them.
 abbrev pub CodePoint : ℕ → Type 0
@@ -21,16 +26,10 @@ six c above = 0x80 + c / above % 64
 -- 10xxxxxx", by the number's range: to 7F, to 7FF, to FFFF, and above.
 unfoldable pub encode : ℕ → Bytes
 encode c =
-    elim (leb c 0x7F) [
-      true ↦ c ∷ []
-    | false ↦ elim (leb c 0x7FF) [
-        true ↦ (0xC0 + c / 64) ∷ (six c 1 ∷ [])
-      | false ↦ elim (leb c 0xFFFF) [
-          true ↦ (0xE0 + c / 4096) ∷ (six c 64 ∷ (six c 1 ∷ []))
-        | false ↦ (0xF0 + c / 262144) ∷ (six c 4096 ∷ (six c 64 ∷ (six c 1 ∷ [])))
-        ]
-      ]
-    ]
+    if (leb c 0x7F) (c ∷ [])
+    (if (leb c 0x7FF) ((0xC0 + c / 64) ∷ (six c 1 ∷ []))
+    (if (leb c 0xFFFF) ((0xE0 + c / 4096) ∷ (six c 64 ∷ (six c 1 ∷ [])))
+    ((0xF0 + c / 262144) ∷ (six c 4096 ∷ (six c 64 ∷ (six c 1 ∷ []))))))
 
 -- RFC 3629, section 3: the number that the bits marked x spell, by how many bytes there are; 0 of what is no character.
 unfoldable pub decode : Bytes → ℕ

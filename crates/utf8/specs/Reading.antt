@@ -5,12 +5,8 @@ use mathlib.Core.List.{[], _∷_}
 use Prim.Native.Nat.{ℕ, _-_}
 use lib.Dec.{leb, eqb}
 use Rattle.meaning.specs.Card.{Bytes}
+use Rattle.utf8.specs.Characters.{if}
 use Rattle.utf8.specs.declared.Awaited.{Awaited}
-
--- one of two, by a truth value
-abbrev pub if : {X : Type 0} → Bool → X → X → X
-if true x y = x
-if false x y = y
 
 -- so many tails, the next of them within a range
 abbrev pub awaited : ℕ → ℕ → ℕ → Awaited
