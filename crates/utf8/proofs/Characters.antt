@@ -1,14 +1,14 @@
 -- Each code point has exactly one form that the grammar has.
-use mathlib.Core.Path.{_≡_, refl, sym, ap, _∙_, subst}
+use mathlib.Core.Path.{_≡_, refl, sym, _∙_, subst}
 use mathlib.Core.Bool.{Bool, true, false}
 use mathlib.Core.List.{[], _∷_}
 use mathlib.Core.Logic.{_⊎_, inl, inr}
-use Prim.Native.Nat.{ℕ, zero, suc, _+_, _*_, _-_, _/_, _%_, _≤_, _<_}
+use Prim.Native.Nat.{ℕ, _+_, _*_, _-_, _/_, _≤_, _<_}
 use native.Mathlib.Omega.{arith}
 use borrow.Author.Tests.{le-leb, lt-leb, leb-true, leb-false}
 use lib.Dec.{leb}
 use Rattle.meaning.specs.Card.{Bytes}
-use Rattle.utf8.specs.Grammar.{From, UTF8-tail, UTF8-1, UTF8-2, UTF8-3, UTF8-4, UTF8-char, plain, from-c2, at-e0, from-e1, at-ed, from-ee, at-f0, from-f1, at-f4, one, two, three, four}
+use Rattle.utf8.specs.Grammar.{From, UTF8-tail, UTF8-2, UTF8-3, UTF8-4, UTF8-char, plain, from-c2, at-e0, from-e1, at-ed, from-ee, at-f0, from-f1, at-f4, one, two, three, four}
 use Rattle.utf8.specs.Characters.{CodePoint, six, encode, decode}
 use Rattle.utf8.specs.Theorems.{HasForm, OneForm}
 
@@ -119,8 +119,8 @@ up-to c m = go (leb c m) refl
 pub has-form : HasForm
 has-form c (inl r) =
     elim (up-to c 0x7F) [
-      inl k ↦ has-1 c k
-    | inr k ↦ elim (up-to c 0x7FF) [ inl l ↦ has-2 c k l | inr l ↦ has-3 c l (inl r) ]
+      | inl k ↦ has-1 c k
+      | inr k ↦ elim (up-to c 0x7FF) [ inl l ↦ has-2 c k l | inr l ↦ has-3 c l (inl r) ]
     ]
 has-form c (inr r) =
     let h = r .least in
@@ -178,36 +178,40 @@ only-3 s (at-e0 {a} {b} {c} r q p) =
     let l = q .least in
     let m = q .most in
     let o = p .least in
-    let i = p .most in
-    (below (n₃ a b c (record { least = h; most = omega arith }) (record { least = omega arith; most = m }) p) (omega arith),
-    form-of-3 a b c (record { least = h; most = omega arith }) (record { least = omega arith; most = m }) p (omega arith))
+    let i = p .most in (
+      below (n₃ a b c (record { least = h; most = omega arith }) (record { least = omega arith; most = m }) p) (omega arith),
+      form-of-3 a b c (record { least = h; most = omega arith }) (record { least = omega arith; most = m }) p (omega arith),
+    )
 only-3 s (from-e1 {a} {b} {c} r q p) =
     let h = r .least in
     let k = r .most in
     let l = q .least in
     let m = q .most in
     let o = p .least in
-    let i = p .most in
-    (below (n₃ a b c (record { least = omega arith; most = omega arith }) q p) (omega arith),
-    form-of-3 a b c (record { least = omega arith; most = omega arith }) q p (omega arith))
+    let i = p .most in (
+      below (n₃ a b c (record { least = omega arith; most = omega arith }) q p) (omega arith),
+      form-of-3 a b c (record { least = omega arith; most = omega arith }) q p (omega arith),
+    )
 only-3 s (at-ed {a} {b} {c} r q p) =
     let h = r .least in
     let k = r .most in
     let l = q .least in
     let m = q .most in
     let o = p .least in
-    let i = p .most in
-    (below (n₃ a b c (record { least = omega arith; most = omega arith }) (record { least = l; most = omega arith }) p) (omega arith),
-    form-of-3 a b c (record { least = omega arith; most = omega arith }) (record { least = l; most = omega arith }) p (omega arith))
+    let i = p .most in (
+      below (n₃ a b c (record { least = omega arith; most = omega arith }) (record { least = l; most = omega arith }) p) (omega arith),
+      form-of-3 a b c (record { least = omega arith; most = omega arith }) (record { least = l; most = omega arith }) p (omega arith),
+    )
 only-3 s (from-ee {a} {b} {c} r q p) =
     let h = r .least in
     let k = r .most in
     let l = q .least in
     let m = q .most in
     let o = p .least in
-    let i = p .most in
-    (above (n₃ a b c (record { least = omega arith; most = k }) q p) (omega arith) (omega arith),
-    form-of-3 a b c (record { least = omega arith; most = k }) q p (omega arith))
+    let i = p .most in (
+      above (n₃ a b c (record { least = omega arith; most = k }) q p) (omega arith) (omega arith),
+      form-of-3 a b c (record { least = omega arith; most = k }) q p (omega arith),
+    )
 
 -- a first byte from F0 to F4 and three tails, where the number has no shorter form
 module _ (a b c d : ℕ) (r : From 0xF0 0xF4 a) (q : UTF8-tail b) (p : UTF8-tail c) (t : UTF8-tail d) where
@@ -241,27 +245,30 @@ only-4 s (at-f0 {a} {b} {c} {d} r q p t) =
     let l = q .least in
     let m = q .most in
     let o = p .most in
-    let i = t .most in
-    (above (n₄ a b c d (record { least = h; most = omega arith }) (record { least = omega arith; most = m }) p t) (omega arith) (omega arith),
-    form-of-4 a b c d (record { least = h; most = omega arith }) (record { least = omega arith; most = m }) p t (omega arith))
+    let i = t .most in (
+      above (n₄ a b c d (record { least = h; most = omega arith }) (record { least = omega arith; most = m }) p t) (omega arith) (omega arith),
+      form-of-4 a b c d (record { least = h; most = omega arith }) (record { least = omega arith; most = m }) p t (omega arith),
+    )
 only-4 s (from-f1 {a} {b} {c} {d} r q p t) =
     let h = r .least in
     let k = r .most in
     let l = q .least in
     let m = q .most in
     let o = p .most in
-    let i = t .most in
-    (above (n₄ a b c d (record { least = omega arith; most = omega arith }) q p t) (omega arith) (omega arith),
-    form-of-4 a b c d (record { least = omega arith; most = omega arith }) q p t (omega arith))
+    let i = t .most in (
+      above (n₄ a b c d (record { least = omega arith; most = omega arith }) q p t) (omega arith) (omega arith),
+      form-of-4 a b c d (record { least = omega arith; most = omega arith }) q p t (omega arith),
+    )
 only-4 s (at-f4 {a} {b} {c} {d} r q p t) =
     let h = r .least in
     let k = r .most in
     let l = q .least in
     let m = q .most in
     let o = p .most in
-    let i = t .most in
-    (above (n₄ a b c d (record { least = omega arith; most = k }) (record { least = l; most = omega arith }) p t) (omega arith) (omega arith),
-    form-of-4 a b c d (record { least = omega arith; most = k }) (record { least = l; most = omega arith }) p t (omega arith))
+    let i = t .most in (
+      above (n₄ a b c d (record { least = omega arith; most = k }) (record { least = l; most = omega arith }) p t) (omega arith) (omega arith),
+      form-of-4 a b c d (record { least = omega arith; most = k }) (record { least = l; most = omega arith }) p t (omega arith),
+    )
 
 pub one-form : OneForm
 unfolding decode

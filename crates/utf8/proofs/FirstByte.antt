@@ -1,12 +1,10 @@
 -- What is awaited behind a character's first byte, range by range.
-use mathlib.Core.Path.{_≡_, refl, sym, ap, _∙_}
-use mathlib.Core.Bool.{Bool, true, false, _&&_, _||_}
+use mathlib.Core.Path.{_≡_, ap, _∙_}
+use mathlib.Core.Bool.{true}
 use Prim.Native.Nat.{ℕ, _≤_, _<_}
 use native.Mathlib.Omega.{arith}
 use borrow.Author.Tests.{le-leb, lt-leb, eq-eqb, ne-eqb}
-use lib.Dec.{leb, eqb}
 use Rattle.utf8.specs.Grammar.{From}
-use Rattle.utf8.specs.declared.Awaited.{Awaited}
 use Rattle.utf8.specs.Characters.{if}
 use Rattle.utf8.specs.Reading.{awaited, never, begins, tailsOf, lowOf, highOf, behindFirst}
 

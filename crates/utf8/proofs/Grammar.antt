@@ -3,19 +3,18 @@ use mathlib.Core.Path.{_≡_, refl, sym, ap, _∙_, subst}
 use mathlib.Core.Bool.{Bool, true, false}
 use mathlib.Core.List.{[], _∷_, _++_}
 use mathlib.Core.Logic.{_⊎_, inl, inr}
-use Prim.Native.Nat.{ℕ, zero, suc, _+_, _-_, _≤_, _<_}
+use Prim.Native.Nat.{ℕ, zero, suc, _≤_, _<_}
 use native.Mathlib.Omega.{arith}
 use borrow.Author.Tests.{leb-true, leb-false}
-use lib.Dec.{leb, eqb}
+use lib.Dec.{leb}
 use lib.ListN.{length}
 use Rattle.paper.proofs.Relation.{false≢true}
 use Rattle.meaning.specs.Card.{Bytes}
-use Rattle.utf8.specs.Grammar.{From, UTF8-tail, UTF8-1, UTF8-2, UTF8-3, UTF8-4, UTF8-char, UTF8-octets, plain, from-c2, at-e0, from-e1, at-ed, from-ee, at-f0, from-f1, at-f4, one, two, three, four, none, more}
-use Rattle.utf8.specs.declared.Awaited.{Awaited}
+use Rattle.utf8.specs.Grammar.{From, UTF8-tail, UTF8-2, UTF8-3, UTF8-4, UTF8-char, UTF8-octets, plain, from-c2, at-e0, from-e1, at-ed, from-ee, at-f0, from-f1, at-f4, one, two, three, four, none, more}
 use Rattle.utf8.specs.Reading.{awaited, nothing, never, behindFirst, awaitedBehind, utf8}
 use Rattle.utf8.specs.Theorems.{AcceptedExactly}
 use Rattle.utf8.proofs.FirstByte.{first-plain, first-c2, first-e0, first-e1, first-ed, first-ee, first-f0, first-f1, first-f4, first-tail, first-above}
-use Rattle.utf8.proofs.Steps.{ends, ends-first, ends-tail, ends-never, TailCame, tail-came}
+use Rattle.utf8.proofs.Steps.{ends, ends-first, ends-tail, ends-never, tail-came}
 
 -- ---- what the grammar has is accepted
 
@@ -139,12 +138,12 @@ module _ (x : ℕ) (s : Bytes) (e : ends nothing (x ∷ s) ≡ true) where
   came-f0 : 0xEF < x → Came (x ∷ s)
   came-f0 h =
       elim (up-to 0xF0) [
-        inl k ↦ (let r : From 0xF0 0xF0 x = record { least = h; most = k } in came-4 0x90 0xBF (first-f0 x r) (λ b c d. at-f0 r))
-      | inr k ↦ elim (up-to 0xF3) [
-          inl l ↦ (let r : From 0xF1 0xF3 x = record { least = k; most = l } in came-4 0x80 0xBF (first-f1 x r) (λ b c d. from-f1 r))
-        | inr l ↦ elim (up-to 0xF4) [
-            inl m ↦ (let r : From 0xF4 0xF4 x = record { least = l; most = m } in came-4 0x80 0x8F (first-f4 x r) (λ b c d. at-f4 r))
-          | inr m ↦ came-none (first-above x m)
+        | inl k ↦ (let r : From 0xF0 0xF0 x = record { least = h; most = k } in came-4 0x90 0xBF (first-f0 x r) (λ b c d. at-f0 r))
+        | inr k ↦ elim (up-to 0xF3) [
+          | inl l ↦ (let r : From 0xF1 0xF3 x = record { least = k; most = l } in came-4 0x80 0xBF (first-f1 x r) (λ b c d. from-f1 r))
+          | inr l ↦ elim (up-to 0xF4) [
+            | inl m ↦ (let r : From 0xF4 0xF4 x = record { least = l; most = m } in came-4 0x80 0x8F (first-f4 x r) (λ b c d. at-f4 r))
+            | inr m ↦ came-none (first-above x m)
           ]
         ]
       ]
@@ -153,14 +152,14 @@ module _ (x : ℕ) (s : Bytes) (e : ends nothing (x ∷ s) ≡ true) where
   came-e0 : 0xDF < x → Came (x ∷ s)
   came-e0 h =
       elim (up-to 0xE0) [
-        inl k ↦ (let r : From 0xE0 0xE0 x = record { least = h; most = k } in came-3 0xA0 0xBF (first-e0 x r) (λ b c. at-e0 r))
-      | inr k ↦ elim (up-to 0xEC) [
-          inl l ↦ (let r : From 0xE1 0xEC x = record { least = k; most = l } in came-3 0x80 0xBF (first-e1 x r) (λ b c. from-e1 r))
-        | inr l ↦ elim (up-to 0xED) [
-            inl m ↦ (let r : From 0xED 0xED x = record { least = l; most = m } in came-3 0x80 0x9F (first-ed x r) (λ b c. at-ed r))
-          | inr m ↦ elim (up-to 0xEF) [
-              inl n ↦ (let r : From 0xEE 0xEF x = record { least = m; most = n } in came-3 0x80 0xBF (first-ee x r) (λ b c. from-ee r))
-            | inr n ↦ came-f0 n
+        | inl k ↦ (let r : From 0xE0 0xE0 x = record { least = h; most = k } in came-3 0xA0 0xBF (first-e0 x r) (λ b c. at-e0 r))
+        | inr k ↦ elim (up-to 0xEC) [
+          | inl l ↦ (let r : From 0xE1 0xEC x = record { least = k; most = l } in came-3 0x80 0xBF (first-e1 x r) (λ b c. from-e1 r))
+          | inr l ↦ elim (up-to 0xED) [
+            | inl m ↦ (let r : From 0xED 0xED x = record { least = l; most = m } in came-3 0x80 0x9F (first-ed x r) (λ b c. at-ed r))
+            | inr m ↦ elim (up-to 0xEF) [
+              | inl n ↦ (let r : From 0xEE 0xEF x = record { least = m; most = n } in came-3 0x80 0xBF (first-ee x r) (λ b c. from-ee r))
+              | inr n ↦ came-f0 n
             ]
           ]
         ]
@@ -169,12 +168,12 @@ module _ (x : ℕ) (s : Bytes) (e : ends nothing (x ∷ s) ≡ true) where
   pub came : Came (x ∷ s)
   came =
       elim (up-to 0x7F) [
-        inl k ↦ came-1 (record { least = omega arith; most = k })
-      | inr k ↦ elim (up-to 0xC1) [
-          inl l ↦ came-none (first-tail x k (omega arith))
-        | inr l ↦ elim (up-to 0xDF) [
-            inl m ↦ came-2 (record { least = l; most = m })
-          | inr m ↦ came-e0 m
+        | inl k ↦ came-1 (record { least = omega arith; most = k })
+        | inr k ↦ elim (up-to 0xC1) [
+          | inl l ↦ came-none (first-tail x k (omega arith))
+          | inr l ↦ elim (up-to 0xDF) [
+            | inl m ↦ came-2 (record { least = l; most = m })
+            | inr m ↦ came-e0 m
           ]
         ]
       ]

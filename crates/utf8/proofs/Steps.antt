@@ -13,7 +13,7 @@ use Rattle.meaning.specs.Card.{Bytes, part}
 use Rattle.utf8.specs.Grammar.{From}
 use Rattle.utf8.specs.declared.Awaited.{Awaited}
 use Rattle.utf8.specs.Characters.{if}
-use Rattle.utf8.specs.Reading.{awaited, nothing, never, begins, tailsOf, lowOf, highOf, behindFirst, behindTail, behind, awaitedBehind, utf8}
+use Rattle.utf8.specs.Reading.{awaited, never, begins, tailsOf, lowOf, highOf, behindFirst, behindTail, behind, awaitedBehind}
 
 -- ---- a step, by what was tested
 

@@ -1,9 +1,8 @@
 -- The characters' numbers: RFC 3629, section 3, "UTF-8 definition": the table from numbers to bytes and back.
-use mathlib.Core.Path.{_≡_}
 use mathlib.Core.Bool.{Bool, true, false}
 use mathlib.Core.List.{[], _∷_}
 use mathlib.Core.Logic.{_⊎_}
-use Prim.Native.Nat.{ℕ, _+_, _*_, _-_, _/_, _%_, _≤_}
+use Prim.Native.Nat.{ℕ, _+_, _*_, _-_, _/_, _%_}
 use lib.Dec.{leb}
 use Rattle.meaning.specs.Card.{Bytes}
 use Rattle.utf8.specs.Grammar.{From}

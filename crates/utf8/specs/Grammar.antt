@@ -1,6 +1,5 @@
 -- UTF-8: 02, Wish 8: "in UTF-8 as RFC 3629 defines it": section 4 of that RFC, "Syntax of UTF-8 Byte Sequences", production by
 -- production, in its words and order from the last to the first.
-use mathlib.Core.Path.{_≡_}
 use mathlib.Core.List.{[], _∷_, _++_}
 use Prim.Native.Nat.{ℕ, _≤_}
 use Rattle.meaning.specs.Card.{Bytes}

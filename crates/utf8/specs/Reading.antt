@@ -1,6 +1,6 @@
 -- UTF-8 read byte by byte: what is awaited behind the bytes that were read. That it accepts what the grammar has, and nothing
 -- else, is a theorem.
-use mathlib.Core.Bool.{Bool, true, false, _&&_, _||_}
+use mathlib.Core.Bool.{Bool, _&&_, _||_}
 use mathlib.Core.List.{[], _∷_}
 use Prim.Native.Nat.{ℕ, _-_}
 use lib.Dec.{leb, eqb}

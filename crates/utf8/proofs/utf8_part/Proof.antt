@@ -2,17 +2,12 @@ use Rattle.meaning.specs.Card.{part}
 use Rattle.utf8.specs.Reading.{nothing, utf8}
 use Rattle.utf8.proofs.Steps.{ends, part-on, part-over}
 use mathlib.Core.Path.{_≡_, refl, sym, ap, _∙_}
-use mathlib.Core.List.{List, [], _∷_, _++_, append-nil, append-assoc}
-use Prim.Native.Nat.{ℕ, suc, _+_, _-_, _*_, _≤_, _<_}
+use Prim.Native.Nat.{_+_, _-_, _≤_}
 use native.Mathlib.Omega.{arith}
 use borrow.Author.Needs.{needs}
 use denote.Ref.{now}
-use lib.ListN.{length, getD, set, take, drop, replicate}
 use Rattle.utf8.proofs.utf8_part.Statement.{statement}
 use Rattle.utf8.proofs.utf8_part.Tie as tie
-use Rattle.utf8.proofs.utf8_part.Reads as reads
-use Rattle.utf8.proofs.utf8_part.Lts as lts
-use Rattle.utf8.proofs.behind.Reads as behind-reads
 
 abbrev Inv-loop : tie.InvT-loop
 Inv-loop bytes from to a₀ at₀ a at = (from ≤ at) × (at ≤ to) × (ends a (part bytes at (to - at)) ≡ ends nothing (part bytes from (to - from)))
@@ -20,37 +15,33 @@ Inv-loop bytes from to a₀ at₀ a at = (from ≤ at) × (at ≤ to) × (ends a
 abbrev μ-loop : tie.MeasureT-loop
 μ-loop bytes from to a₀ at₀ a at = to - at
 
--- src/lib.rt:125:5
 loop-holds : tie.Need-loop-holds Inv-loop μ-loop
 loop-holds c = (omega arith, c .before .pre .0, refl)
 
--- src/lib.rt:126:23
 shared-slice-read-behind : tie.Need-shared-slice-read-behind Inv-loop μ-loop
 shared-slice-read-behind c = search needs
 
--- src/lib.rt:126:9
 behind-requires : tie.Need-behind-requires Inv-loop μ-loop
 behind-requires c κs = search needs
 
--- src/lib.rt:127:9
 add-at : tie.Need-add-at Inv-loop μ-loop
 add-at c = search needs
 
--- src/lib.rt:125:5
 loop-less : tie.Need-loop-less Inv-loop μ-loop
 loop-less c = search needs
 
--- src/lib.rt:125:5
 loop-again : tie.Need-loop-again Inv-loop μ-loop
 loop-again c =
     let B = now (c .before .before .before .before .before .args .bytes) in
     let to = c .before .before .before .before .before .args .to in
-    let L = c .before .before .before .loop in
-    (omega arith, omega arith, ap (λ a. ends a (part B (L .at + 1) (to - (L .at + 1)))) (c .behind .ensures)
-    ∙ sym (part-on B (L .a) (L .at) to (c .before .before .loop-test .taken) (c .before .before .before .before .before .pre .1))
-    ∙ L .inv .2)
+    let L = c .before .before .before .loop in (
+      omega arith,
+      omega arith,
+      ap (λ a. ends a (part B (L .at + 1) (to - (L .at + 1)))) (c .behind .ensures)
+          ∙ sym (part-on B (L .a) (L .at) to (c .before .before .loop-test .taken) (c .before .before .before .before .before .pre .1))
+          ∙ L .inv .2,
+    )
 
--- src/lib.rt:115:1
 returns : tie.Need-returns Inv-loop μ-loop
 unfolding utf8
 returns c =
