@@ -56,7 +56,7 @@ ready n q h e =
 -- ---- what is found
 
 module _ (q : Asked) where
-  abbrev either : Bool → Named
+  abbrev pub either : Bool → Named
   either t = if t (named Done 1 (nameSpan (q .shed) (q .action))) (named Done 0 (nameSpan (q .master) (q .action)))
 
   pub found-own : (p : Span) → p ≡ nameSpan (q .shed) (q .action) → 0 < p .length → named Done 1 p ≡ found q
@@ -66,6 +66,9 @@ module _ (q : Asked) where
   pub found-other : (p : Span) → p ≡ nameSpan (q .shed) (q .action) → p .length ≤ 0 → named Done 0 (nameSpan (q .master) (q .action)) ≡ found q
   unfolding found
   found-other p e h = sym (ap either (ap (λ p. ltb 0 (p .length)) (sym e) ∙ le-ltb 0 (p .length) h))
+
+pub empty-part : (n : Named) (a : Answer) → n ≡ refusedName a → n .part .start + n .part .length ≤ 65535
+empty-part n a e = subst (λ (n : Named). n .part .start + n .part .length ≤ 65535) (sym e) (omega arith)
 
 -- ---- the answer, by the card's and the rows'
 
@@ -177,11 +180,3 @@ module _ (b : Bytes) (q : Asked) (n : Named) (e : n ≡ names b q) where
 
   pub its-place : (x y z : ℕ × ℕ) → sheetOf (names b q) x y ≡ z → (z .0, n .part .start + z .1) ≡ placeOf (names b q) x y
   its-place x y z so = ap (λ n. (z .0, n .part .start + z .1)) e ∙ ap (λ z. (z .0, names b q .part .start + z .1)) (sym so)
-
-  -- its end is a number as a length is
-  pub end-fits : (top : ℕ) → length (q .shed) < top → length (q .master) < top → n .part .start + n .part .length < top
-  end-fits top h k = go (ltb 0 (n .sheet)) refl
-    where
-      go : (t : Bool) → ltb 0 (n .sheet) ≡ t → n .part .start + n .part .length < top
-      go true g = let w = ends-within (q .shed) (own-sheet (q .shed) (q .master) (ltb-true _ _ g)) in omega (arith, w, h)
-      go false g = let w = ends-within (q .master) (other-sheet (q .shed) (q .master) (ltb-false _ _ g)) in omega (arith, w, k)

@@ -1,6 +1,6 @@
 // The call: the card, then the shed's sheet, then the master's, then the action; and the part that holds its name.
 ghost use mathlib.Core.Path.{_≡_};
-ghost use Prim.Native.Nat.{_≤_};
+ghost use Prim.Native.Nat.{_+_, _≤_};
 ghost use Rattle.meaning.specs.Refusals.{firstGiven};
 ghost use Rattle.names.specs.Naming.{asked, nameTable, refusedName, found, names, nameOf, placeOf};
 ghost use Rattle.names.specs.Working.{Ready};
@@ -50,6 +50,7 @@ fn refused_name(a: Answer) -> Named
 fn find(shed: &[u8], master: &[u8], action: usize) -> Named
     requires { ⌜ Ready (now shed) (now master) action ⌝ }
     ensures { λ r. ⌜ r ≡ found (asked (now (shed .entry)) (now (master .entry)) action) ⌝ }
+    ensures { λ r. ⌜ r .part .start + r .part .length ≤ 65535 ⌝ }
 {
     let own = name_span(shed, action);
     if 0 < own.length {
@@ -70,6 +71,7 @@ fn find(shed: &[u8], master: &[u8], action: usize) -> Named
 // What the call answers: the number, which sheet, and the part's start and length.
 pub fn named(card: &[u8], shed: &[u8], master: &[u8], action: usize) -> Named
     ensures { λ r. ⌜ r ≡ names (now (card .entry)) (asked (now (shed .entry)) (now (master .entry)) action) ⌝ }
+    ensures { λ r. ⌜ r .part .start + r .part .length ≤ 65535 ⌝ }
 {
     let checked = check(card);
     let Checked::Good(l) = checked else {

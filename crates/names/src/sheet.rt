@@ -76,10 +76,11 @@ pub fn master_good(sheet: &[u8], n: usize) -> bool
     sheet_good(sheet, n, 1)
 }
 
-// The part that holds an action's name; an empty one in a sheet of no bytes.
+// The part that holds an action's name; an empty one in a sheet of no bytes. Offsets have "two bytes each".
 pub fn name_span(sheet: &[u8], action: usize) -> Span
     requires { ⌜ (action ≤ 256) × Holds (now sheet) action ⌝ }
     ensures { λ r. ⌜ r ≡ nameSpan (now (sheet .entry)) action ⌝ }
+    ensures { λ r. ⌜ r .start + r .length ≤ 65535 ⌝ }
 {
     if sheet.len() == 0 {
         return Span {

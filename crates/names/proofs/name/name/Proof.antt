@@ -1,5 +1,5 @@
 use Rattle.names.specs.Naming.{asked}
-use Rattle.names.proofs.Naming.{own-sheet, other-sheet, ends-within, its-bytes, its-place, end-fits}
+use Rattle.names.proofs.Naming.{own-sheet, other-sheet, ends-within, its-bytes, its-place}
 use native.Mathlib.Omega.{arith}
 use borrow.Author.Needs.{needs}
 use denote.Ref.{now}
@@ -10,12 +10,7 @@ named-requires : tie.Need-named-requires
 named-requires c κs = search needs
 
 add-end : tie.Need-add-end
-add-end c =
-    let a = c .before .before .before .before .before .args in
-    let g = c .before .before .before .before .before .good in
-    let n = c .before .named in
-    let w = end-fits (now (a .card)) (asked (now (a .shed)) (now (a .master)) (a .action)) (n .result) (n .ensures) 18446744073709551616 (g .1 .0 .0) (g .1 .1 .0 .0) in
-    omega (arith, w)
+add-end c = omega (arith, c .before .named .ensures .1)
 
 sub-result : tie.Need-sub-result
 sub-result c = search needs
@@ -28,7 +23,7 @@ part-result-end c =
     let a = c .before .before .before .before .before .before .before .args in
     let q = asked (now (a .shed)) (now (a .master)) (a .action) in
     let n = c .before .before .before .named in
-    ends-within (now (a .card)) q (n .result) (n .ensures) (now (a .shed)) (own-sheet (now (a .card)) q (n .result) (n .ensures) (now (a .shed)) (now (a .master)) (c .if1 .taken))
+    ends-within (now (a .card)) q (n .result) (n .ensures .0) (now (a .shed)) (own-sheet (now (a .card)) q (n .result) (n .ensures .0) (now (a .shed)) (now (a .master)) (c .if1 .taken))
 
 returns : tie.Need-returns
 returns c =
@@ -36,8 +31,8 @@ returns c =
     let q = asked (now (a .shed)) (now (a .master)) (a .action) in
     let n = c .before .before .before .before .named in
     let h = c .before .if1 .taken in (
-      its-bytes (now (a .card)) q (n .result) (n .ensures) (now (a .shed)) (own-sheet (now (a .card)) q (n .result) (n .ensures) (now (a .shed)) (now (a .master)) h),
-      its-place (now (a .card)) q (n .result) (n .ensures) (a .shed .ptr) (a .master .ptr) (a .shed .ptr) (own-sheet (now (a .card)) q (n .result) (n .ensures) (a .shed .ptr) (a .master .ptr) h),
+      its-bytes (now (a .card)) q (n .result) (n .ensures .0) (now (a .shed)) (own-sheet (now (a .card)) q (n .result) (n .ensures .0) (now (a .shed)) (now (a .master)) h),
+      its-place (now (a .card)) q (n .result) (n .ensures .0) (a .shed .ptr) (a .master .ptr) (a .shed .ptr) (own-sheet (now (a .card)) q (n .result) (n .ensures .0) (a .shed .ptr) (a .master .ptr) h),
     )
 
 sub-result-2 : tie.Need-sub-result-2
@@ -51,7 +46,7 @@ part-result-end-2 c =
     let a = c .before .before .before .before .before .before .before .args in
     let q = asked (now (a .shed)) (now (a .master)) (a .action) in
     let n = c .before .before .before .named in
-    ends-within (now (a .card)) q (n .result) (n .ensures) (now (a .master)) (other-sheet (now (a .card)) q (n .result) (n .ensures) (now (a .shed)) (now (a .master)) (c .if1 .left))
+    ends-within (now (a .card)) q (n .result) (n .ensures .0) (now (a .master)) (other-sheet (now (a .card)) q (n .result) (n .ensures .0) (now (a .shed)) (now (a .master)) (c .if1 .left))
 
 returns-2 : tie.Need-returns-2
 returns-2 c =
@@ -59,8 +54,8 @@ returns-2 c =
     let q = asked (now (a .shed)) (now (a .master)) (a .action) in
     let n = c .before .before .before .before .named in
     let h = c .before .if1 .left in (
-      its-bytes (now (a .card)) q (n .result) (n .ensures) (now (a .master)) (other-sheet (now (a .card)) q (n .result) (n .ensures) (now (a .shed)) (now (a .master)) h),
-      its-place (now (a .card)) q (n .result) (n .ensures) (a .shed .ptr) (a .master .ptr) (a .master .ptr) (other-sheet (now (a .card)) q (n .result) (n .ensures) (a .shed .ptr) (a .master .ptr) h),
+      its-bytes (now (a .card)) q (n .result) (n .ensures .0) (now (a .master)) (other-sheet (now (a .card)) q (n .result) (n .ensures .0) (now (a .shed)) (now (a .master)) h),
+      its-place (now (a .card)) q (n .result) (n .ensures .0) (a .shed .ptr) (a .master .ptr) (a .master .ptr) (other-sheet (now (a .card)) q (n .result) (n .ensures .0) (a .shed .ptr) (a .master .ptr) h),
     )
 
 pub name-spec : {M : Type 1} → statement M

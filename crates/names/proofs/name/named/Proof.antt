@@ -1,6 +1,6 @@
 use Rattle.card.specs.Rows.{answerOf}
 use Rattle.names.specs.Naming.{asked, refusedName}
-use Rattle.names.proofs.Naming.{card-refuses, rows-refuse, rows-done, few-actions, ready}
+use Rattle.names.proofs.Naming.{empty-part, card-refuses, rows-refuse, rows-done, few-actions, ready}
 use mathlib.Core.Path.{sym, ap, _∙_}
 use borrow.Author.Needs.{needs}
 use denote.Ref.{now}
@@ -26,8 +26,8 @@ returns : tie.Need-returns
 returns c =
     let a = c .before .before .before .before .before .before .before .before .args in
     let told = c .before .before .enum-told .given .1 in
-    c .refused-name .ensures ∙ ap refusedName (c .before .answer-of .ensures ∙ ap answerOf told)
-    ∙ card-refuses (now (a .card)) (asked (now (a .shed)) (now (a .master)) (a .action)) _ (sym (c .before .before .before .before .check .ensures) ∙ told)
+    let e = c .refused-name .ensures ∙ ap refusedName (c .before .answer-of .ensures ∙ ap answerOf told) in
+    (e ∙ card-refuses (now (a .card)) (asked (now (a .shed)) (now (a .master)) (a .action)) _ (sym (c .before .before .before .before .check .ensures) ∙ told), empty-part _ _ e)
 
 judge-requires : tie.Need-judge-requires
 judge-requires c κs = few-actions (now (c .before .before .before .before .before .before .before .args .card)) _ (sym (c .before .before .before .check .ensures) ∙ c .before .checked .given .1)
@@ -46,7 +46,7 @@ returns-2 c =
     let a = c .before .before .before .before .before .before .before .before .before .before .before .args in
     let good = sym (c .before .before .before .before .before .before .before .check .ensures) ∙ c .before .before .before .before .before .checked .given .1 in
     let r = c .before .before .before .judge in
-    c .refused-name2 .ensures ∙ rows-refuse (now (a .card)) (asked (now (a .shed)) (now (a .master)) (a .action)) _ good (r .result) (r .ensures) _ (c .before .enum-told3 .given .1)
+    (c .refused-name2 .ensures ∙ rows-refuse (now (a .card)) (asked (now (a .shed)) (now (a .master)) (a .action)) _ good (r .result) (r .ensures) _ (c .before .enum-told3 .given .1), empty-part _ _ (c .refused-name2 .ensures))
 
 find-requires : tie.Need-find-requires
 find-requires c κs =
@@ -60,7 +60,7 @@ returns-3 c =
     let a = c .before .before .before .before .before .before .before .before .before .before .before .args in
     let good = sym (c .before .before .before .before .before .before .before .check .ensures) ∙ c .before .before .before .before .before .checked .given .1 in
     let r = c .before .before .before .judge in
-    c .find .ensures ∙ rows-done (now (a .card)) (asked (now (a .shed)) (now (a .master)) (a .action)) _ good (r .result) (r .ensures) (c .before .enum-told2 .given .1)
+    (c .find .ensures .0 ∙ rows-done (now (a .card)) (asked (now (a .shed)) (now (a .master)) (a .action)) _ good (r .result) (r .ensures) (c .before .enum-told2 .given .1), c .find .ensures .1)
 
 pub named-spec : {M : Type 1} → statement M
 named-spec =

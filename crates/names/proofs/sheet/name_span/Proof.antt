@@ -6,7 +6,7 @@ use Rattle.names.proofs.sheet.name_span.Statement.{statement}
 use Rattle.names.proofs.sheet.name_span.Tie as tie
 
 returns : tie.Need-returns
-returns c = span-none (now (c .before .before .args .sheet)) (c .before .before .args .action) (c .if1 .taken)
+returns c = (span-none (now (c .before .before .args .sheet)) (c .before .before .args .action) (c .if1 .taken), omega arith)
 
 mul-number-at : tie.Need-mul-number-at
 mul-number-at c = search needs
@@ -35,7 +35,7 @@ sub-t5 c =
 returns-2 : tie.Need-returns-2
 returns-2 c =
     let a = c .before .before .before .before .args in
-    span-is (now (a .sheet)) (a .action) _ _ (c .before .number-at .ensures .0) (c .number-at2 .ensures .0)
+    (span-is (now (a .sheet)) (a .action) _ _ (c .before .number-at .ensures .0) (c .number-at2 .ensures .0), omega (arith, c .before .number-at .ensures .1, c .number-at2 .ensures .1))
 
 pub name-span-spec : {M : Type 1} → statement M
 name-span-spec =
