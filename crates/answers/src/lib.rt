@@ -50,8 +50,8 @@ pub fn answer_number(a: Answer) -> u16
     }
 }
 
-// The number that a refusal carries: 02, Wish 1: "16 a condition is false, with the node"; Wish 2: "17 text, with the place"; Wish 8:
-// "20 a sheet …, the shed's before the master", which it is. 0 where it carries none.
+// The number that a refusal carries: 02, Wish 1: "16 a condition is false, with the node"; Wish 2: "17 text, with the place";
+// Wish 8: "20 a sheet …, the shed's before the master", which it is. 0 where it carries none.
 fn refusal_carried(r: Refusal) -> usize
     ensures { λ n. ⌜ n ≡ carried r ⌝ }
 {

@@ -1,8 +1,8 @@
 -- Which sheet is told: 0 or 1.
-use mathlib.Core.Path.{_≡_, refl, sym, ap, _∙_, subst}
+use mathlib.Core.Path.{_≡_, refl, sym, _∙_, subst}
 use mathlib.Core.Bool.{Bool, true, false, _&&_}
 use mathlib.Core.List.{List, [], _∷_}
-use Prim.Native.Nat.{ℕ, _≤_}
+use Prim.Native.Nat.{_≤_}
 use native.Mathlib.Omega.{arith}
 use borrow.Author.Tests.{leb-true}
 use lib.Dec.{leb, ltb}
@@ -44,10 +44,10 @@ found-told : (q : Asked) → sheetNumber (found q .answer) (found q .sheet) ≤ 
 unfolding found sheetNumber
 found-told q = elim (ltb 0 (nameSpan (q .shed) (q .action) .length)) as (λ t. sheetNumber (either q t .answer) (either q t .sheet) ≤ 1) [ true ↦ omega arith | false ↦ omega arith ]
 
-pub sheet-told : (b : Bytes) (q : Asked) → sheetNumber (names b q .answer) (names b q .sheet) ≤ 1
+pub sheet-told : (b : Bytes) (q : Asked) (n : Named) → n ≡ names b q → sheetNumber (n .answer) (n .sheet) ≤ 1
 unfolding answerCarried sheetNumber
-sheet-told b q = go (nameAnswer b q) refl
+sheet-told b q n told = go (nameAnswer b q) refl
   where
-    go : (a : Answer) → nameAnswer b q ≡ a → sheetNumber (names b q .answer) (names b q .sheet) ≤ 1
-    go Done e = subst (λ (n : Named). sheetNumber (n .answer) (n .sheet) ≤ 1) (sym (names-found b q e)) (found-told q)
-    go (Refused r) e = subst (λ (n : Named). sheetNumber (n .answer) (n .sheet) ≤ 1) (sym (on-refusal b q r e)) (subst (λ a. answerCarried a ≤ 1) e (answer-small b q))
+    go : (a : Answer) → nameAnswer b q ≡ a → sheetNumber (n .answer) (n .sheet) ≤ 1
+    go Done e = subst (λ (n : Named). sheetNumber (n .answer) (n .sheet) ≤ 1) (sym (told ∙ names-found b q e)) (found-told q)
+    go (Refused r) e = subst (λ (n : Named). sheetNumber (n .answer) (n .sheet) ≤ 1) (sym (told ∙ on-refusal b q r e)) (subst (λ a. answerCarried a ≤ 1) e (answer-small b q))
