@@ -33,7 +33,8 @@ returns c =
     let a = c .before .before .before .before .before .args in
     let L = c .before .before .before .loop in
     let from = c .before .number-at in
-    let h = c .before .before .loop-test .taken in
+    let t = c .before .before .loop-test .taken in
+    let h : 0 < L .i = omega (arith, t) in
     not-every (nameGood (a .least) (now (a .sheet))) (a .n) (L .i - 1) (omega (arith, L .inv .0))
     (name-falls (a .least) (now (a .sheet)) (L .i) (from .result) (L .to) h (from .ensures .0) (L .inv .1) (c .if1 .taken))
 
@@ -51,7 +52,8 @@ loop-again c =
     let a = c .before .before .before .before .before .before .before .args in
     let L = c .before .before .before .before .before .loop in
     let from = c .before .before .before .number-at in
-    let h = c .before .before .before .before .loop-test .taken in
+    let t = c .before .before .before .before .loop-test .taken in
+    let h : 0 < L .i = omega (arith, t) in
     let good = name-right (a .least) (now (a .sheet)) (L .i) (from .result) (L .to) h (from .ensures .0) (L .inv .1) (c .before .before .if1 .left) (sym (c .before .utf8-part .ensures) ∙ c .if2 .taken) in (
       omega (arith, L .inv .0),
       from-is (a .least) (now (a .sheet)) (L .i) (from .result) (L .to) h (from .ensures .0) (L .inv .1),
@@ -64,7 +66,8 @@ returns-2 c =
     let a = c .before .before .before .before .before .before .before .args in
     let L = c .before .before .before .before .before .loop in
     let from = c .before .before .before .number-at in
-    let h = c .before .before .before .before .loop-test .taken in
+    let t = c .before .before .before .before .loop-test .taken in
+    let h : 0 < L .i = omega (arith, t) in
     not-every (nameGood (a .least) (now (a .sheet))) (a .n) (L .i - 1) (omega (arith, L .inv .0))
     (name-wrong (a .least) (now (a .sheet)) (L .i) (from .result) (L .to) h (from .ensures .0) (L .inv .1) (c .before .before .if1 .left) (sym (c .before .utf8-part .ensures) ∙ c .if2 .left))
 
