@@ -14,7 +14,7 @@ use Rattle.names.specs.Sheets.{offsetAt, nameSpan, bytesOf, shedGood, ma
 use Rattle.names.specs.Naming.{Asked, nameAnswer, refusedName, named, names, sheetOf, nameOf}
 
 -- 02, Wish 8: "A sheet has a count n, n + 1 offsets that never fall (two bytes each, the first 2n + 4, the last the sheet's
--- length), then the names, each in UTF-8 as RFC 3629 defines it."
+-- length), then the names, each in UTF-8 as RFC 3629 defines it." Each has so many bytes at least: 0, or 1 where none is empty.
 pub record Sheet (least n : ℕ) (s : Bytes) : Type 0 where
   pub count : numberAt s 0 ≡ n
   pub first : offsetAt s 0 ≡ 2 * n + 4
