@@ -58,7 +58,7 @@ programs() {
     printf '#!/bin/sh\nsed 1d\necho " 105" >&2\n' >"$room/programs/read_text"
     printf '#!/bin/sh\necho atoms\ncat\n' >"$room/programs/print_text"
     # shellcheck disable=SC2016
-    printf '#!/bin/sh\ncat >"$0.given"\nprintf "0 weave\\n12  a name \\n"\n' \
+    printf '#!/bin/sh\ncat >"$0.given"\nprintf "0 weave\\n12  a  name\\n"\n' \
         >"$room/programs/move_names"
     chmod +x "$room/programs/"*
 }
@@ -342,7 +342,7 @@ acts='card 255 bounded
 rest 4'
 named='card 255 bounded
 1 select 0 1 5
-2 act 12 1 3  a name 
+2 act 12 1 3  a  name
 3 revise 0 1 1
 4 act 0 0 0 weave
 rest 4'
