@@ -47,7 +47,7 @@ READING = (
     ("the cases", ("paper/specs/Cases.antt", "meaning/specs/Stripe.antt", "meaning/specs/Cases.antt", "notation/specs/Cases.antt",
                    "deliberation/specs/Cases.antt")),
 )
-READ_CRATES = ("paper", "runs", "meaning", "demands", "notation", "utf8")
+READ_CRATES = ("paper", "runs", "meaning", "demands", "notation", "deliberation", "utf8")
 
 
 class Piece(NamedTuple):
@@ -254,6 +254,17 @@ def check_quotes(page, folder, tally):
 # ---- the quotations in the crates
 
 
+def stands(parts, text):
+    """Whether the parts stand in a text, one behind the other."""
+    at = 0
+    for part in parts:
+        at = text.find(part, at)
+        if at < 0:
+            return False
+        at += len(part)
+    return True
+
+
 def remarks(path):
     """The comments of a file, each with the line that it begins on; lines that follow each other are one."""
     found, open_one = [], False
@@ -282,9 +293,8 @@ def check_remarks(folder, tally):
                         continue
                     if "utf8" in path and "RFC 3629" in text and not re.search(r"%x|UTF8-", quote):
                         continue
-                    parts = (re.sub(r"\s+", " ", re.sub(r"[*`]", "", part).strip()) for part in quote.split("…"))
-                    wanted = ".*?".join(map(re.escape, parts))
-                    so = any(re.search(wanted, text) for text in texts)
+                    parts = [re.sub(r"\s+", " ", re.sub(r"[*`]", "", part).strip()) for part in quote.split("…")]
+                    so = any(stands(parts, text) for text in texts)
                     tally.hold(line, so, f"not in the documents: {quote}", os.path.relpath(path, TOP))
 
 
