@@ -610,7 +610,7 @@ def name_requests(random, actions, count, largest):
 def long_name_requests(random, actions, largest):
     """Names asked for with sheets of `largest` bytes, or a few less."""
     held = [wordings.filled_up(random, actions, largest - random.randrange(3)) for _ in range(2)]
-    held.append(wordings.damaged_anywhere(random, held[0]))
+    held.append(wordings.damaged_anywhere(random, held[0])[:largest])
     shed, master = random.choice((b"", *held)), random.choice(held)
     return [request_name(shed, master, action) for action in (0, actions - 1, actions)]
 
