@@ -11,10 +11,10 @@ use lib.ListN.{length}
 use Rattle.paper.proofs.Relation.{both}
 use Rattle.meaning.specs.Card.{Bytes, numberAt}
 use Rattle.meaning.proofs.Every.{both-true, every-at, every-of}
-use Rattle.utf8.proofs.Grammar.{accepted-exactly}
+use Rattle.utf8.proofs.Grammar.{utf8-exactly}
 use Rattle.names.specs.Sheets.{offsetAt, headGood, nameGood, sheetGood, shedGood, masterGood}
 use Rattle.names.specs.Working.{Holds}
-use Rattle.names.specs.Theorems.{Sheet, AcceptedExactly}
+use Rattle.names.specs.Theorems.{Sheet, SheetsExactly}
 use Rattle.names.proofs.Sheets.{shed-none, shed-some}
 
 -- ---- the offsets
@@ -60,7 +60,7 @@ module _ (least n : ℕ) (s : Bytes) where
         first = eqb-true _ _ p;
         last = eqb-true _ _ q;
         never-fall = λ i l. leb-true _ _ (both (leb (offsetAt s i + least) (offsetAt s (i + 1))) _ (every-at (nameGood least s) n i v l) .0);
-        in-utf8 = λ i l. accepted-exactly _ .0 (both (leb (offsetAt s i + least) (offsetAt s (i + 1))) _ (every-at (nameGood least s) n i v l) .1);
+        in-utf8 = λ i l. utf8-exactly _ .0 (both (leb (offsetAt s i + least) (offsetAt s (i + 1))) _ (every-at (nameGood least s) n i v l) .1);
       }
 
   pub rules-hold : Sheet least n s → sheetGood least n s ≡ true
@@ -71,7 +71,7 @@ module _ (least n : ℕ) (s : Bytes) where
       (both-true (eqb (numberAt s 0) n) _ (eq-eqb _ _ (r .count))
       (both-true (eqb (offsetAt s 0) (2 * n + 4)) _ (eq-eqb _ _ (r .first)) (eq-eqb _ _ (r .last))))
       (every-of (nameGood least s) n
-      (λ i l. both-true (leb (offsetAt s i + least) (offsetAt s (i + 1))) _ (le-leb _ _ (r .never-fall i l)) (accepted-exactly _ .1 (r .in-utf8 i l)))))
+      (λ i l. both-true (leb (offsetAt s i + least) (offsetAt s (i + 1))) _ (le-leb _ _ (r .never-fall i l)) (utf8-exactly _ .1 (r .in-utf8 i l)))))
 
 none-is : (s : Bytes) → length s ≡ 0 → s ≡ []
 none-is [] e = refl
@@ -92,7 +92,7 @@ shed-hold n s (inr r) = go (eqb (length s) 0) refl
     go true h = sym (shed-none n s (eqb-true (length s) 0 h))
     go false h = sym (shed-some n s (eqb-false (length s) 0 h)) ∙ rules-hold 0 n s r
 
-pub sheets-exactly : AcceptedExactly
+pub sheets-exactly : SheetsExactly
 unfolding masterGood
 sheets-exactly n s = (shed-rules n s, shed-hold n s, rules-of 1 n s, rules-hold 1 n s)
 

@@ -9,7 +9,7 @@ use Rattle.meaning.specs.Card.{Bytes, numberAt, part}
 use Rattle.meaning.specs.Refusals.{every}
 use Rattle.utf8.specs.Reading.{utf8}
 
--- 02, Wish 8: "n + 1 offsets …, two bytes each": number i of them, behind the count.
+-- 02, Wish 8: "n + 1 offsets … two bytes each": number i of them, behind the count.
 abbrev pub offsetAt : Bytes → ℕ → ℕ
 offsetAt s i = numberAt s (2 + 2 * i)
 

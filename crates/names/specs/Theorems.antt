@@ -23,8 +23,8 @@ pub record Sheet (least n : ℕ) (s : Bytes) : Type 0 where
   pub in-utf8 : (i : ℕ) → i < n → UTF8-octets (bytesOf s (nameSpan s i))
 
 -- A sheet is accepted exactly if the rules hold: the shed's may be none, and no master name is empty.
-abbrev pub AcceptedExactly : Type 0
-AcceptedExactly = (n : ℕ) (s : Bytes)
+abbrev pub SheetsExactly : Type 0
+SheetsExactly = (n : ℕ) (s : Bytes)
     → (shedGood n s ≡ true → (s ≡ []) ⊎ Sheet 0 n s)
     × ((s ≡ []) ⊎ Sheet 0 n s → shedGood n s ≡ true)
     × (masterGood n s ≡ true → Sheet 1 n s)

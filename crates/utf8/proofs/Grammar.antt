@@ -12,7 +12,7 @@ use Rattle.paper.proofs.Relation.{false≢true}
 use Rattle.meaning.specs.Card.{Bytes}
 use Rattle.utf8.specs.Grammar.{From, UTF8-tail, UTF8-2, UTF8-3, UTF8-4, UTF8-char, UTF8-octets, plain, from-c2, at-e0, from-e1, at-ed, from-ee, at-f0, from-f1, at-f4, one, two, three, four, none, more}
 use Rattle.utf8.specs.Reading.{awaited, nothing, never, behindFirst, awaitedBehind, utf8}
-use Rattle.utf8.specs.Theorems.{AcceptedExactly}
+use Rattle.utf8.specs.Theorems.{Utf8Exactly}
 use Rattle.utf8.proofs.FirstByte.{first-plain, first-c2, first-e0, first-e1, first-ed, first-ee, first-f0, first-f1, first-f4, first-tail, first-above}
 use Rattle.utf8.proofs.Steps.{ends, ends-first, ends-tail, ends-never, tail-came}
 
@@ -193,6 +193,6 @@ sound-up-to zero s h e = next s 0 (λ t l f. of-none t l) (omega arith) e
     of-none (x ∷ t) l = absurd (omega arith)
 sound-up-to (suc n) s h e = next s n (sound-up-to n) h e
 
-pub accepted-exactly : AcceptedExactly
+pub utf8-exactly : Utf8Exactly
 unfolding utf8
-accepted-exactly s = (sound-up-to (length s) s (omega arith), complete s)
+utf8-exactly s = (sound-up-to (length s) s (omega arith), complete s)

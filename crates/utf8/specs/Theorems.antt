@@ -8,8 +8,8 @@ use Rattle.utf8.specs.Characters.{CodePoint, encode, decode}
 use Rattle.utf8.specs.Reading.{utf8}
 
 -- Bytes are accepted exactly if RFC 3629's grammar has them.
-abbrev pub AcceptedExactly : Type 0
-AcceptedExactly = (s : Bytes) → (utf8 s ≡ true → UTF8-octets s) × (UTF8-octets s → utf8 s ≡ true)
+abbrev pub Utf8Exactly : Type 0
+Utf8Exactly = (s : Bytes) → (utf8 s ≡ true → UTF8-octets s) × (UTF8-octets s → utf8 s ≡ true)
 
 -- Each code point has a form, which is a character of the grammar and spells it,
 abbrev pub HasForm : Type 0
