@@ -65,6 +65,13 @@ fn high_of(x: u8) -> u8
 fn behind_first(x: u8) -> Awaited
     ensures { λ r. ⌜ r ≡ behindFirst x ⌝ }
 {
+    if x <= 0x7F {
+        return Awaited {
+            tails: 0,
+            low: 0x80,
+            high: 0xBF,
+        };
+    }
     if begins(x) {
         Awaited {
             tails: tails_of(x),
