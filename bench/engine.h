@@ -1,5 +1,5 @@
 /*
- * The engine: the eight calls of document 01, with document 02's wishes 1, 2, 4, 5 and 6, in
+ * The engine: the eight calls of document 01, with document 02's wishes 1, 2, 4, 5, 6 and 8, in
  * hand-written C, with no proofs, as the program that the library is measured against. The
  * parameters and answers are those of the functions `rigtemple_..._parts` in include/rigtemple.h.
  */
@@ -48,5 +48,9 @@ uint16_t engine_text(const uint8_t *text, size_t text_len, uint8_t *card, size_t
 
 uint16_t engine_print(const uint8_t *card, size_t card_len, uint16_t node, uint8_t *text,
                       size_t text_len, uint16_t *bytes);
+
+uint16_t engine_name(const uint8_t *card, size_t card_len, const uint8_t *shed, size_t shed_len,
+                     const uint8_t *master, size_t master_len, uint16_t action, uint8_t *sheet,
+                     uint16_t *start, uint16_t *length);
 
 #endif

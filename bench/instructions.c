@@ -7,22 +7,27 @@
  *
  * With the stripe card its text is read and node 4 printed, with the typical card a full text and a
  * node that prints 255. A deliberation is of one plan, by the program of the teaching shed, with 3
- * revisions and with 50.
+ * revisions and with 50. A name is found in the shed's sheet, with a master's beside it: of the stripe
+ * card's five, and of 256 of about 40 bytes each.
  */
 #include <stdlib.h>
 
 #include "../include/rigtemple.h"
 #include "../tests/cards.h"
 #include "../tests/programs.h"
+#include "../tests/sheets.h"
 #include "../tests/texts.h"
 #include "engine.h"
 
 enum { CHECK, LOAD, GRADE, LIST, TAKE, REFUSED, RUN_1, RUN_9, SAVE, RESTORE, DELIBERATE, TEXT,
-       PRINT };
+       PRINT, NAME };
 enum { BEFORE = 3, ENOUGH = 1000 };
 
 /* A revision of the stripe card whose condition is false then. */
 enum { CLOSED = 514 };
+
+/* An action that both sheds have a name for. */
+enum { NAMED = 3 };
 
 static struct card_bytes card, printed;
 static struct program_bytes program;
@@ -31,11 +36,14 @@ static struct rigtemple_configuration middle, woven, c;
 static uint8_t remaining[RIGTEMPLE_MOST_REMAINING], remaining_length;
 static uint8_t place[RIGTEMPLE_MOST_PLACE_BYTES], verdict, offender, ending;
 static uint16_t list[RIGTEMPLE_MOST_LIST_ENTRIES], place_len, number, moves, node, of_printed;
-static uint8_t made[RIGTEMPLE_MOST_CARD_BYTES];
+static uint8_t made[RIGTEMPLE_MOST_CARD_BYTES], sheet;
+static struct sheet_bytes shed, master;
+static uint16_t start, length;
 static size_t wrong;
 
 #define CARD card.bytes, card.len
 #define PROGRAM program.bytes, program.len
+#define SHEETS shed.bytes, shed.len, master.bytes, master.len
 #define LEFT &moves, &ending, remaining, &remaining_length
 #define PARTS c.beliefs, c.goals, c.plan, &c.length, &c.phase, &c.finished
 #define PARTS_READ c.beliefs, c.goals, c.plan, c.length, c.phase, c.finished
@@ -55,6 +63,7 @@ static size_t wrong;
     case RESTORE: return of##restore##parts(CARD, place, place_len, PARTS);                   \
     case DELIBERATE: return of##deliberate##parts(CARD, PROGRAM, PARTS, ENOUGH, LEFT);        \
     case TEXT: return of##text##parts(text.bytes, text.len, made, sizeof made, &number, &wrong); \
+    case NAME: return of##name##parts(CARD, SHEETS, NAMED, &sheet, &start, &length);          \
     default:                                                                                  \
         return of##print##parts(printed.bytes, printed.len, of_printed, made, sizeof made, &number); \
     }
@@ -76,12 +85,16 @@ static int begin(int which)
     if (which == 0) {
         endless_stripe_card(&card);
         teaching_program(&program, 3);
+        stripe_master(&master);
+        stripe_shed(&shed);
         stripe_as_text(&text);
         stripe_card(&printed);
         of_printed = 4;
     } else {
         typical_card(&card);
         teaching_program(&program, 50);
+        typical_master(&master);
+        typical_shed(&shed);
         full_text(&text);
         printed_list_card(&printed);
         of_printed = 254;
@@ -96,6 +109,9 @@ static int begin(int which)
     c = woven;
     if (rigtemple_deliberate(CARD, PROGRAM, &c, ENOUGH, LEFT) ||
         ending != RIGTEMPLE_DELIBERATION_FINISHED)
+        return 1;
+    if (rigtemple_name_parts(CARD, SHEETS, NAMED, &sheet, &start, &length) ||
+        sheet != RIGTEMPLE_SHEET_SHED)
         return 1;
     return rigtemple_list(CARD, &middle, list, sizeof list / 2, &number);
 }

@@ -1,11 +1,15 @@
 #!/usr/bin/env python3
-"""The library from Python, by ctypes: python3 by_ctypes.py LIBRIGTEMPLE.SO CARD [PROGRAM]
+"""The library from Python, by ctypes:
 
-Loads a card, runs it for 1,000 moves at most, by itself or by a program, and says how many bands are finished; saves the place, restores
-it and says whether it is the same configuration. A refusal ends the program with status 1. HOW-TO-LINK.txt of the library's folder makes
-the shared object from the archive.
+    python3 by_ctypes.py LIBRIGTEMPLE.SO CARD [PROGRAM]
+    python3 by_ctypes.py LIBRIGTEMPLE.SO CARD --names MASTER [SHED]
 
-The symbols of the library are the eleven functions `rigtemple_..._parts`, over the parts of a configuration: what rigtemple.h calls
+The first loads a card, runs it for 1,000 moves at most, by itself or by a program, and says how many bands are finished; saves the place,
+restores it and says whether it is the same configuration. The second prints the name of each action: of the shed's sheet, or of the
+master's where the shed has none. A refusal ends the program with status 1. HOW-TO-LINK.txt of the library's folder makes the shared object
+from the archive.
+
+The symbols of the library are the twelve functions `rigtemple_..._parts`, over the parts of a configuration: what rigtemple.h calls
 `rigtemple_load` and so on is made of them in the header. Declare all their types: an undeclared length would be passed as 32 bits.
 """
 
@@ -32,6 +36,7 @@ CALLS = {
     "restore": (*CARD, POINTER(c_uint8), c_size_t, *LENT),
     "text": (c_char_p, c_size_t, POINTER(c_uint8), c_size_t, POINTER(c_uint16), POINTER(c_size_t)),
     "print": (*CARD, c_uint16, POINTER(c_uint8), c_size_t, POINTER(c_uint16)),
+    "name": (*CARD, c_char_p, c_size_t, c_char_p, c_size_t, c_uint16, POINTER(c_uint8), POINTER(c_uint16), POINTER(c_uint16)),
 }
 
 
@@ -88,19 +93,39 @@ def deliberate(guide, c, program):
     return "%s after %d moves, remaining: %s" % (DELIBERATION_ENDINGS[ending.value], moves.value, left)
 
 
-def main(library, name, program=None):
-    guide = Guide(library, read(name))
+def names(guide, master, shed=b""):
+    """The name of each action, in the shed's language or in the master's."""
+    guide("check")
+    for action in range(int.from_bytes(guide.card[6:8], "little")):
+        sheet, start, length = c_uint8(), c_uint16(), c_uint16()
+        guide("name", shed, len(shed), master, len(master), action, byref(sheet), byref(start), byref(length))
+        held = shed if sheet.value else master
+        yield held[start.value : start.value + length.value].decode("utf-8")
+
+
+def weave(guide, program=None):
+    """Runs a card, by itself or by a program, and keeps its place."""
     c, restored = Configuration(), Configuration()
     size, place = c_uint16(), (c_uint8 * 1068)()
     guide("load", *c.lent())
-    print(deliberate(guide, c, read(program)) if program else run(guide, c))
+    print(deliberate(guide, c, program) if program is not None else run(guide, c))
     print("bands finished: %d" % c.finished.value)
     guide("save", *c.read(), place, len(place), byref(size))
     guide("restore", place, size.value, *restored.lent())
     print("a place of %d bytes, restored %s" % (size.value, "the same" if restored.whole() == c.whole() else "as another"))
 
 
+def main(library, card, *words):
+    guide = Guide(library, read(card))
+    if words[:1] == ("--names",):
+        for action, name in enumerate(names(guide, *map(read, words[1:]))):
+            print(action, name)
+    else:
+        weave(guide, *map(read, words))
+
+
 if __name__ == "__main__":
-    if len(sys.argv) not in (3, 4):
+    named = sys.argv[3:4] == ["--names"]
+    if len(sys.argv) not in ((5, 6) if named else (3, 4)):
         sys.exit(__doc__)
     main(*sys.argv[1:])

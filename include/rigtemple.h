@@ -4,10 +4,11 @@
  * A card is a pattern: the bytes of a file, which the guide only reads. A configuration
  * is where a weaver stands in it: what is believed of the warp, which goals are open, the
  * plan of actions still to be done, the phase, and how many plans are finished. A place is a
- * configuration as bytes to keep. A program says in a shed's own words which move comes next. The
- * eleven calls below check and grade a card, make the first configuration, list the moves that are
- * possible, take one, run by themselves or by a program, save and restore a place, make a card
- * from a designer's text, and print a condition of a card as such text.
+ * configuration as bytes to keep. A program says in a shed's own words which move comes next. A
+ * sheet has a name for each action of a card, in one language. The twelve calls below check and
+ * grade a card, make the first configuration, list the moves that are possible, take one, run by
+ * themselves or by a program, save and restore a place, make a card from a designer's text, print a
+ * condition of a card as such text, and find the name of an action.
  *
  * What holds for every call:
  *
@@ -15,25 +16,26 @@
  *    refusal. Where more than one refusal would fit, the card's come first (1 to 9 in that
  *    order), then the place's (1, 2, 3, 4, 8, 9) or the program's (19) and the configuration's
  *    (13), then 14, 15, 16, 11 and 12. A text is refused with 17, 18, 25, then with what the
- *    card that it would make is refused with, then with 12. No call answers 10.
+ *    card that it would make is refused with, then with 12; a name with 1 to 9, then 20 for the
+ *    shed's sheet, 20 for the master's, and 21. No call answers 10.
  *  - Every buffer is the caller's. The library keeps no memory, no pointer and no state
  *    between calls, and allocates nothing.
  *  - No pointer may be null, not even beside a length of 0, and no two that are given to
  *    one call may overlap. Pointers to uint16_t are aligned as C has it. Give a buffer to
  *    one thread at a time.
- *  - A card and a program may be any bytes at all: they are judged anew in each call, and what
- *    is not good is refused, a card with 1 to 9, a program with 19.
+ *  - A card, a program and a sheet may be any bytes at all: they are judged anew in each call, and
+ *    what is not good is refused, a card with 1 to 9, a program with 19, a sheet with 20.
  *
  * Memory to lend: the card (RIGTEMPLE_MOST_CARD_BYTES), a configuration (1,062 bytes), a list
  * of RIGTEMPLE_MOST_LIST_ENTRIES (1,536 bytes) and a place of RIGTEMPLE_MOST_PLACE_BYTES are
  * always enough: 27,794 bytes together. A program takes RIGTEMPLE_MOST_PROGRAM_BYTES at most, and
- * what remains of it RIGTEMPLE_MOST_REMAINING; to print takes RIGTEMPLE_MOST_PRINTED_BYTES; a text
- * to be read has no limit.
+ * what remains of it RIGTEMPLE_MOST_REMAINING; to print takes RIGTEMPLE_MOST_PRINTED_BYTES; a sheet
+ * has RIGTEMPLE_MOST_SHEET_BYTES at most; a text to be read has no limit.
  *
  * Bytes of stack, as tests/stack.sh measures them on x86-64: check 560, load 736, grade 2,000,
  * list 1,184, take 1,328, run 1,408, deliberate 2,016, save 704, restore 768, text 33,536 (24,976
- * where nothing nests, 128 more for the first bracket and 272 for each further one), print 1,904.
- * All but text run on a stack of 2,048.
+ * where nothing nests, 128 more for the first bracket and 272 for each further one), print 1,904,
+ * name 704. All but text run on a stack of 2,048.
  *
  * Save before you show. The weaver acts on what the screen tells; a move that is shown and
  * not kept is lost when the view is torn down, and a band is woven twice. And where a place
@@ -52,9 +54,9 @@ extern "C" {
 
 /* The version of this header's interface. The first number rises with a change that an app has
  * to follow, and the second is then 0; the second rises with what is only added. */
-#define RIGTEMPLE_VERSION "3.1"
+#define RIGTEMPLE_VERSION "3.2"
 #define RIGTEMPLE_VERSION_FIRST 3
-#define RIGTEMPLE_VERSION_SECOND 1
+#define RIGTEMPLE_VERSION_SECOND 2
 
 /* Marks an answer that must not be ignored, for the compilers that know it. */
 #if defined(__cplusplus) && __cplusplus >= 201703L
@@ -77,6 +79,7 @@ extern "C" {
 #define RIGTEMPLE_ENTRY_BYTES 4          /* an entry of a program */
 #define RIGTEMPLE_MOST_PROGRAM_BYTES 512 /* the longest program: 128 entries */
 #define RIGTEMPLE_MOST_REMAINING 128     /* entry numbers, one byte each: no more ever remain */
+#define RIGTEMPLE_MOST_SHEET_BYTES 65535 /* the largest sheet: its last offset is its length */
 
 /* Answers; rigtemple_answer_name and rigtemple_answer_sentence say them in words. */
 #define RIGTEMPLE_ANSWER_DONE 0
@@ -98,6 +101,8 @@ extern "C" {
 #define RIGTEMPLE_ANSWER_TEXT 17
 #define RIGTEMPLE_ANSWER_NESTED 18
 #define RIGTEMPLE_ANSWER_PROGRAM 19
+#define RIGTEMPLE_ANSWER_SHEET 20
+#define RIGTEMPLE_ANSWER_NO_ACTION 21
 #define RIGTEMPLE_ANSWER_LARGE 25
 
 /* The name of an answer, for a log: "plan full" for 11. */
@@ -107,11 +112,11 @@ static inline const char *rigtemple_answer_name(uint16_t answer)
         "done",    "short",         "mark",        "count", "offsets",   "weight",
         "node",    "rule",          "action byte", "atom",  "given up",  "plan full",
         "no room", "configuration", "no rule",     "front", "condition", "text",
-        "nested",  "program",
+        "nested",  "program",       "sheet",       "no action",
     };
     if (answer == RIGTEMPLE_ANSWER_LARGE)
         return "large";
-    return answer <= RIGTEMPLE_ANSWER_PROGRAM ? names[answer] : "no answer of the guide";
+    return answer <= RIGTEMPLE_ANSWER_NO_ACTION ? names[answer] : "no answer of the guide";
 }
 
 /* What an answer says was refused. */
@@ -148,12 +153,15 @@ static inline const char *rigtemple_answer_sentence(uint16_t answer)
         "the program is not 1 to 128 entries of 4 bytes; or an entry has an unknown kind, a part "
         "that is not lower, an unknown rule or node, a condition of the wrong kind, or a byte that "
         "should be zero",
+        "a sheet's count is not the card's number of actions, an offset is not the required one or "
+        "falls, a name is not UTF-8, or a master name is empty; which of the two is told with it",
+        "the card has no such action",
     };
     if (answer == RIGTEMPLE_ANSWER_LARGE)
         return "a number is too large for its field, or there are more entries, nodes or pool "
                "bytes than a card can have; or a printed condition has more than 256 nodes";
-    return answer <= RIGTEMPLE_ANSWER_PROGRAM ? sentences[answer]
-                                              : "the guide gives no such answer";
+    return answer <= RIGTEMPLE_ANSWER_NO_ACTION ? sentences[answer]
+                                                : "the guide gives no such answer";
 }
 
 /* Kinds of moves. */
@@ -195,6 +203,10 @@ static inline const char *rigtemple_answer_sentence(uint16_t answer)
 #define RIGTEMPLE_DELIBERATION_STUCK 2    /* what remains has no first move */
 #define RIGTEMPLE_DELIBERATION_FULL 3     /* its first move would leave more than 1,024 actions */
 
+/* The two sheets of names: the one that a name lies in, or with 20 the one that is refused. */
+#define RIGTEMPLE_SHEET_MASTER 0 /* the names in the master's language, none of them empty */
+#define RIGTEMPLE_SHEET_SHED 1   /* those in the shed's own, where there are any */
+
 /* Verdicts on a card, and what makes it open. */
 #define RIGTEMPLE_VERDICT_BOUNDED 0 /* starting plans weigh at most 1,024, revisions lower it */
 #define RIGTEMPLE_VERDICT_OPEN 1    /* not so; an open card runs too */
@@ -223,7 +235,7 @@ struct rigtemple_configuration {
     uint16_t finished;
 };
 
-/* ---- the functions of the library: the eleven calls over the parts of a configuration.
+/* ---- the functions of the library: the twelve calls over the parts of a configuration.
  * `beliefs` and `goals` are 16 bytes each, `plan` is 1,024 bytes. `remaining` is 128 bytes. ---- */
 
 RIGTEMPLE_LOOK_AT_ANSWER
@@ -283,7 +295,12 @@ RIGTEMPLE_LOOK_AT_ANSWER
 uint16_t rigtemple_print_parts(const uint8_t *card, size_t card_len, uint16_t node, uint8_t *text,
                                size_t room_in_bytes, uint16_t *bytes);
 
-/* ---- the eleven calls ---- */
+RIGTEMPLE_LOOK_AT_ANSWER
+uint16_t rigtemple_name_parts(const uint8_t *card, size_t card_len, const uint8_t *shed,
+                              size_t shed_len, const uint8_t *master, size_t master_len,
+                              uint16_t action, uint8_t *sheet, uint16_t *start, uint16_t *length);
+
+/* ---- the twelve calls ---- */
 
 /* Judges a card.
  * Answers 0 if it is good, and 1 to 9 if it is not. Nothing is written. */
@@ -468,6 +485,38 @@ static inline uint16_t rigtemple_print(const uint8_t *card, size_t card_len, uin
                                        uint8_t *text, size_t room_in_bytes, uint16_t *bytes)
 {
     return rigtemple_print_parts(card, card_len, node, text, room_in_bytes, bytes);
+}
+
+/* Finds the name of an action: in the shed's sheet, or in the master's where the shed's has an
+ * empty name for it.
+ * A sheet has a count n, which is the card's number of actions, then n + 1 offsets, then the names
+ * one behind the other: the name of action i lies from offset i up to offset i + 1. Count and
+ * offsets are two bytes each, low byte first; the offsets never fall, the first is 2n + 4, and the
+ * last is the sheet's length. Each name is UTF-8 by itself, as RFC 3629 has it: 00, a byte order
+ * mark and noncharacters are characters. No name of the master's sheet is empty. A shed that has
+ * no sheet gives a `shed_len` of 0 and any pointer but null, be it the master's. Both sheets are
+ * checked whole in each call, names that nobody asked for too.
+ * `name` becomes a pointer into the caller's own sheet and `bytes` a length, never 0 when done.
+ * Nothing is copied: the name is there as long as that sheet is. It is not ended by a zero byte:
+ * the next name follows at once, and a name may have a zero byte inside. fwrite writes it;
+ * printf("%.*s", (int)bytes, (const char *)name) up to its first zero byte.
+ * Answers 0; or 1 to 9 for the card; or 20 if a sheet breaks these rules, the shed's looked at
+ * before the master's; or 21 if the card has no such action. `sheet` is written in each case: with
+ * 0 it becomes the sheet that the name lies in, with 20 the one that is refused, and else
+ * RIGTEMPLE_SHEET_MASTER. A refusal hands back an empty part of the master's sheet: `name` is
+ * `master`, and `bytes` 0. */
+RIGTEMPLE_LOOK_AT_ANSWER
+static inline uint16_t rigtemple_name(const uint8_t *card, size_t card_len, const uint8_t *shed,
+                                      size_t shed_len, const uint8_t *master, size_t master_len,
+                                      uint16_t action, const uint8_t **name, uint16_t *bytes,
+                                      uint8_t *sheet)
+{
+    uint16_t start;
+    uint16_t answer = rigtemple_name_parts(card, card_len, shed, shed_len, master, master_len,
+                                           action, sheet, &start, bytes);
+    int own = answer == RIGTEMPLE_ANSWER_DONE && *sheet == RIGTEMPLE_SHEET_SHED;
+    *name = (own ? shed : master) + start;
+    return answer;
 }
 
 #ifdef __cplusplus

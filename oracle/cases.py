@@ -16,8 +16,10 @@ import drill
 import guide
 import prints
 import schemes
+import sheets
 import text
 import texts
+import wordings
 
 REQUEST_LIMIT = 50
 
@@ -25,14 +27,14 @@ REQUEST_LIMIT = 50
 CARD_BYTES_LIMIT = 65535
 
 CALL_NAMES = ("check", "load", "grade", "list", "take", "run", "save", "restore")
-CALL_NAMES += ("text", "print", "deliberate")
-ANSWER_NUMBERS = (*range(20), 25)
+CALL_NAMES += ("text", "print", "deliberate", "name")
+ANSWER_NUMBERS = (*range(22), 25)
 CALLS_ON_CONFIGURATIONS = (drill.LIST, drill.TAKE, drill.RUN, drill.SAVE)
 
 
 class Case(NamedTuple):
     """A case: its name (which clause or shape), a card, and requests about it
-    (kinds 1 to 11 of the drill). A text is read whatever the card is."""
+    (kinds 1 to 12 of the drill). A text is read whatever the card is."""
 
     name: str
     card: bytes
@@ -102,6 +104,20 @@ def read_deliberate(request):
     reader = drill.Reader(request[1:])
     program = reader.next_bytes(reader.number(drill.PROGRAM_LIMIT))
     return program, reader.image(), reader.number()
+
+
+def request_name(shed, master, action):
+    """12 name: the shed's sheet and the master sheet, each n (2) and n bytes; action
+    (2)."""
+    both = b"".join(drill.two(len(held)) + held for held in (shed, master))
+    return bytes([drill.NAME]) + both + drill.two(action)
+
+
+def read_name(request):
+    """The shed's sheet, the master sheet and the action of a request 12."""
+    reader = drill.Reader(request[1:])
+    shed, master = (reader.next_bytes(reader.number()) for _ in range(2))
+    return shed, master, reader.number()
 
 
 def stream(cases):
@@ -574,6 +590,66 @@ def generate_programs(seed, count, largest=24128):
         yield program_case(Random("%s program %d" % (seed, index)), items, largest)
 
 
+# --- cases of names ---------------------------------------------------------
+
+# How many actions the cards of these cases have.
+ACTION_COUNTS = (1, 1, 2, 2, 3, 3, 4, 5, 7, 12, 40)
+
+
+def name_requests(random, actions, count, largest):
+    """So many names asked for, with a master sheet and mostly a shed's of about so many
+    names each, none of more than `largest` bytes."""
+    made = []
+    for _ in range(count):
+        shed = wordings.some_shed(random, actions, largest)
+        master = wordings.sheet_within(random, actions, 0, largest)
+        made.append(request_name(shed, master, wordings.some_action(random, actions)))
+    return made
+
+
+def long_name_requests(random, actions, largest):
+    """Names asked for with sheets of `largest` bytes, or a few less."""
+    held = [wordings.filled_up(random, actions, largest - random.randrange(3)) for _ in range(2)]
+    held.append(wordings.damaged_anywhere(random, held[0])[:largest])
+    shed, master = random.choice((b"", *held)), random.choice(held)
+    return [request_name(shed, master, action) for action in (0, actions - 1, actions)]
+
+
+def name_card(random, items, largest):
+    """A card for names: mostly a small one of some actions, now and then any good one, a
+    damaged one, or one of 256 actions."""
+    style = random.random()
+    card = b""
+    if style < 0.75:
+        card = sheets.actions_card(random.choice(ACTION_COUNTS))
+    elif style < 0.77:
+        card = sheets.actions_card(random.choice((255, 256)))
+    elif style < 0.85:
+        card = next_damaged_case(random, items, largest).card
+    if card == b"" or len(card) > largest:
+        card = cards.card(cards.good_card(random, largest))
+    return card
+
+
+def name_case(random, items, largest):
+    """A case of names about a card."""
+    card = name_card(random, items, largest)
+    _, accepted = guide.judge(card)
+    actions = 3 if accepted is None else accepted.actions
+    if accepted is not None and random.random() < 0.005 and largest > 4 * actions + 1000:
+        return Case("long sheets", card, long_name_requests(random, actions, largest))
+    count = 4 if accepted is None or actions > 60 else 16
+    return Case("names", card, name_requests(random, actions, count, largest))
+
+
+def generate_names(seed, count, largest=24128):
+    """So many cases of names, by seed: no card and no sheet of more than `largest`
+    bytes."""
+    items = itertools.cycle(damage_order(seed))
+    for index in range(count):
+        yield name_case(Random("%s name %d" % (seed, index)), items, largest)
+
+
 # --- the command ------------------------------------------------------------
 
 
@@ -616,14 +692,17 @@ def main():
     parser.add_argument("--cards", type=int, required=True)
     parser.add_argument("--texts", type=int, default=0)
     parser.add_argument("--programs", type=int, default=0)
+    parser.add_argument("--names", type=int, default=0)
     parser.add_argument("--largest", type=int, default=24128)
     parser.add_argument("--requests", required=True)
     parser.add_argument("--answers", required=True)
     asked = parser.parse_args()
+    largest = min(asked.largest, CARD_BYTES_LIMIT)
     cases = itertools.chain(
-        generate(asked.seed, asked.cards, min(asked.largest, CARD_BYTES_LIMIT)),
+        generate(asked.seed, asked.cards, largest),
         generate_texts(asked.seed, asked.texts, asked.largest),
-        generate_programs(asked.seed, asked.programs, min(asked.largest, CARD_BYTES_LIMIT)),
+        generate_programs(asked.seed, asked.programs, largest),
+        generate_names(asked.seed, asked.names, largest),
     )
     with open(asked.requests, "wb") as requests, open(asked.answers, "wb") as answers:
         met = count_answers(cases, requests, answers)

@@ -1,6 +1,6 @@
 """The drill: requests on standard input, an answer for each on standard output.
 
-The requests and answers are those of drill.md, with what the requests 1, 2, 4 and 6 of
+The requests and answers are those of drill.md, with what the requests 1, 2, 4, 6 and 8 of
 document 02 add to them; numbers of two or four bytes are low byte first.
 """
 
@@ -9,9 +9,11 @@ import sys
 
 import deliberation
 import guide
+import names
 import text
 
-CARD, CHECK, LOAD, GRADE, LIST, TAKE, RUN, SAVE, RESTORE, TEXT, PRINT, DELIBERATE = range(12)
+CARD, CHECK, LOAD, GRADE, LIST, TAKE, RUN, SAVE, RESTORE, TEXT, PRINT = range(11)
+DELIBERATE, NAME = 11, 12
 
 IMAGE_LIMIT = 1024
 LIST_LIMIT = 1024
@@ -170,6 +172,13 @@ def answer_deliberate(card, reader):
     return moved + two(len(remaining)) + bytes(remaining)
 
 
+def answer_name(card, reader):
+    """12 name: number (2), sheet (1), start (2), length (2) of the part."""
+    shed, master = reader.next_bytes(reader.number()), reader.next_bytes(reader.number())
+    number, sheet, start, length = names.name(card, shed, master, reader.number())
+    return two(number) + bytes([sheet]) + two(start) + two(length)
+
+
 def lent(written, size):
     """A lent buffer of `size` bytes afterwards: "what lies after them stays"."""
     return written + bytes([LENT]) * (size - len(written))
@@ -187,6 +196,7 @@ ANSWERS = {
     TEXT: answer_text,
     PRINT: answer_print,
     DELIBERATE: answer_deliberate,
+    NAME: answer_name,
 }
 
 

@@ -6,9 +6,9 @@ writes against the second.
     python3 oracle/stored.py --check    # says whether the files are just that
 
 Both files follow from a fixed seed and hold every clause of document 01's refusal
-table and of those of the requests 1, 2 and 6, every range just inside, the edges of
+table and of those of the requests 1, 2, 6 and 8, every range just inside, the edges of
 plans, rooms and budgets, the finished count of request 4, the goals struck by request 5,
-and programs of request 6.
+programs of request 6 and names of request 8.
 """
 
 import argparse
@@ -29,10 +29,12 @@ import guide
 import prints
 import programs
 import schemes
+import sheets
 import slips
 import struck
 import text
 import texts
+import wordings
 from cases import Case
 
 SEED = "stored"
@@ -746,6 +748,142 @@ def program_cases():
     yield from seeded_programs()
 
 
+# --- names ------------------------------------------------------------------
+
+# Of the names by seed, longer requests are left out.
+LONG_NAME = 200
+
+# A card of three actions and good names for them, all of several bytes, so that every
+# clause can be broken.
+THREE = sheets.actions_card(3)
+GOOD_NAMES = [b"ab", b"\xc3\xa4", b"cde"]
+GOOD_SHEET = sheets.sheet(GOOD_NAMES)
+
+
+def asked_of(which, held, other, action):
+    """A name asked for, where `held` is the shed's sheet (1) or the master's (0) and
+    `other` is the other one."""
+    return cases.request_name(*((held, other) if which else (other, held)), action)
+
+
+def names_by_hand():
+    """The sheets of the stripe card."""
+    made = [cases.request_name(one.shed, one.master, one.action) for one in sheets.BY_HAND]
+    return Case("names by hand", STRIPE, made)
+
+
+def name_clauses(which):
+    """Each clause of 20 broken in one of the sheets, for actions that the card has and
+    has not; then with another in the same sheet, or in the other one."""
+    title = "names: clauses of the %s sheet" % ("master", "shed's")[which]
+    random, alone, paired = random_of(title), [], []
+    for turn, one in enumerate(sheets.CLAUSES[which]):
+        held = one.change(random, GOOD_NAMES)
+        alone.append(asked_of(which, held, GOOD_SHEET, turn % 4 if turn % 2 else 65535))
+        second = random.choice(sheets.CLAUSES[1 - which]).change(random, GOOD_NAMES)
+        paired.append(asked_of(which, held, second, turn % 5))
+    for one in sheets.SHEET_DAMAGES:
+        names = list(GOOD_NAMES)
+        names[random.randrange(3)] = bytes.fromhex(random.choice(sheets.NO_CHARACTERS)[1])
+        held = one.change(random, names)
+        paired.append(asked_of(which, held, random.choice((GOOD_SHEET, b"")), 0))
+    yield Case(title, THREE, alone)
+    yield Case(title + ", and others", THREE, paired)
+
+
+def unasked_names():
+    """A name that is no UTF-8 and is not the one that is asked for: first or last, in
+    either sheet."""
+    made = []
+    for turn, (_, word) in enumerate(sheets.NO_CHARACTERS):
+        names, at = list(GOOD_NAMES), 2 * (turn // 2 % 2)
+        names[at] = bytes.fromhex(word)
+        made.append(asked_of(turn % 2, sheets.sheet(names), GOOD_SHEET, 2 - at))
+    return Case("names: a wrong name not asked for", THREE, made)
+
+
+def name_ranges():
+    """Names that are UTF-8, in either sheet; and what the shed's sheet may be."""
+    random, made = random_of("name ranges"), []
+    for one in sheets.NAME_RANGES:
+        for which in (1, 0):
+            held = one.change(random, GOOD_NAMES)
+            other = GOOD_SHEET if which else random.choice((b"", GOOD_SHEET))
+            made.append(asked_of(which, held, other, random.randrange(3)))
+    for one in sheets.SHED_RANGES:
+        held = one.change(random, GOOD_NAMES)
+        made += [asked_of(1, held, GOOD_SHEET, action) for action in range(4)]
+    return Case("names: ranges", THREE, made)
+
+
+def small_sheets(which):
+    """Sheets of every small length: the first bytes of a good one, zeros, and FF."""
+    made = []
+    for size in range(len(GOOD_SHEET) + 1):
+        some = {GOOD_SHEET[:size], bytes(min(size, 12)), b"\xff" * min(size, 5)}
+        made += [asked_of(which, held, GOOD_SHEET, 1) for held in sorted(some)]
+    made = sorted(set(made), key=made.index)
+    return Case("names: sheets of every small length, %d" % which, THREE, made)
+
+
+def name_cards():
+    """Names about cards of each refusal, with good sheets and a known action, and with
+    broken ones and an unknown action."""
+    for number in range(1, 10):
+        one = damage.damages_of(number)[0]
+        made = [cases.request_name(GOOD_SHEET, GOOD_SHEET, 0), cases.request_name(b"x", b"", 65535)]
+        yield Case("name and " + one.name, damaged_case(one.name, (one,)).card, made)
+
+
+def one_and_all_actions():
+    """A card of one action, and one of 256: the count 256 has a low byte of 0."""
+    one = [sheets.sheet([b"x"]), sheets.sheet([b""]), sheets.sheet([b"xy"])]
+    made = [cases.request_name(shed, one[0], at) for shed in (b"", *one) for at in (0, 1, 256)]
+    made += [cases.request_name(b"", held, 0) for held in one + [bytes([1, 0, 6, 0])]]
+    yield Case("names: one action", sheets.actions_card(1), made)
+    random = random_of("256 names")
+    master = sheets.sheet([bytes([97 + k % 26]) for k in range(256)])
+    shed = sheets.sheet(wordings.some_names(random, 256, 0.9))
+    none = sheets.sheet([])
+    made = [cases.request_name(shed, master, at) for at in (0, 128, 255, 256, 65535)]
+    made += [cases.request_name(none, master, 0), cases.request_name(b"", none, 0)]
+    made.append(cases.request_name(master + b"x", master, 255))
+    yield Case("names: 256 actions", sheets.actions_card(256), made)
+
+
+def longest_sheets():
+    """Sheets of 65,535 bytes, the most that a request can hold and that a last offset can
+    say: a good master sheet, and a shed's whose last byte is no character."""
+    longest = wordings.filled_up(random_of("longest sheet"), 3, 65535)
+    made = [cases.request_name(b"", longest, 2), cases.request_name(longest[:-1] + b"\xc3", b"", 2)]
+    return Case("names: the longest sheets", THREE, made)
+
+
+def seeded_names():
+    """Names by seed, the shorter requests."""
+    for index in range(60):
+        random = random_of("names", index)
+        actions = random.choice((1, 2, 3, 5, 9))
+        made = cases.name_requests(random, actions, 14, 400)
+        short = [request for request in made if len(request) <= LONG_NAME]
+        yield Case("names %d" % index, sheets.actions_card(actions), short[:8])
+
+
+def name_cases():
+    """Names by hand; each clause of 20 for both sheets and its order among the others;
+    small and long sheets; by seed."""
+    yield names_by_hand()
+    for which in (1, 0):
+        yield from name_clauses(which)
+        yield small_sheets(which)
+    yield unasked_names()
+    yield name_ranges()
+    yield from name_cards()
+    yield from one_and_all_actions()
+    yield longest_sheets()
+    yield from seeded_names()
+
+
 # --- all --------------------------------------------------------------------
 
 
@@ -790,6 +928,7 @@ def all_cases():
         text_cases(),
         print_cases(),
         program_cases(),
+        name_cases(),
     )
 
 

@@ -2,7 +2,7 @@
 damages' numbers, the closed moves of request 1, the finished count of request 4, the
 struck goals of request 5, the drill's bytes, that a seed gives the same bytes, and what
 the stored requests hold. Those of request 2 are in `test_text.py`, those of request 6 in
-`test_deliberation.py`; they run with these."""
+`test_deliberation.py`, those of request 8 in `test_names.py`; they run with these."""
 
 import time
 from collections import Counter
@@ -19,10 +19,12 @@ import finished
 import guide
 import program
 import programs
+import sheets
 import slips
 import stored
 import struck
 import test_deliberation
+import test_names
 import test_text
 import text
 import texts
@@ -752,6 +754,7 @@ class Stored(unittest.TestCase):
         "text": {0, 3, 5, 6, 7, 8, 9, 12, 17, 18, 25},
         "print": set(range(10)) | {12, 18, 25},
         "deliberate": set(range(10)) | {13, 19},
+        "name": set(range(10)) | {20, 21},
     }
 
     @classmethod
@@ -1081,6 +1084,50 @@ class Stored(unittest.TestCase):
         self.assertLessEqual({0, 1, 2, 32768, 65535}, counts)
 
 
+    def named_answers(self, name):
+        """The number and the sheet of each answer of a case of names."""
+        case = self.named[name]
+        answers = [drill.answer(case.card, asked) for asked in case.requests]
+        return [(guide.number(answer, 0), answer[2]) for answer in answers]
+
+    def test_names_by_hand(self):
+        """Each name by hand is asked for, and answered as is written beside it."""
+        case = self.named["names by hand"]
+        self.assertEqual(len(case.requests), len(sheets.BY_HAND))
+        for asked, one in zip(case.requests, sheets.BY_HAND):
+            self.assertEqual((case.card, *cases.read_name(asked)), one[:4])
+            expected = drill.two(one.number) + bytes([one.sheet])
+            expected += drill.two(one.start) + drill.two(one.length)
+            self.assertEqual(drill.answer(case.card, asked), expected)
+
+    def test_clauses_of_names(self):
+        """Each clause of 20 in either sheet, alone and with others; with both sheets
+        broken it is the shed's; a wrong name that nobody asked for; 1 to 9 first."""
+        for which, title in ((1, "the shed's"), (0, "the master")):
+            name, count = "names: clauses of %s sheet" % title, len(sheets.CLAUSES[which])
+            self.assertEqual(self.named_answers(name), [(20, which)] * count)
+            paired = [(20, 1)] * count + [(20, which)] * len(sheets.SHEET_DAMAGES)
+            self.assertEqual(self.named_answers(name + ", and others"), paired)
+        wrong = self.named_answers("names: a wrong name not asked for")
+        self.assertEqual(wrong, [(20, turn % 2) for turn in range(len(sheets.NO_CHARACTERS))])
+        for number in range(1, 10):
+            name = "name and " + damage.damages_of(number)[0].name
+            self.assertEqual(self.named_answers(name), [(number, 0)] * 2)
+
+    def test_edges_of_names(self):
+        """Sheets of every small length and of 65,535 bytes, and cards of 1 and of 256
+        actions."""
+        for which in (1, 0):
+            case = self.named["names: sheets of every small length, %d" % which]
+            sizes = {len(cases.read_name(asked)[1 - which]) for asked in case.requests}
+            self.assertEqual(sizes, set(range(len(stored.GOOD_SHEET) + 1)))
+        self.assertEqual(self.named_answers("names: the longest sheets"), [(0, 0), (20, 1)])
+        self.assertEqual(set(self.named_answers("names: ranges")), {(0, 0), (0, 1), (21, 0)})
+        found = self.named_answers("names: 256 actions")
+        self.assertEqual(found[3:], [(21, 0), (21, 0), (20, 1), (20, 0), (20, 1)])
+        self.assertEqual({number for number, _ in found[:3]}, {0})
+
+
 class DrillBytes(unittest.TestCase):
     """The drill's requests and answers, written out by hand."""
 
@@ -1169,6 +1216,17 @@ class DrillBytes(unittest.TestCase):
         refused = self.answers(b"\x0b\0\0" + self.LOADED + b"\x02\0")
         self.assertEqual(refused, b"\x13\0" + self.LOADED + bytes(5))
 
+    def test_name(self):
+        """The stripe card's third move in two languages, of which the shed's has none;
+        its second, which it has; an unknown one; and a shed's sheet of one byte."""
+        master, shed = sheets.MASTER_BYTES, sheets.SHED_BYTES
+        both = b"\x1d\0" + shed + b"\x27\0" + master
+        found = self.answers(b"\x0c" + both + b"\x02\0", b"\x0c" + both + b"\x01\0")
+        self.assertEqual(found, bytes.fromhex("0000 00 1700 0600 0000 01 1200 0500"))
+        wrong = b"\x01\0\x05\x27\0" + master
+        found = self.answers(b"\x0c" + both + b"\x05\0", b"\x0c" + wrong + b"\x05\0")
+        self.assertEqual(found, bytes.fromhex("1500 00 0000 0000 1400 01 0000 0000"))
+
     def test_broken_requests_end_the_program(self):
         """A request that breaks the rules ends the program; answers so far are
         written."""
@@ -1194,9 +1252,9 @@ class DrillBytes(unittest.TestCase):
 
 
 def load_tests(loader, tests, pattern):
-    """The tests of this file, and those of the requests 2 and 6."""
-    tests.addTests(loader.loadTestsFromModule(test_text))
-    tests.addTests(loader.loadTestsFromModule(test_deliberation))
+    """The tests of this file, and those of the requests 2, 6 and 8."""
+    for module in (test_text, test_deliberation, test_names):
+        tests.addTests(loader.loadTestsFromModule(module))
     return tests
 
 

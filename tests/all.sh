@@ -62,7 +62,8 @@ try tests/languages.sh
 try tests/room.sh
 try tests/bound.sh
 try python3 tests/definitions.py --seed "$seed" --cards 100
-try python3 tests/compare.py --seed "$seed" --cases "$cases" --texts $((cases / 20)) --programs $((cases / 20))
+try python3 tests/compare.py --seed "$seed" --cases "$cases" --texts $((cases / 20)) --programs $((cases / 20)) \
+    --names $((cases / 20))
 try python3 tests/every_place.py
 printf '%d passed, %d failed\n' "$passed" "$failed"
 [ "$failed" -eq 0 ]

@@ -14,7 +14,7 @@ if [ "${1:-}" = --engine ]; then
     # shellcheck source=tests/engine.sh
     . "$root/tests/engine.sh"
     CFLAGS=$names "$root/tests/build_c.sh" "$root/target/c/engine_as_board.o" "$root/bench/engine.c" \
-        "$root/bench/engine_text.c"
+        "$root/bench/engine_text.c" "$root/bench/engine_names.c"
     printf '%s\n' "$root/target/c/engine_as_board.o"
     exit 0
 fi

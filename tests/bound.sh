@@ -18,7 +18,7 @@ text=$(stated text)
 text=$(((text + 15) / 16 * 16)) # a stack is aligned so
 archive=$("$tests/archive.sh")
 "$tests/build_c.sh" "$work/bound" "$tests/bound.c" "$tests/calls.c" "$tests/cards.c" \
-    "$tests/programs.c" "$tests/texts.c" "$archive"
+    "$tests/programs.c" "$tests/sheets.c" "$tests/texts.c" "$archive"
 passed=0
 failed=0
 
@@ -33,7 +33,7 @@ hold() { # WANTED CALL BYTES
     printf '%-10s %6d bytes of stack: %s%s\n' "$2" "$3" "${said:-nothing is said}" "$fault"
 }
 
-for call in check load grade list take run save restore deliberate print; do
+for call in check load grade list take run save restore deliberate print name; do
     hold ok "$call" 2048
 done
 hold ok text "$text"

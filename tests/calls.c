@@ -4,6 +4,7 @@
 #include "calls.h"
 #include "cards.h"
 #include "programs.h"
+#include "sheets.h"
 #include "texts.h"
 
 enum { LENT = 0xEE };
@@ -16,7 +17,8 @@ static struct program_bytes program;
 static struct text_bytes text;
 static struct rigtemple_configuration held;
 static uint8_t kept[RIGTEMPLE_MOST_PLACE_BYTES];
-static uint16_t kept_len, choice, printed_node;
+static uint16_t kept_len, choice, printed_node, named_action;
+static struct sheet_bytes shed, master;
 
 struct lent lent;
 
@@ -87,7 +89,13 @@ static uint16_t call_print(void)
                            &lent.bytes);
 }
 
-enum { CHECK, LOAD, GRADE, LIST, TAKE, RUN, SAVE, RESTORE, DELIBERATE, TEXT, PRINT };
+static uint16_t call_name(void)
+{
+    return rigtemple_name(card.bytes, card.len, shed.bytes, shed.len, master.bytes, master.len,
+                          named_action, &lent.name, &lent.bytes, &lent.sheet);
+}
+
+enum { CHECK, LOAD, GRADE, LIST, TAKE, RUN, SAVE, RESTORE, DELIBERATE, TEXT, PRINT, NAME };
 
 const struct call calls[CALLS] = {
     [CHECK] = {"check", call_check}, [LOAD] = {"load", call_load},
@@ -95,7 +103,7 @@ const struct call calls[CALLS] = {
     [TAKE] = {"take", call_take},    [RUN] = {"run", call_run},
     [SAVE] = {"save", call_save},    [RESTORE] = {"restore", call_restore},
     [TEXT] = {"text", call_text},    [PRINT] = {"print", call_print},
-    [DELIBERATE] = {"deliberate", call_deliberate},
+    [NAME] = {"name", call_name},    [DELIBERATE] = {"deliberate", call_deliberate},
 };
 
 /* ---- the cases ---- */
@@ -162,11 +170,49 @@ static void each_node(void (*visit)(unsigned call), const char *on)
         visit(PRINT);
 }
 
+/* Names on the card and the sheets at hand, also cut by a byte, of known and unknown actions. */
+static void each_action(void (*visit)(unsigned call), unsigned actions)
+{
+    static const uint16_t unknown[] = {256, 65535};
+    for (named_action = 0; named_action <= actions; named_action++)
+        visit(NAME);
+    for (unsigned i = 0; i < sizeof unknown / sizeof unknown[0]; i++) {
+        named_action = unknown[i];
+        visit(NAME);
+    }
+    named_action = 0;
+    master.len -= 1;
+    visit(NAME);
+    master.len += 1;
+    shed.len -= shed.len > 0;
+    visit(NAME);
+}
+
+/* The same with sheets of characters of one to four bytes; the shed has none, or every second
+ * name. */
+static void each_sheet(void (*visit)(unsigned call), const char *on)
+{
+    static const char *const words[] = {"w", "\xC3\xA4", "\xE7\xB9\x94", "\xF0\x9F\xA7\xB5"};
+    unsigned actions = card.bytes[6] + 256u * card.bytes[7];
+    made_on = on;
+    made_with = "a name";
+    for (unsigned i = 0; i < 4; i++) {
+        word_sheet(&master, actions, words[i], 10);
+        shed.len = 0;
+        each_action(visit, actions);
+        lay_sheet(&shed, actions);
+        for (unsigned k = 0; k < actions; k += 2)
+            put_name(&shed, k, words[3 - i], strlen(words[3 - i]));
+        each_action(visit, actions);
+    }
+}
+
 /* All calls but text on the card at hand; it may be refused, and its first configuration is then
  * the empty one. */
 static void on_card(void (*visit)(unsigned call), const char *on)
 {
     each_node(visit, on);
+    each_sheet(visit, on);
     kept_len = 0;
     if (rigtemple_load(card.bytes, card.len, &held) == 0)
         each_of_nine(visit, "its first configuration");

@@ -1,5 +1,5 @@
 /*
- * The eleven calls of include/rigtemple.h, each as a function without arguments, and the cases in
+ * The twelve calls of include/rigtemple.h, each as a function without arguments, and the cases in
  * which they are made: tests/stack.c measures the stack of these, and tests/bound.c holds these to
  * their bounds.
  */
@@ -8,7 +8,7 @@
 
 #include "../include/rigtemple.h"
 
-enum { CALLS = 11 };
+enum { CALLS = 12 };
 
 /* A call through the header: `make` answers what it answers. */
 struct call {
@@ -27,6 +27,8 @@ struct lent {
     uint8_t card[RIGTEMPLE_MOST_CARD_BYTES];
     uint8_t text[RIGTEMPLE_MOST_PRINTED_BYTES];
     uint8_t remaining[RIGTEMPLE_MOST_REMAINING], remaining_length;
+    const uint8_t *name;
+    uint8_t sheet;
     uint16_t bytes;
     size_t wrong;
 };
@@ -44,8 +46,10 @@ extern const char *made_on, *made_with;
  * of 1,024 actions, in each phase, with beliefs and without, and with a configuration that is
  * refused; for deliberate the same with programs that revise and act by the card's first rules and
  * by its last, with 128 entries that share their parts, of each kind that has some, and with a
- * refused program; for print every node of these cards and of two that print much; for text texts
- * with few and many lines, nested 32 to 34 deep, and 60,000 brackets deep. */
+ * refused program; for name on each of these cards a master's sheet, alone and with a shed's, with
+ * characters of one to four bytes, refused sheets, and known and unknown actions; for print every
+ * node of these cards and of two that print much; for text texts with few and many lines, nested 32
+ * to 34 deep, and 60,000 brackets deep. */
 void each_case(void (*visit)(unsigned call));
 
 #endif

@@ -2,21 +2,25 @@
 """Holds cards/ against the oracle. The last line is 'N passed, M failed'.
 
     python3 tests/cards.py            the cards' bytes; the two sheds' programs, as cards/README.md has their entries and their moves;
-                                      what the gate runs the two programs for texts on; the lines of `./rigtemple` for each file of
-                                      cards/, the card that it writes of each text card, the stripe card as text; and that
+                                      the stripe card's two sheets of names; what the gate runs the programs for texts and for names
+                                      on; the lines of `./rigtemple` for each file of cards/, the card that it writes of each text
+                                      card, the stripe card as text, its moves with their names, and which sheet is refused; and that
                                       cards/explain.py finds a line in each refused text of the oracle
     python3 tests/cards.py --bytes    all of it but what needs the programs
-    python3 tests/cards.py --write    writes the cards that no text says, as they are described here, and the two sheds' programs
+    python3 tests/cards.py --write    writes the cards that no text says, as they are described here, the two sheds' programs, the two
+                                      sheets, and what the gate runs the programs for texts and for names on
 
 A card that a text can say is kept as that text alone. The others are described here in the oracle's words (oracle/cards.py); the
-sheds' programs are those of oracle/programs.py.
+sheds' programs are those of oracle/programs.py, the names those of oracle/sheets.py.
 """
 
 import glob
 import os
 import re
+import struct
 import subprocess
 import sys
+import tempfile
 from random import Random
 
 sys.dont_write_bytecode = True
@@ -27,8 +31,11 @@ import cards  # noqa: E402
 import deliberation  # noqa: E402
 import explain  # noqa: E402
 import guide  # noqa: E402
+import names  # noqa: E402
 import program  # noqa: E402
 import programs  # noqa: E402
+import sheet as maker  # noqa: E402
+import sheets  # noqa: E402
 import slips  # noqa: E402
 import text  # noqa: E402
 import texts  # noqa: E402
@@ -184,6 +191,65 @@ def sheds_kept():
     yield "the moves where they part", len(rows) == 2 and table(rows) in readme
 
 
+# ---- the two languages
+
+# The master's sheet of the stripe card, and a shed's own.
+LANGUAGES = {"stripe.en": sheets.ENGLISH, "stripe.sv": sheets.SWEDISH}
+MASTER, SHED = (sheets.sheet(of_moves) for of_moves in LANGUAGES.values())
+WHICH = {names.MASTERS: "master", names.SHEDS: "shed"}
+
+
+def moves_named(card, shed, master):
+    """The name of each specification's action, a control byte as "?"."""
+    for entry in guide.judge(card)[1].specifications:
+        _, which, start, length = names.name(card, shed, master, entry.action)
+        name = (master, shed)[which][start:start + length]
+        yield re.sub(rb"[\x00-\x1f\x7f]", b"?", name)
+
+
+def name_lines(card, shed, master):
+    """What `move_names` writes of a card and two sheets."""
+    number, which = names.name(card, shed, master, 0)[:2]
+    if number == names.SHEET:
+        return b"refused %d %s\n" % (number, WHICH[which].encode())
+    if number != guide.DONE:
+        return b"refused %d\n" % number
+    return b"".join(b"%d %s\n" % line for line in enumerate(moves_named(card, shed, master)))
+
+
+def lines_with_names(card, shed, master):
+    """What `./rigtemple names` writes of an accepted card and two accepted sheets: a name behind each act."""
+    of_moves = list(moves_named(card, shed, master))
+    for line in program.lines(card):
+        words = line.split()
+        is_act = len(words) == 5 and words[1] == "act"
+        yield line.encode() + (b" " + of_moves[int(words[2])] if is_act else b"") + b"\n"
+
+
+def shown(lines):
+    """Lines as cards/README.md shows them."""
+    return "".join("    %s" % line.decode() for line in lines)
+
+
+def sheets_kept():
+    """The sheets are what cards/README.md says, and cards/sheet.py makes them of their names."""
+    readme = read("README.md").decode()
+    yield "each sheet of cards/ is described", of_folder(".sheet") == sorted(name + ".sheet" for name in LANGUAGES)
+    for name, of_moves in LANGUAGES.items():
+        yield "the bytes of %s.sheet" % name, read(name + ".sheet") == sheets.sheet(of_moves)
+        yield "the names of %s.sheet, made a sheet" % name, maker.sheet(of_moves) == sheets.sheet(of_moves)
+        yield "the lines of them", maker.names_in(b"".join(one + b"\n" for one in of_moves)) == of_moves
+    yield "the sheets by hand", (MASTER, SHED) == (sheets.MASTER_BYTES, sheets.SHED_BYTES)
+    offsets = (numbers(sheets.offsets_for(of_moves)) for of_moves in LANGUAGES.values())
+    yield "their offsets in README.md", "| %s | %s |\n" % tuple(offsets) in readme
+    words = (b" ".join(filter(None, of_moves)).decode() for of_moves in LANGUAGES.values())
+    yield "their names in README.md", "| %s | %s |\n" % tuple(words) in readme
+    given = b"".join(one + b"\\n" for one in sheets.SWEDISH).decode()
+    yield "the Swedish names in README.md", "printf '%s' | python3 cards/sheet.py >stripe.sv.sheet" % given in readme
+    card = text.read(slips.STRIPE_TEXT, cards.CARD_LIMIT)[2]
+    yield "the moves with their names in README.md", shown(lines_with_names(card, SHED, MASTER)) in readme
+
+
 def path_of(name):
     return os.path.join(FOLDER, name)
 
@@ -194,9 +260,12 @@ def read(name):
 
 
 def write():
-    """Writes the cards that no text says, and the sheds' programs."""
+    """Writes the cards that no text says, the sheds' programs, the sheets, and what the gate runs programs on."""
     made = {name + ".card": cards.card(describe()) for name, describe in MADE.items()}
     made.update((name + ".program", programs.program(entries)) for name, entries in SHEDS.items())
+    made.update((name + ".sheet", sheets.sheet(of_moves)) for name, of_moves in LANGUAGES.items())
+    for name, given, written in gate_runs():
+        made["../crates/%s/stdin" % name], made["../crates/%s/stdout" % name] = given, written
     for name, data in made.items():
         with open(path_of(name), "wb") as file:
             file.write(data)
@@ -219,17 +288,31 @@ def bytes_kept():
     yield "stripe.text is the text of the documents", read("stripe.text") == slips.STRIPE_TEXT
 
 
+def after_lengths(*parts):
+    """Parts, each after its length in two bytes."""
+    return b"".join(struct.pack("<H", len(part)) + part for part in parts)
+
+
+def gate_runs():
+    """What the gate gives the programs for texts and for names, and what they must write: the stripe card's text and the card of it;
+    the card of 255 bytes, and the text without its remarks; that card with two sheets, one of whose names has control bytes, and the
+    names."""
+    card = cards.card(cards.stripe_card())
+    shed = sheets.sheet([one.replace(b"spola", b"spo\nla\x7f") for one in sheets.SWEDISH])
+    return (
+        ("read_text", slips.STRIPE_TEXT, text.read(slips.STRIPE_TEXT, cards.CARD_LIMIT)[2]),
+        ("print_text", card, PLAIN_STRIPE),
+        ("move_names", after_lengths(card, shed, MASTER), name_lines(card, shed, MASTER)),
+    )
+
+
 def runs_of_the_gate():
-    """What the gate gives the two programs, and what they must write: the stripe card's text and the card of it; the card of 255
-    bytes, and the text without its remarks."""
-    card = text.read(slips.STRIPE_TEXT, cards.CARD_LIMIT)[2]
-    yield "the stripe card's text makes 283 bytes", len(card) == 283
-    for name, given, written in (
-        ("read_text", slips.STRIPE_TEXT, card),
-        ("print_text", cards.card(cards.stripe_card()), PLAIN_STRIPE),
-    ):
+    """The gate runs the programs on just that."""
+    for name, given, written in gate_runs():
         yield "crates/%s/stdin" % name, read("../crates/%s/stdin" % name) == given
         yield "crates/%s/stdout" % name, read("../crates/%s/stdout" % name) == written
+    yield "the stripe card's text makes 283 bytes", len(read("../crates/read_text/stdout")) == 283
+    yield "three names by hand", read("../crates/move_names/stdout").decode() == "0 v\u00e4v\n1 spo?la?\n2 repair\n"
 
 
 def refused_texts():
@@ -256,9 +339,14 @@ def explained():
             yield what, re.match(r"x:\d+: ", next(explain.reasons("x", held, number))) is not None
 
 
+def run(*words):
+    """A run of `./rigtemple`."""
+    return subprocess.run([os.path.join(TOP, "rigtemple"), *words], capture_output=True, check=False)
+
+
 def answer(*words):
     """What `./rigtemple` writes on standard output."""
-    return subprocess.run([os.path.join(TOP, "rigtemple"), *words], capture_output=True, check=False).stdout
+    return run(*words).stdout
 
 
 def programs_kept():
@@ -273,6 +361,40 @@ def programs_kept():
     yield "stripe.card as text", answer("text", path_of("stripe.card")) == PLAIN_STRIPE
 
 
+def sheet_cases():
+    """Two sheets for the stripe card: good ones, none of the shed's, and each clause of a sheet but UTF-8 broken, in the one or in the
+    other. What they are, the shed's, the master's."""
+    yield "two sheets", SHED, MASTER
+    yield "a shed without a sheet", b"", MASTER
+    yield "a sheet of 65,535 bytes", sheets.sheet([b"", b"w" * (65535 - 14), b"", b"", b""]), MASTER
+    yield "a sheet of 65,536 bytes", SHED + bytes(65536 - len(SHED)), MASTER
+    yield "a sheet of 65,536 bytes, the master's", SHED, MASTER + bytes(65536 - len(MASTER))
+    for one in sheets.SHEET_DAMAGES + sheets.SHED_RANGES:
+        yield "the shed's " + one.name, one.change(Random(one.name), sheets.ENGLISH), MASTER
+    for one in sheets.SHEET_DAMAGES + sheets.MASTER_DAMAGES:
+        yield "the master's " + one.name, SHED, one.change(Random(one.name), sheets.ENGLISH)
+
+
+def names_shown():
+    """What `./rigtemple names` makes of the stripe card and two sheets: the lines, or 20 and in words which sheet."""
+    card, file = read("stripe.card"), path_of("stripe.card")
+    with tempfile.TemporaryDirectory() as room:
+        shed_file, master_file = os.path.join(room, "own"), os.path.join(room, "other")
+        for what, shed, master in sheet_cases():
+            for path, data in ((shed_file, shed), (master_file, master)):
+                with open(path, "wb") as held:
+                    held.write(data)
+            ran, (number, which) = run("names", file, master_file, shed_file), names.name(card, shed, master, 0)[:2]
+            if number == guide.DONE:
+                yield what, ran.stdout == b"".join(lines_with_names(card, shed, master)) and ran.returncode == 0
+            else:
+                told = "%s is refused as the %s's" % ((master_file, shed_file)[which], WHICH[which])
+                yield what, (ran.stdout, ran.returncode, told in ran.stderr.decode()) == (b"refused 20\n", 1, True)
+    alone = b"".join(lines_with_names(card, b"", MASTER))
+    yield "the master's sheet alone", answer("names", file, path_of("stripe.en.sheet")) == alone
+    yield "a refused card before its sheets", answer("names", path_of("loop.card"), path_of("stripe.card")) == b"refused 6\n"
+
+
 def main(words):
     """Prints what is not so, and how much is."""
     if words not in ([], ["--bytes"], ["--write"]):
@@ -281,7 +403,7 @@ def main(words):
     if words == ["--write"]:
         write()
     passed = failed = 0
-    for held in (bytes_kept, sheds_kept, runs_of_the_gate, explained) + (() if words else (programs_kept,)):
+    for held in (bytes_kept, sheds_kept, sheets_kept, runs_of_the_gate, explained) + (() if words else (programs_kept, names_shown)):
         for what, so in held():
             passed, failed = passed + so, failed + (not so)
             if not so:

@@ -1,14 +1,14 @@
 #!/usr/bin/env python3
 """Holds the proved programs against the independent one, on fresh cases by seed.
 
-    python3 tests/compare.py --seed 1 --cases 200000 --texts 20000 --programs 5000
+    python3 tests/compare.py --seed 1 --cases 200000 --texts 20000 --programs 5000 --names 7000
 
 A case is a request of drill.md about a card. With --texts so many cases of texts to be read and nodes to be printed are added, six texts
 and five nodes each; with --programs so many cases of programs to deliberate by, ten of them about a good card, three about a damaged
-one. The cases and the answers to them come from oracle/ by the seed. Each request goes
-through target/bin/drill, and the answer is compared byte for byte; each card that the program of document 01 can read whole goes
-through target/bin/rigtemple too, and the lines are compared with those of oracle/program.py. The first disagreement is told in
-words. The last line is 'N passed, M failed': requests and runs of the program on which both agree.
+one; with --names so many cases of names asked for, most of them sixteen. The cases and the answers to them come from oracle/ by the
+seed. Each request goes through target/bin/drill, and the answer is compared byte for byte; each card that the program of document 01
+can read whole goes through target/bin/rigtemple too, and the lines are compared with those of oracle/program.py. The first
+disagreement is told in words. The last line is 'N passed, M failed': requests and runs of the program on which both agree.
 
 --spoil changes one of the oracle's answers and one of its lines, so that the last line has to say '2 failed'.
 """
@@ -38,13 +38,14 @@ SHOWN = 40
 
 
 class Job(NamedTuple):
-    """A chunk: its seed, how many requests, or cases of texts, or cases of programs, the largest card or text, and whether the
-    oracle is spoiled."""
+    """A chunk: its seed, how many requests, or cases of texts, of programs or of names, the largest card, text or sheet, and whether
+    the oracle is spoiled."""
 
     seed: str
     requests: int
     texts: int
     programs: int
+    names: int
     largest: int
     spoil: bool
 
@@ -91,10 +92,12 @@ def output(name, data):
 
 
 def cases_of(job):
-    """Cases with just as many requests, of which the last is cut; or cases of texts; or cases of programs."""
+    """Cases with just as many requests, of which the last is cut; or cases of texts, of programs or of names."""
     if job.requests == 0:
+        largest = min(job.largest, cases.CARD_BYTES_LIMIT)
         yield from cases.generate_texts(job.seed, job.texts, job.largest)
-        yield from cases.generate_programs(job.seed, job.programs, min(job.largest, cases.CARD_BYTES_LIMIT))
+        yield from cases.generate_programs(job.seed, job.programs, largest)
+        yield from cases.generate_names(job.seed, job.names, largest)
         return
     left = job.requests
     for case in cases.generate(job.seed, job.requests, job.largest):
@@ -161,7 +164,7 @@ def hold_requests(job, found):
 
 def hold_program(job, found):
     """The disagreements of the program, and how many cards it was run on: those "of at most 24,129 bytes" in cases that are not of
-    texts or programs."""
+    texts, programs or names."""
     read = [case for case, _ in found if len(case.card) <= program.INPUT_LIMIT and job.requests]
     differing = []
     for number, case in enumerate(read):
@@ -198,7 +201,8 @@ def arguments():
     parser.add_argument("--cases", type=int, default=200000, help="how many requests")
     parser.add_argument("--texts", type=int, default=0, help="how many cases of texts and printed nodes")
     parser.add_argument("--programs", type=int, default=0, help="how many cases of programs")
-    parser.add_argument("--largest", type=int, default=65535, help="bytes of the largest card and text")
+    parser.add_argument("--names", type=int, default=0, help="how many cases of names")
+    parser.add_argument("--largest", type=int, default=65535, help="bytes of the largest card, text and sheet")
     parser.add_argument("--spoil", action="store_true", help="change one answer and one line of the oracle's")
     options = parser.parse_args()
     if options.cases < 1:
@@ -206,17 +210,23 @@ def arguments():
     return options
 
 
+def chunks(count):
+    """So many cases in chunks: the number of each, and how many it has."""
+    for number, begin in enumerate(range(0, count, CASES_PER_CHUNK)):
+        yield number, min(CASES_PER_CHUNK, count - begin)
+
+
 def jobs(options):
     """The chunks, each with a seed of its own."""
     for number, begin in enumerate(range(0, options.cases, REQUESTS_PER_CHUNK)):
         count = min(REQUESTS_PER_CHUNK, options.cases - begin)
-        yield Job(f"{options.seed}.{number}", count, 0, 0, options.largest, options.spoil and number == 0)
-    for number, begin in enumerate(range(0, options.texts, CASES_PER_CHUNK)):
-        count = min(CASES_PER_CHUNK, options.texts - begin)
-        yield Job(f"{options.seed}.text.{number}", 0, count, 0, options.largest, False)
-    for number, begin in enumerate(range(0, options.programs, CASES_PER_CHUNK)):
-        count = min(CASES_PER_CHUNK, options.programs - begin)
-        yield Job(f"{options.seed}.program.{number}", 0, 0, count, options.largest, False)
+        yield Job(f"{options.seed}.{number}", count, 0, 0, 0, options.largest, options.spoil and number == 0)
+    for number, count in chunks(options.texts):
+        yield Job(f"{options.seed}.text.{number}", 0, count, 0, 0, options.largest, False)
+    for number, count in chunks(options.programs):
+        yield Job(f"{options.seed}.program.{number}", 0, 0, count, 0, options.largest, False)
+    for number, count in chunks(options.names):
+        yield Job(f"{options.seed}.name.{number}", 0, 0, 0, count, options.largest, False)
 
 
 def main():

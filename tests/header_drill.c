@@ -18,13 +18,16 @@
  *  11 deliberate  length (2), bytes of program, image, budget (2)
  *                                       number (2), image, count (2), ending (1), m (2), the
  *                                       remaining program: m numbers (1)
+ *  12 name     length (2), bytes of the shed's sheet, length (2), bytes of the master's, action (2)
+ *                                       number (2), sheet (1), start (2), length (2)
  *
  * An image: beliefs (16), goals (16), plan length (2), phase (1), finished count (2), m (2), m
  * bytes of the plan's array; the rest of it is zero. In an answer m is the least that serves. The
  * node of a take is with 16 the one that settled the condition, else 0; the place of a text with 17
- * that of the first wrong byte, else 0. Lent buffers are lent filled with EE hex. What a refused
- * grading says beside its number is written as 0. A request that breaks these rules ends the
- * program, and so does what a call leaves wrong and no answer shows.
+ * that of the first wrong byte, else 0; the sheet of a name is 0 the master's or 1 the shed's: the
+ * one that it lies in, or with 20 the one that is refused. Lent buffers are lent filled with EE hex.
+ * What a refused grading says beside its number is written as 0. A request that breaks these rules
+ * ends the program, and so does what a call leaves wrong and no answer shows.
  */
 #include <stdlib.h>
 #include <string.h>
@@ -32,7 +35,7 @@
 
 #include "../include/rigtemple.h"
 
-enum { CARD, CHECK, LOAD, GRADE, LIST, TAKE, RUN, SAVE, RESTORE, TEXT, PRINT, DELIBERATE };
+enum { CARD, CHECK, LOAD, GRADE, LIST, TAKE, RUN, SAVE, RESTORE, TEXT, PRINT, DELIBERATE, NAME };
 enum { LIST_LIMIT = 1024, SAVE_LIMIT = 2048, PLACE_LIMIT = 4096, LENT = 0xEE };
 enum { TEXT_LIMIT = 65536, CARD_ROOM_LIMIT = 24200, PRINT_LIMIT = 2048, PROGRAM_LIMIT = 1024 };
 
@@ -288,6 +291,34 @@ static void answer_deliberate(void)
     put_bytes(remaining, remaining_length);
 }
 
+/* The start is where the name lies behind its sheet's first byte. A name that does not lie in its
+ * sheet, and what a refusal hands back beside an empty part of the master's, end the program. */
+static void answer_name(void)
+{
+    static uint8_t shed[RIGTEMPLE_MOST_SHEET_BYTES], master[RIGTEMPLE_MOST_SHEET_BYTES];
+    const uint8_t *name = card, *held = master;
+    uint16_t bytes = LENT;
+    uint8_t sheet = LENT;
+    size_t shed_len = get_number(sizeof shed);
+    get_bytes(shed, shed_len);
+    size_t master_len = get_number(sizeof master), held_len = master_len;
+    get_bytes(master, master_len);
+    uint16_t number = rigtemple_name(card, card_len, shed, shed_len, master, master_len,
+                                     get_number(65535), &name, &bytes, &sheet);
+    if (number == RIGTEMPLE_ANSWER_DONE && sheet == RIGTEMPLE_SHEET_SHED) {
+        held = shed;
+        held_len = shed_len;
+    }
+    if (name < held || bytes > held_len || name > held + (held_len - bytes))
+        end(3);
+    if (number != RIGTEMPLE_ANSWER_DONE && (name != master || bytes != 0))
+        end(3);
+    put_number(number);
+    put_byte(sheet);
+    put_number((uint16_t)(name - held));
+    put_number(bytes);
+}
+
 static void answer(uint8_t request)
 {
     switch (request) {
@@ -327,6 +358,9 @@ static void answer(uint8_t request)
         break;
     case DELIBERATE:
         answer_deliberate();
+        break;
+    case NAME:
+        answer_name();
         break;
     default:
         end(1);

@@ -75,6 +75,19 @@ teaching() {
         printf '%s\n' 'finished after 12 moves, remaining: nothing' 'bands finished: 1' \
             'a place of 44 bytes, restored the same' | cmp - "$room/lines"
 }
+# The stripe card's sheets: in English, and in Swedish with two names left out.
+sheets() {
+    printf '\005\0\016\0\023\0\027\0\035\0\041\0\047\0weavewindrepairpickstripe' >"$room/master" &&
+        printf '\005\0\016\0\022\0\027\0\027\0\035\0\035\0v\303\244vspolainslag' >"$room/shed"
+}
+named() {
+    sheets && PYTHONUTF8=1 python "$root/cards/stripe.card" --names "$room/master" "$room/shed" >"$room/lines" &&
+        printf '%s\n' '0 väv' '1 spola' '2 repair' '3 inslag' '4 stripe' | cmp - "$room/lines"
+}
+refused_sheet() {
+    sheets && ! python "$root/cards/stripe.card" --names "$room/shed" &&
+        grep -q 'name is refused with 20' "$room/said"
+}
 refused() { ! python "$root/cards/loop.card" && grep -q 'load is refused with 6' "$room/said"; }
 refused_program() {
     ! python "$root/cards/stripe.card" "$root/cards/stripe.card" &&
@@ -85,6 +98,8 @@ if [ -n "$linked" ]; then
     expect 'Python runs the program of the teaching shed' teaching
     expect 'Python is told of a refusal' refused
     expect 'Python is told of a refused program' refused_program
+    expect "Python finds the stripe card's names" named
+    expect 'Python is told of a refused sheet' refused_sheet
     printf 'Python with %s\n' "$what"
 else
     printf 'Python is not tried: there is no C compiler\n'

@@ -13,10 +13,10 @@ x86_64-*linux*) linked=${folder:?} what='the library' ;;
     linked=$root/target/c/machine what='the C engine in its place'
     mkdir -p "$linked"
     # shellcheck disable=SC2086,SC2154  # names are words, which tests/engine.sh sets
-    cc -O2 -fPIC $names -c "$root/bench/engine.c" -o "$linked/engine.o"
-    # shellcheck disable=SC2086
-    cc -O2 -fPIC $names -c "$root/bench/engine_text.c" -o "$linked/engine_text.o"
+    for part in engine engine_text engine_names; do
+        cc -O2 -fPIC $names -c "$root/bench/$part.c" -o "$linked/$part.o"
+    done
     rm -f "$linked/librigtemple.a"
-    ar rcs "$linked/librigtemple.a" "$linked/engine.o" "$linked/engine_text.o"
+    ar rcs "$linked/librigtemple.a" "$linked/engine.o" "$linked/engine_text.o" "$linked/engine_names.o"
     ;;
 esac

@@ -2,8 +2,9 @@
 # Tests of ./rigtemple. A copy of it runs in a temporary folder with stand-ins for rt, uname, the
 # emulator and the programs. The stand-ins for the program and for the reader print what they are
 # given but for its first line: a "card" here is the mark and the lines of its run, a "text" a line
-# and a "card". Where crates.txt lists the programs, each file of cards/ is run with the proved ones
-# too, and its last line and its words held against cards/README.md; and so are texts with a slip.
+# and a "card". The one for the program for names keeps what it is given. Where crates.txt lists the
+# programs, each file of cards/ is run with the proved ones too, and its last line and its words
+# held against cards/README.md; and so are texts with a slip.
 # The last line is 'N passed, M failed'.
 set -u
 [ $# -eq 0 ] || { echo 'usage: script.sh' >&2; exit 2; }
@@ -56,6 +57,9 @@ programs() {
     printf '#!/bin/sh\nsed 1d\n' >"$room/programs/rigtemple"
     printf '#!/bin/sh\nsed 1d\necho " 105" >&2\n' >"$room/programs/read_text"
     printf '#!/bin/sh\necho atoms\ncat\n' >"$room/programs/print_text"
+    # shellcheck disable=SC2016
+    printf '#!/bin/sh\ncat >"$0.given"\nprintf "0 weave\\n12  a  name\\n"\n' \
+        >"$room/programs/move_names"
     chmod +x "$room/programs/"*
 }
 
@@ -66,7 +70,7 @@ stand_ins() {
     cp "$top/rigtemple" "$room/house/rigtemple"
     cp "$top/tests/progress.sh" "$room/house/tests/progress.sh"
     cp "$top/cards/explain.py" "$room/house/cards/explain.py"
-    printf '%s: paper io\n' rigtemple read_text print_text >"$room/house/crates.txt"
+    printf '%s: paper io\n' rigtemple read_text print_text move_names >"$room/house/crates.txt"
     echo 'paper:' >>"$room/house/crates.txt"
     programs
     # "rt check NAME..." links the programs unless they are there; it fails or takes long if it is
@@ -107,7 +111,7 @@ card() { printf '3A\n%s\n' "$1"; } # LINES
 text() { printf 'atoms\n%s\n' "$1"; } # LINES
 
 arguments_and_files() {
-    expect 'no argument' 2 '' 'usage: ./rigtemple [card | text] FILE' guide
+    expect 'no argument' 2 '' 'usage: ./rigtemple [card | text] FILE, or ./rigtemple names' guide
     expect 'two files' 2 '' 'usage: ./rigtemple' guide "$room/good.card" "$room/good.card"
     expect 'a word and two files' 2 '' 'usage: ./rigtemple' \
         guide text "$room/good.card" "$room/good.card"
@@ -327,6 +331,86 @@ printing() { # COMMAND
     guide text "$room/good.card"
 }
 
+# ---- names
+
+# A run with two acts, and the same with their names.
+acts='card 255 bounded
+1 select 0 1 5
+2 act 12 1 3
+3 revise 0 1 1
+4 act 0 0 0
+rest 4'
+named='card 255 bounded
+1 select 0 1 5
+2 act 12 1 3  a  name
+3 revise 0 1 1
+4 act 0 0 0 weave
+rest 4'
+
+names() {
+    rm -rf "$room/house/target"
+    card "$acts" >"$room/acts.card"
+    text "$(card "$acts")" >"$room/acts.text"
+    printf 'the master' >"$room/master"
+    head -c 258 /dev/zero >"$room/shed"
+    expect 'names' 0 "$named" '(rt check rigtemple move_names)' \
+        guide names "$room/acts.card" "$room/master" "$room/shed"
+    { printf '\122\000' && cat "$room/acts.card" && printf '\002\001' && cat "$room/shed" &&
+        printf '\012\000the master'; } >"$room/asked"
+    holds 'what is asked' cmp -s "$room/asked" "$room/house/target/bin/move_names.given"
+    expect 'names of a text card' 0 "$named" '(rt check read_text)' \
+        guide names "$room/acts.text" "$room/master" "$room/shed"
+    holds 'the same is asked' cmp -s "$room/asked" "$room/house/target/bin/move_names.given"
+    expect "the master's alone" 0 "$named" '' guide names "$room/acts.card" "$room/master"
+    { printf '\122\000' && cat "$room/acts.card" && printf '\000\000\012\000the master'; } \
+        >"$room/asked"
+    holds 'no sheet of the shed' cmp -s "$room/asked" "$room/house/target/bin/move_names.given"
+    expect 'no names without sheets' 0 "$acts" '' guide "$room/acts.card"
+    names_that_fail
+    long_sheets
+}
+
+names_that_fail() {
+    expect 'names of what' 2 '' 'usage: ./rigtemple' guide names "$room/acts.card"
+    expect 'a sheet too many' 2 '' 'usage: ./rigtemple' \
+        guide names "$room/acts.card" "$room/master" "$room/shed" "$room/shed"
+    expect 'a missing sheet' 2 '' "there is no file $room/none" \
+        guide names "$room/acts.card" "$room/master" "$room/none"
+    expect 'a folder for a sheet' 2 '' "$room/house is a folder" \
+        guide names "$room/acts.card" "$room/house"
+    expect "a refused sheet of the shed's" 1 'refused 20' \
+        "$room/shed is refused as the shed's: sheet: " naming 'echo refused 20 shed'
+    holds 'one line about a refused sheet' test "$(wc -l <"$room/err")" -eq 1
+    expect "a refused sheet of the master's" 1 'refused 20' \
+        "$room/master is refused as the master's: sheet: " naming 'echo refused 20 master'
+    card 'refused 6' >"$room/acts.card"
+    expect 'a refused card with sheets' 1 'refused 6' 'acts.card is refused: node: ' \
+        naming 'echo refused 6'
+    card "$good" >"$room/acts.card"
+    expect 'a card without specifications' 0 "$good" '' naming :
+    expect 'the program for names fails' 2 '' 'with status 3' naming 'exit 3'
+    expect 'there are no names' 2 '' 'there are no names: why' naming 'echo why >&2'
+    cp "$room/programs/move_names" "$room/house/target/bin"
+}
+
+naming() { # COMMAND
+    printf '#!/bin/sh\n%s\n' "$1" >"$room/house/target/bin/move_names"
+    guide names "$room/acts.card" "$room/master" "$room/shed"
+}
+
+# The sheets that are asked about, of the largest that a sheet can be and of one byte more.
+long_sheets() {
+    card x >"$room/x.card"
+    head -c 65535 /dev/zero >"$room/long"
+    guide names "$room/x.card" "$room/long" "$room/long" >/dev/null 2>&1
+    holds 'sheets of 65,535 bytes' test \
+        "$(wc -c <"$room/house/target/bin/move_names.given")" -eq $((2 + 5 + 2 * 65537))
+    printf '\0' >>"$room/long"
+    guide names "$room/x.card" "$room/long" "$room/long" >/dev/null 2>&1
+    holds 'of sheets of 65,536 bytes one byte' test \
+        "$(wc -c <"$room/house/target/bin/move_names.given")" -eq $((2 + 5 + 2 * 3))
+}
+
 # ---- with the proved programs
 
 # The rows of cards/README.md's table: a file's name, its last line and its words.
@@ -349,6 +433,7 @@ proved() {
     slips
     other_refusals
     there_and_back
+    names_in_two_languages
 }
 
 # All that is said of three cards.
@@ -440,6 +525,21 @@ there_and_back() {
         "$top/rigtemple" text "$top/cards/loop.card"
 }
 
+# The stripe card's moves with their names, and its sheets in the wrong order.
+names_in_two_languages() {
+    english=$top/cards/stripe.en.sheet swedish=$top/cards/stripe.sv.sheet
+    "$top/rigtemple" names "$top/cards/stripe.text" "$english" "$swedish" >"$room/out" 2>"$room/err"
+    holds 'names end well' test $? -eq 0
+    holds "the shed's name" grep -q -x '3 act 1 1 3 spola' "$room/out"
+    holds "the master's, where the shed has none" grep -q -x '5 act 2 1 1 repair' "$room/out"
+    "$top/rigtemple" "$top/cards/stripe.text" >"$room/plain.out" 2>"$room/plain.err"
+    sed 's/^\([0-9]* act [0-9]* [0-9]* [0-9]*\) .*/\1/' "$room/out" >"$room/cut.out"
+    holds 'the lines but for the names' cmp -s "$room/cut.out" "$room/plain.out"
+    holds 'what is left, with names' cmp -s "$room/err" "$room/plain.err"
+    expect "the shed's for the master's" 1 'refused 20' "$swedish is refused as the master's" \
+        "$top/rigtemple" names "$top/cards/stripe.text" "$swedish" "$english"
+}
+
 stand_ins
 card "$good" >"$room/good.card"
 guide "$room/good.card" >/dev/null 2>&1
@@ -450,6 +550,7 @@ stopping
 finding_rt
 running
 texts
+names
 rows >"$room/rows"
 cards=$(find "$top/cards" -name '*.card' -o -name '*.text' | wc -l)
 holds 'cards/README.md has a row for each card' test "$(wc -l <"$room/rows")" -eq "$cards"

@@ -16,7 +16,7 @@ work=$tests/../target/c
 . "$tests/stated.sh"
 archive=$("$tests/archive.sh" "$@")
 "$tests/build_c.sh" "$work/stack" "$tests/stack.c" "$tests/calls.c" "$tests/cards.c" \
-    "$tests/programs.c" "$tests/texts.c" "$archive"
+    "$tests/programs.c" "$tests/sheets.c" "$tests/texts.c" "$archive"
 "$tests/run_c.sh" "$work/stack" >"$work/stack.out"
 passed=0
 failed=0
@@ -31,4 +31,4 @@ while read -r call bytes; do
     printf '%-10s %6d bytes of stack%s\n' "$call" "$bytes" "$fault"
 done <"$work/stack.out"
 printf '%d passed, %d failed\n' "$passed" "$failed"
-[ "$passed" -eq 11 ]
+[ "$passed" -eq 12 ]

@@ -1,5 +1,5 @@
--- An offender's number fits in the 16 bits that it is written in: a card has at most 256 rules of a kind. A refusal other than 16
--- and 17 carries no number.
+-- An offender's number fits in the 16 bits that it is written in: a card has at most 256 rules of a kind. A refusal other than 16,
+-- 17 and 20 carries no number.
 use mathlib.Core.Path.{_≡_, refl, sym, subst}
 use mathlib.Core.Bool.{Bool, true, false}
 use mathlib.Core.List.{List, [], _∷_}
@@ -22,7 +22,7 @@ use Rattle.meaning.specs.Refusals.{carried, cardAnswer}
 use Rattle.meaning.specs.Calls.{grades}
 use Rattle.meaning.proofs.Calls.{grades-good, grades-refused}
 use Rattle.meaning.proofs.Accepted.{length-entries}
-use Rattle.meaning.proofs.Carrying.{Carries, nothing, a-node, a-place, carries}
+use Rattle.meaning.proofs.Carrying.{Carries, nothing, a-node, a-place, a-sheet, carries}
 use Rattle.card.proofs.GoodCard.{good-card}
 use Rattle.meaning.specs.Numbers.{offenderRule, verdictRule}
 
@@ -55,10 +55,10 @@ grades-narrow b = go (cardAnswer b) refl
         subst (λ (x : Graded). verdictRule (x .verdict) < 65536) (sym (grades-good b e)) v
     go (Refused r) e = subst (λ (x : Graded). verdictRule (x .verdict) < 65536) (sym (grades-refused b r e)) (omega arith)
 
--- ---- the variants but those of 16 and 17, by their tags
+-- ---- the variants but those of 16, 17 and 20, by their tags
 
 abbrev others : List ℕ
-others = 0 ∷ 1 ∷ 2 ∷ 3 ∷ 4 ∷ 5 ∷ 6 ∷ 7 ∷ 8 ∷ 9 ∷ 10 ∷ 11 ∷ 13 ∷ 14 ∷ 16 ∷ 17 ∷ 18 ∷ []
+others = 0 ∷ 1 ∷ 2 ∷ 3 ∷ 4 ∷ 5 ∷ 6 ∷ 7 ∷ 8 ∷ 9 ∷ 10 ∷ 11 ∷ 13 ∷ 14 ∷ 16 ∷ 17 ∷ 18 ∷ 20 ∷ []
 
 pub carries-nothing : (r : Refusal) → OneOf others (tagOf the-type r) → carried r ≡ 0
 carries-nothing r = go (carries r)
@@ -67,3 +67,4 @@ carries-nothing r = go (carries r)
     go (nothing e) h = e
     go a-node h = absurd (miss others 12 tt h)
     go a-place h = absurd (miss others 15 tt h)
+    go a-sheet h = absurd (miss others 19 tt h)

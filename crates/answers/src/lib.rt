@@ -2,7 +2,7 @@
 ghost use mathlib.Core.Path.{_≡_};
 ghost use Prim.Native.Nat.{_<_};
 ghost use Rattle.meaning.specs.Refusals.{numberOf, answerNumber, carried, answerCarried};
-ghost use Rattle.meaning.specs.Numbers.{endingNumber, verdictNumber, offenderNumber, offenderRule, verdictOffender, verdictRule};
+ghost use Rattle.meaning.specs.Numbers.{sheetNumber, endingNumber, verdictNumber, offenderNumber, offenderRule, verdictOffender, verdictRule};
 ghost use Rattle.deliberation.specs.Deliberate.{deliberationEndingNumber};
 use deliberation::DeliberationEnding;
 use meaning::Answer;
@@ -35,6 +35,8 @@ pub fn refusal_number(r: Refusal) -> u16
         Refusal::Nested => 18,
         Refusal::Large => 25,
         Refusal::Program => 19,
+        Refusal::Sheet(_) => 20,
+        Refusal::NoAction => 21,
     }
 }
 
@@ -48,14 +50,15 @@ pub fn answer_number(a: Answer) -> u16
     }
 }
 
-// The number that a refusal carries: 02, Wish 1: "16 a condition is false, with the node"; Wish 2: "17 text, with the place". 0
-// where it carries none.
+// The number that a refusal carries: 02, Wish 1: "16 a condition is false, with the node"; Wish 2: "17 text, with the place";
+// Wish 8: "20 a sheet …, the shed's before the master", which it is. 0 where it carries none.
 fn refusal_carried(r: Refusal) -> usize
     ensures { λ n. ⌜ n ≡ carried r ⌝ }
 {
     match r {
         Refusal::Condition(node) => node,
         Refusal::Text(place) => place,
+        Refusal::Sheet(sheet) => sheet,
         _ => 0,
     }
 }
@@ -67,6 +70,17 @@ pub fn answer_carried(a: Answer) -> usize
     match a {
         Answer::Done => 0,
         Answer::Refused(r) => refusal_carried(r),
+    }
+}
+
+// Which sheet is told: that of the part, and with 20 the refused one.
+pub fn sheet_number(a: Answer, sheet: usize) -> u8
+    requires { ⌜ sheetNumber a sheet < 256 ⌝ }
+    ensures { λ n. ⌜ n ≡ sheetNumber a sheet ⌝ }
+{
+    match a {
+        Answer::Done => sheet as u8,
+        Answer::Refused(r) => refusal_carried(r) as u8,
     }
 }
 

@@ -1,4 +1,4 @@
--- The contract of each of the eleven functions for C, by the one name that its `ensures` cites, and that it leaves one answer
+-- The contract of each of the twelve functions for C, by the one name that its `ensures` cites, and that it leaves one answer
 -- (proved in proofs/). n is the return value. What is lent to be written is named as it is left: c for a configuration's six
 -- parts, left for a list, a place, a card or a text, the others as in include/rigtemple.h. What is lent to be read stays as it is.
 use mathlib.Core.Path.{_≡_}
@@ -13,7 +13,8 @@ use Rattle.meaning.specs.Numbers.{checkedNumber}
 use Rattle.notation.specs.Reading.{Reads}
 use Rattle.notation.specs.Printing.{printAnswer, printCount, printLeaves}
 use Rattle.deliberation.specs.Deliberate.{deliberates}
-use Rattle.board.specs.Header.{whole, replied, took, gradedAs, wrote, readAs, ranTo, deliberatedTo}
+use Rattle.names.specs.Naming.{Asked, names}
+use Rattle.board.specs.Header.{whole, replied, took, gradedAs, wrote, readAs, ranTo, deliberatedTo, namedAs}
 
 -- ---- the contracts
 
@@ -69,6 +70,11 @@ abbrev pub Prints : Bytes → ℕ → Bytes → ℕ → Bytes → ℕ → Type 0
 Prints card node text n left count =
     (n ≡ answerNumber (printAnswer card node text)) × (count ≡ printCount card node text) × (left ≡ printLeaves card node text)
 
+-- 02, Wish 8: "hands back the part of the shed's sheet that holds its name, or the part of the master sheet": asked of both sheets
+-- for an action.
+abbrev pub Names : Bytes → Asked → ℕ → ℕ → ℕ → ℕ → Type 0
+Names card asked n sheet start length = namedAs (names card asked) n sheet start length
+
 -- ---- one answer
 
 -- 01, "What the contracts settle": "For each public function and each input, refusals too, the contract determines the answer
@@ -100,6 +106,9 @@ pub record DeterminedParts : Type 0 where
       → (n ≡ n′) × (left ≡ left′) × (count ≡ count′) × (place ≡ place′)
   pub print : (card : Bytes) (node : ℕ) (text left left′ : Bytes) (n n′ count count′ : ℕ)
       → Prints card node text n left count → Prints card node text n′ left′ count′ → (n ≡ n′) × (left ≡ left′) × (count ≡ count′)
+  pub name : (card : Bytes) (asked : Asked) (n n′ sheet sheet′ start start′ length length′ : ℕ)
+      → Names card asked n sheet start length → Names card asked n′ sheet′ start′ length′
+      → (n ≡ n′) × (sheet ≡ sheet′) × (start ≡ start′) × (length ≡ length′)
   -- the same sentence, "every byte and number in lent buffers": equal configurations are equal in each of the six lent parts.
   pub parts : (beliefs beliefs′ goals goals′ plan plan′ : Bytes) (length length′ phase phase′ finished finished′ : ℕ)
       → whole beliefs goals plan length phase finished ≡ whole beliefs′ goals′ plan′ length′ phase′ finished′

@@ -10,9 +10,10 @@ use Rattle.meaning.specs.declared.Written.{Written}
 use Rattle.meaning.specs.declared.Ran.{Ran}
 use Rattle.meaning.specs.Card.{Bytes}
 use Rattle.meaning.specs.Refusals.{answerNumber, answerCarried}
-use Rattle.meaning.specs.Numbers.{endingNumber, verdictNumber, verdictOffender, verdictRule}
+use Rattle.meaning.specs.Numbers.{sheetNumber, endingNumber, verdictNumber, verdictOffender, verdictRule}
 use Rattle.deliberation.specs.declared.Deliberated.{Deliberated}
 use Rattle.deliberation.specs.Deliberate.{deliberationEndingNumber}
+use Rattle.names.specs.declared.Named.{Named}
 
 -- A configuration from its parts: "`beliefs` and `goals` are 16 bytes each, `plan` is 1,024 bytes."
 abbrev pub whole : Bytes → Bytes → Bytes → ℕ → ℕ → ℕ → Configuration
@@ -61,3 +62,11 @@ deliberatedTo x n c count ending remaining length =
     × (ending ≡ deliberationEndingNumber (x .ending))
     × (remaining ≡ x .remaining .numbers)
     × (length ≡ x .remaining .length)
+
+-- of `name`: which sheet the part lies in, or with 20 which is refused, and the part's start and length
+abbrev pub namedAs : Named → ℕ → ℕ → ℕ → ℕ → Type 0
+namedAs x n sheet start length =
+    (n ≡ answerNumber (x .answer))
+    × (sheet ≡ sheetNumber (x .answer) (x .sheet))
+    × (start ≡ x .part .start)
+    × (length ≡ x .part .length)

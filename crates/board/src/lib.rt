@@ -1,13 +1,15 @@
-// The board: the guide's eleven calls for C, as include/rigtemple.h declares them. A configuration is lent in its six parts;
+// The board: the guide's twelve calls for C, as include/rigtemple.h declares them. A configuration is lent in its six parts;
 // the return value is the answer's number.
 ghost use mathlib.Core.Path.{_≡_};
+ghost use Rattle.names.specs.Naming.{asked};
 ghost use Rattle.board.specs.Header.{whole};
-ghost use Rattle.board.specs.Determined.{Checks, Loads, Grades, Lists, Takes, Runs, Deliberates, Saves, Restores, ReadsText, Prints};
+ghost use Rattle.board.specs.Determined.{Checks, Loads, Grades, Lists, Takes, Runs, Deliberates, Saves, Restores, ReadsText, Prints, Names};
 use answers::answer_carried;
 use answers::answer_number;
 use answers::deliberation_ending_number;
 use answers::ending_number;
 use answers::refusal_number;
+use answers::sheet_number;
 use answers::verdict_number;
 use answers::verdict_offender;
 use answers::verdict_rule;
@@ -322,5 +324,28 @@ pub extern "C" fn rigtemple_print_parts(
     let printed = printer::print::print(card, node as usize, text);
     *count = printed.count;
     let a = printed.answer;
+    answer_number(a)
+}
+
+// The part that holds an action's name: which sheet it lies in, where it starts there and how many bytes it has; with 20 which
+// sheet is refused.
+#[no_mangle]
+pub extern "C" fn rigtemple_name_parts(
+    card: &[u8],
+    shed: &[u8],
+    master: &[u8],
+    action: u16,
+    sheet: &mut u8,
+    start: &mut u16,
+    length: &mut u16,
+) -> u16
+    ensures { λ r. ⌜ Names (now (card .entry)) (asked (now (shed .entry)) (now (master .entry)) action) r
+        (now (sheet .exit)) (now (start .exit)) (now (length .exit)) ⌝ }
+{
+    let named = names::name::named(card, shed, master, action as usize);
+    let a = named.answer;
+    *sheet = sheet_number(a, named.sheet);
+    *start = named.part.start as u16;
+    *length = named.part.length as u16;
     answer_number(a)
 }

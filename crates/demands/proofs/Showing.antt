@@ -30,7 +30,7 @@ use Rattle.meaning.proofs.Accepted.{accepted, counts}
 use Rattle.meaning.proofs.Nodes.{node-rule}
 use Rattle.meaning.proofs.Settling.{settler-law}
 use Rattle.meaning.proofs.Tables.{done≢refused}
-use Rattle.meaning.proofs.Carrying.{Carries, nothing, a-node, a-place, carries}
+use Rattle.meaning.proofs.Carrying.{Carries, nothing, a-node, a-place, a-sheet, carries}
 use Rattle.meaning.proofs.Entries.{GoodEntries, good-entries}
 use Rattle.meaning.proofs.AgentEntries.{selectionFor, specificationFor, revisionFor, selection-entry, specification-entry, revision-entry}
 use Rattle.demands.specs.Contracts.{Takes}
@@ -190,7 +190,7 @@ lower l b good is-it h = h
 lower l b good (in-first {i} k x) h = lower l b good x (let f = node-rule l b good i h .first k in omega arith)
 lower l b good (in-second {i} k x) h = lower l b good x (let s = node-rule l b good i h .second k in omega arith)
 
--- only 16 and 17 carry a number
+-- only 16, 17 and 20 carry a number
 carries-nothing : (q : Refusal) → List·Memᴰ (numberOf q) (doneOrCard ++ (13 ∷ [])) → carried q ≡ 0
 unfolding numberOf doneOrCard
 carries-nothing q = go (carries q)
@@ -199,6 +199,7 @@ carries-nothing q = go (carries q)
     go (nothing e) i = e
     go a-node i = absurd (outside (doneOrCard ++ (13 ∷ [])) 16 refl i)
     go a-place i = absurd (outside (doneOrCard ++ (13 ∷ [])) 17 refl i)
+    go a-sheet i = absurd (outside (doneOrCard ++ (13 ∷ [])) 20 refl i)
 
 module _ (b : Bytes) (c : Configuration) (n : ℕ) where
   node-known : OnAccepted b c → (node : ℕ) → Shown b c n node → node < layout b .nodes .count

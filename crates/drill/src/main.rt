@@ -1,5 +1,5 @@
 // The drill: requests on standard input, an answer for each on standard output, so that any other program can be compared with the
-// eleven calls byte for byte. Numbers of two or four bytes are low byte first. "A request that breaks these rules, or is not there
+// twelve calls byte for byte. Numbers of two or four bytes are low byte first. "A request that breaks these rules, or is not there
 // yet, ends the program."
 ghost use mathlib.Core.Path.{_≡_};
 ghost use Prim.Native.Nat.{_≤_};
@@ -9,6 +9,7 @@ use answers::answer_number;
 use answers::deliberation_ending_number;
 use answers::ending_number;
 use answers::refusal_number;
+use answers::sheet_number;
 use answers::verdict_number;
 use answers::verdict_offender;
 use answers::verdict_rule;
@@ -543,6 +544,56 @@ fn deliberate(card: &[u8]) -> bool {
     deliberate_from(card, &mut program[..n as usize])
 }
 
+// "sheet (1: 0 the master's, 1 the shed's: the one that the part lies in, or, with 20, the one that is refused), start (2), length
+// (2) of the part"
+fn name_of(card: &[u8], shed: &[u8], master: &[u8], action: u16) {
+    let n = guide::named(card, shed, master, action);
+    let a = n.answer;
+    let sheet = [sheet_number(a, n.sheet)];
+    let start = n.part.start as u16;
+    let length = n.part.length as u16;
+    tell(answer_number(a));
+    io::write_all(1, &sheet);
+    tell(start);
+    tell(length);
+}
+
+// The master sheet's bytes are read, and then an action.
+fn name_by(card: &[u8], shed: &[u8], master: &mut [u8]) -> bool {
+    if !fill(master) {
+        return false;
+    }
+    let asked = next_number();
+    let Number::Is(action) = asked else {
+        return false;
+    };
+    name_of(card, shed, master, action);
+    true
+}
+
+// The shed's sheet is read, and then the master's length.
+fn name_from(card: &[u8], shed: &mut [u8]) -> bool {
+    if !fill(shed) {
+        return false;
+    }
+    let size = next_number();
+    let Number::Is(n) = size else {
+        return false;
+    };
+    let mut master = room();
+    name_by(card, shed, &mut master[..n as usize])
+}
+
+// Request 12: "the shed's sheet: n (2), n bytes; the master sheet: n (2), n bytes; action (2)"
+fn name(card: &[u8]) -> bool {
+    let size = next_number();
+    let Number::Is(n) = size else {
+        return false;
+    };
+    let mut shed = room();
+    name_from(card, &mut shed[..n as usize])
+}
+
 // ---- the requests
 
 // Request 0: "it is the card of the requests that follow".
@@ -574,6 +625,7 @@ fn answer(card: &[u8], request: u8) -> bool {
         9 => text(),
         10 => print(card),
         11 => deliberate(card),
+        12 => name(card),
         _ => false,
     }
 }
@@ -596,7 +648,7 @@ fn turn(card: &mut [u8], n: u16) -> After {
     After::Goes(n)
 }
 
-// Room for every card that a request can hand in.
+// Room for every card and every sheet that a request can hand in.
 fn room() -> [u8; 65535]
     ensures { λ r. ⌜ 65535 ≡ length r ⌝ }
 {

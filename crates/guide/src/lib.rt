@@ -1,11 +1,13 @@
-// The guide: the nine calls. Nothing is assumed of any byte or number; each contract cites one definition of the whole answer,
+// The guide: the ten calls. Nothing is assumed of any byte or number; each contract cites one definition of the whole answer,
 // refusals too, and of what a lent buffer holds afterwards. A configuration goes in and comes back by value.
 ghost use mathlib.Core.Path.{_≡_};
+ghost use Prim.Native.Nat.{_+_, _≤_};
 ghost use Rattle.paper.specs.Theorems.{AreBytes};
 ghost use Rattle.demands.specs.Contracts.{Checks, Loads, Grades, Lists, Takes, Runs, Saves, Restores, Shaped};
 ghost use Rattle.deliberation.specs.Theorems.{Deliberates};
 ghost use Rattle.choices.specs.InPlace.{replyWith, ranWith};
 ghost use Rattle.deliberate.specs.InPlace.{deliberatedWith};
+ghost use Rattle.names.specs.Naming.{asked, names, nameOf, placeOf};
 use choices::in_place::RanInPlace;
 use choices::in_place::ReplyInPlace;
 use deliberate::call::DeliberatedInPlace;
@@ -17,6 +19,7 @@ use meaning::Graded;
 use meaning::Ran;
 use meaning::Reply;
 use meaning::Written;
+use names::Named;
 
 // Whether a card is accepted: its layout, or the first refusal of 1 to 9.
 pub fn check(card: &[u8]) -> Checked
@@ -184,4 +187,22 @@ pub fn restore(card: &[u8], p: &[u8]) -> Reply
     let mut plan = [0u8; 1024];
     let r = place::restore::restore(card, p, &mut plan);
     reply_with(r, plan)
+}
+
+// The part that holds an action's name, of the shed's sheet or of the master's: which, and its start and length.
+pub fn named(card: &[u8], shed: &[u8], master: &[u8], action: u16) -> Named
+    ensures { λ r. ⌜ r ≡ names (now (card .entry)) (asked (now (shed .entry)) (now (master .entry)) action) ⌝ }
+    ensures { λ r. ⌜ r .part .start + r .part .length ≤ 65535 ⌝ }
+{
+    names::name::named(card, shed, master, action as usize)
+}
+
+// The part itself.
+pub fn name<'a>(card: &[u8], shed: &'a [u8], master: &'a [u8], action: u16) -> &'a [u8]
+    ensures { λ r. ⌜ now r ≡ nameOf (names (now (card .entry)) (asked (now (shed .entry)) (now (master .entry)) action))
+        (now (shed .entry)) (now (master .entry)) ⌝ }
+    ensures { λ r. ⌜ r .ptr ≡ placeOf (names (now (card .entry)) (asked (now (shed .entry)) (now (master .entry)) action))
+        (shed .entry .ptr) (master .entry .ptr) ⌝ }
+{
+    names::name::name(card, shed, master, action as usize)
 }

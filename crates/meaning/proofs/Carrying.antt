@@ -1,4 +1,4 @@
--- Which refusals carry a number: that of a condition the node, that of a text the place.
+-- Which refusals carry a number: that of a condition the node, that of a text the place, that of a sheet which it is.
 use mathlib.Core.Path.{_≡_, refl}
 use Prim.Native.Nat.{ℕ}
 use Rattle.meaning.specs.declared.Refusal.{Refusal}
@@ -8,6 +8,7 @@ pub data Carries : Refusal → Type 0 where
   nothing : {r : Refusal} → carried r ≡ 0 → Carries r
   a-node : {n : ℕ} → Carries (Refusal.Condition n)
   a-place : {p : ℕ} → Carries (Refusal.Text p)
+  a-sheet : {k : ℕ} → Carries (Refusal.Sheet k)
 
 pub carries : (r : Refusal) → Carries r
 unfolding carried
@@ -30,3 +31,5 @@ carries (Refusal.Text p) = a-place
 carries Refusal.Nested = nothing refl
 carries Refusal.Large = nothing refl
 carries Refusal.Program = nothing refl
+carries (Refusal.Sheet k) = a-sheet
+carries Refusal.NoAction = nothing refl

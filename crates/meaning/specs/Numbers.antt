@@ -1,17 +1,25 @@
 -- 01, "Expected forms by place": "Where an answer is an enum, a definition gives this paper's number and values for each of its
--- cases". The numbers of the refusals are in Refusals; these are of what check answers, of endings, verdicts and offenders, as
--- include/rigtemple.h has them.
+-- cases". The numbers of the refusals are in Refusals; these are of what check answers, of sheets, endings, verdicts and
+-- offenders, as include/rigtemple.h has them.
 use Prim.Native.Nat.{ℕ}
 use Rattle.runs.specs.declared.Ending.{Ending}
 use Rattle.runs.specs.declared.Offender.{Offender}
 use Rattle.runs.specs.declared.Verdict.{Verdict}
+use Rattle.meaning.specs.declared.Answer.{Answer}
+use Rattle.meaning.specs.declared.Answer.the-variants.{Done, Refused}
 use Rattle.meaning.specs.declared.Checked.{Checked}
-use Rattle.meaning.specs.Refusals.{numberOf}
+use Rattle.meaning.specs.Refusals.{numberOf, carried}
 
 -- 01, "Numbers the guide may answer": the number of what check answers.
 unfoldable pub checkedNumber : Checked → ℕ
 checkedNumber (Checked.Good l) = 0
 checkedNumber (Checked.Refused r) = numberOf r
+
+-- 02, Wish 8: which sheet is told, 0 the master's or 1 the shed's: the one that the part lies in, and where "a sheet breaking these
+-- rules" is refused, that one.
+unfoldable pub sheetNumber : Answer → ℕ → ℕ
+sheetNumber Done sheet = sheet
+sheetNumber (Refused r) sheet = carried r
 
 -- 01, "A configuration and its transitions": "one of three endings", in the order in which they stand there.
 unfoldable pub endingNumber : Ending → ℕ

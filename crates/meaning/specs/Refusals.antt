@@ -22,7 +22,7 @@ use Rattle.meaning.specs.Card.{Bytes, byte, numberAt, part, layout, weig
 
 -- 01, "Numbers the guide may answer": the columns "no." and "name"; 02, Wish 1: "10 gives way to three in its place", 14, 15 and
 -- 16; 02, Wish 2: "17 text", "18 nested too deep", "25 a number too large for its field, or more entries or pool bytes"; 02, Wish
--- 6: "19 a program breaking these rules".
+-- 6: "19 a program breaking these rules"; 02, Wish 8: "20 a sheet breaking these rules", "21 unknown action".
 unfoldable pub numberOf : Refusal → ℕ
 numberOf Refusal.Short = 1
 numberOf Refusal.Mark = 2
@@ -43,14 +43,17 @@ numberOf (Refusal.Text p) = 17
 numberOf Refusal.Nested = 18
 numberOf Refusal.Large = 25
 numberOf Refusal.Program = 19
+numberOf (Refusal.Sheet k) = 20
+numberOf Refusal.NoAction = 21
 
 -- 01, "Numbers the guide may answer", row 0: "done", "none below holds".
 unfoldable pub answerNumber : Answer → ℕ
 answerNumber Done = 0
 answerNumber (Refused r) = numberOf r
 
--- 02, Wish 1: "16 a condition is false, with the node", Wish 2: "17 text, with the place": the number that a refusal carries, and
--- 0 where it carries none (docs/DECISIONS.md, "Numbers in refusals").
+-- 02, Wish 1: "16 a condition is false, with the node", Wish 2: "17 text, with the place", Wish 8: "20 a sheet …, the shed's before
+-- the master" (which it is): the number that a refusal carries, and 0 where it carries none (docs/DECISIONS.md, "Numbers in
+-- refusals").
 unfoldable pub carried : Refusal → ℕ
 carried (Refusal.Condition n) = n
 carried Refusal.Short = 0
@@ -71,6 +74,8 @@ carried (Refusal.Text p) = p
 carried Refusal.Nested = 0
 carried Refusal.Large = 0
 carried Refusal.Program = 0
+carried (Refusal.Sheet k) = k
+carried Refusal.NoAction = 0
 
 -- The number that an answer carries, and 0 where it carries none: 02, Wish 1: "only a refused choice shows it".
 unfoldable pub answerCarried : Answer → ℕ

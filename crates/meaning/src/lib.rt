@@ -5,7 +5,8 @@ use runs::Verdict;
 
 // 01, "Numbers the guide may answer": the rows of the table but the first, by their names, in its order; in the place of "not
 // enabled" the three of 02, Wish 1: no such rule or specification, the plan's front, a condition with the node that settled it.
-// Then those of 02, Wish 2: a text with the place of the wrong byte, nested too deep, too large; and that of Wish 6: a program.
+// Then those of 02, Wish 2: a text with the place of the wrong byte, nested too deep, too large; that of Wish 6: a program; and
+// those of Wish 8: a sheet, with which it is (0 the master's, 1 the shed's), and an unknown action.
 pub enum Refusal {
     Short,
     Mark,
@@ -26,6 +27,8 @@ pub enum Refusal {
     Nested,
     Large,
     Program,
+    Sheet(usize),
+    NoAction,
 }
 
 // 01, "Numbers the guide may answer": "done", row 0, or one of the others.

@@ -1,4 +1,4 @@
-//! The eleven calls of the weaving guide for Rust. What each does is said in rigtemple.h.
+//! The twelve calls of the weaving guide for Rust. What each does is said in rigtemple.h.
 //!
 //! SAFETY of every call below: the pointers come from references and slices, so that none is null,
 //! all are aligned, the lengths are true, and what is written overlaps nothing.
@@ -7,7 +7,7 @@ mod parts;
 mod words;
 
 use words::{done, done_with};
-pub use words::{Choice, DeliberationEnding, Ending, Entry, Offender, Refusal, Verdict};
+pub use words::{Choice, DeliberationEnding, Ending, Entry, Offender, Refusal, Sheet, Verdict};
 
 pub const SET_BYTES: usize = 16;
 pub const MOST_CARD_BYTES: usize = 24128;
@@ -17,6 +17,7 @@ pub const MOST_LIST_ENTRIES: usize = 768;
 pub const MOST_PRINTED_BYTES: usize = 894;
 pub const MOST_PROGRAM_BYTES: usize = 512;
 pub const MOST_REMAINING: usize = 128;
+pub const MOST_SHEET_BYTES: usize = 65535;
 
 /// Where a weaver stands in a card; the plan is the first `length` bytes of `plan`, and `finished`
 /// is how many moves have left it empty, to be shown as "bands finished".
@@ -56,6 +57,13 @@ pub struct Deliberated {
     pub moves: u16,
     pub ending: DeliberationEnding,
     pub remaining: Vec<u8>,
+}
+
+/// The name of an action, a part of the sheet that it lies in.
+#[derive(Clone, Copy, Debug, PartialEq, Eq)]
+pub struct Name<'a> {
+    pub sheet: Sheet,
+    pub text: &'a str,
 }
 
 /// Judges a card.
@@ -268,4 +276,40 @@ pub fn print(card: &[u8], node: u16, text: &mut [u8]) -> Result<usize, Refusal> 
         )
     })?;
     Ok(usize::from(bytes))
+}
+
+/// Finds the name of an action: in the shed's sheet, which may be empty for none, or in the master's
+/// where the shed's name is empty.
+pub fn name<'a>(
+    card: &[u8],
+    shed: &'a [u8],
+    master: &'a [u8],
+    action: u16,
+) -> Result<Name<'a>, Refusal> {
+    let (mut sheet, mut start, mut length) = (0, 0, 0);
+    let answer = unsafe {
+        parts::rigtemple_name_parts(
+            card.as_ptr(),
+            card.len(),
+            shed.as_ptr(),
+            shed.len(),
+            master.as_ptr(),
+            master.len(),
+            action,
+            &mut sheet,
+            &mut start,
+            &mut length,
+        )
+    };
+    done_with(answer, usize::from(sheet))?;
+    let sheet = Sheet::of(sheet);
+    let held = match sheet {
+        Sheet::Master => master,
+        Sheet::Shed => shed,
+    };
+    let part = &held[usize::from(start)..][..usize::from(length)];
+    Ok(Name {
+        sheet,
+        text: std::str::from_utf8(part).expect("a name is UTF-8"),
+    })
 }

@@ -1,4 +1,4 @@
-//! The functions of the archive, as rigtemple.h declares them: the eleven calls over the parts of a
+//! The functions of the archive, as rigtemple.h declares them: the twelve calls over the parts of a
 //! configuration. `beliefs` and `goals` point to 16 bytes each, `plan` to 1,024, `remaining` to 128.
 
 extern "C" {
@@ -125,5 +125,18 @@ extern "C" {
         text: *mut u8,
         room_in_bytes: usize,
         bytes: *mut u16,
+    ) -> u16;
+
+    pub fn rigtemple_name_parts(
+        card: *const u8,
+        card_len: usize,
+        shed: *const u8,
+        shed_len: usize,
+        master: *const u8,
+        master_len: usize,
+        action: u16,
+        sheet: *mut u8,
+        start: *mut u16,
+        length: *mut u16,
     ) -> u16;
 }

@@ -25,6 +25,9 @@ pub enum Refusal {
     Text(usize),
     Nested,
     Program,
+    /// A sheet breaks its rules; which of the two.
+    Sheet(Sheet),
+    NoAction,
     Large,
 }
 
@@ -55,11 +58,13 @@ impl Refusal {
             Refusal::Text(_) => (17, "text"),
             Refusal::Nested => (18, "nested"),
             Refusal::Program => (19, "program"),
+            Refusal::Sheet(_) => (20, "sheet"),
+            Refusal::NoAction => (21, "no action"),
             Refusal::Large => (25, "large"),
         }
     }
 
-    /// The refusal of a number, with the node or the place that is answered beside it.
+    /// The refusal of a number, with the node, the place or the sheet that is answered beside it.
     fn of(number: u16, carried: usize) -> Refusal {
         match number {
             1 => Refusal::Short,
@@ -80,6 +85,8 @@ impl Refusal {
             17 => Refusal::Text(carried),
             18 => Refusal::Nested,
             19 => Refusal::Program,
+            20 => Refusal::Sheet(Sheet::of(carried as u8)),
+            21 => Refusal::NoAction,
             25 => Refusal::Large,
             other => panic!("no refusal has the number {other}"),
         }
@@ -92,6 +99,8 @@ impl fmt::Display for Refusal {
         match self {
             Refusal::Condition(node) => write!(out, " (node {node})"),
             Refusal::Text(place) => write!(out, " (place {place})"),
+            Refusal::Sheet(Sheet::Master) => out.write_str(" (the master's)"),
+            Refusal::Sheet(Sheet::Shed) => out.write_str(" (the shed's)"),
             _ => Ok(()),
         }
     }
@@ -104,11 +113,24 @@ pub fn done(answer: u16) -> Result<(), Refusal> {
     done_with(answer, 0)
 }
 
-/// The same of a call that answers a node or a place beside its number.
+/// The same of a call that answers a node, a place or a sheet beside its number.
 pub fn done_with(answer: u16, carried: usize) -> Result<(), Refusal> {
     match answer {
         0 => Ok(()),
         number => Err(Refusal::of(number, carried)),
+    }
+}
+
+/// One of the two sheets of names.
+#[derive(Clone, Copy, Debug, PartialEq, Eq)]
+pub enum Sheet {
+    Master,
+    Shed,
+}
+
+impl Sheet {
+    pub(crate) fn of(number: u8) -> Sheet {
+        [Sheet::Master, Sheet::Shed][usize::from(number)]
     }
 }
 

@@ -2,7 +2,8 @@
 //! answered is held against the stored answers. `drill.md` says how both are written.
 
 use rigtemple::{
-    Configuration, Deliberated, DeliberationEnding, Ending, Offender, Refusal, Verdict, SET_BYTES,
+    Configuration, Deliberated, DeliberationEnding, Ending, Name, Offender, Refusal, Sheet,
+    Verdict, SET_BYTES,
 };
 
 /// What a lent list and a lent place are filled with.
@@ -199,6 +200,25 @@ fn print(card: &[u8], requests: &mut Requests, answers: &mut Answers) {
     written(answer, lent, answers);
 }
 
+/// Finds a name: where its part lies in its sheet is told by the two pointers.
+fn name(card: &[u8], requests: &mut Requests, answers: &mut Answers) {
+    let (shed, master) = (requests.counted(), requests.counted());
+    let answer = rigtemple::name(card, shed, master, requests.number());
+    answers.answer(&answer);
+    let (sheet, start, length) = match answer {
+        Ok(Name { sheet, text }) => {
+            let held = if sheet == Sheet::Shed { shed } else { master };
+            let start = text.as_ptr() as usize - held.as_ptr() as usize;
+            (sheet, start, text.len())
+        }
+        Err(Refusal::Sheet(sheet)) => (sheet, 0, 0),
+        Err(_) => (Sheet::Master, 0, 0),
+    };
+    answers.byte(u8::from(sheet == Sheet::Shed));
+    answers.number(start as u16);
+    answers.number(length as u16);
+}
+
 /// Loads and restores: a refusal answers the empty configuration.
 fn begun(answer: Result<Configuration, Refusal>, answers: &mut Answers) {
     answers.answer(&answer);
@@ -224,6 +244,7 @@ fn answer<'a>(card: &mut &'a [u8], requests: &mut Requests<'a>, answers: &mut An
         9 => text(requests, answers),
         10 => print(card, requests, answers),
         11 => deliberate(card, requests, answers),
+        12 => name(card, requests, answers),
         other => panic!("there is no request {other}"),
     }
 }

@@ -1,6 +1,6 @@
-//! The words of the answers, the codes of choices and the bytes of entries.
+//! The words of the answers, the codes of choices, the bytes of entries and the names of actions.
 
-use rigtemple::{Choice, DeliberationEnding, Entry, Refusal};
+use rigtemple::{Choice, DeliberationEnding, Entry, Refusal, Sheet};
 
 #[test]
 fn refusals_have_their_numbers_and_names() {
@@ -15,6 +15,11 @@ fn refusals_have_their_numbers_and_names() {
     assert_eq!(Refusal::Text(70000).to_string(), "text (place 70000)");
     assert_eq!(Refusal::Program.number(), 19);
     assert_eq!(Refusal::Program.to_string(), "program");
+    assert_eq!(Refusal::Sheet(Sheet::Shed).number(), 20);
+    let refused = Refusal::Sheet(Sheet::Shed).to_string();
+    assert_eq!(refused, "sheet (the shed's)");
+    assert_eq!(Refusal::NoAction.number(), 21);
+    assert_eq!(Refusal::NoAction.to_string(), "no action");
     assert_eq!(Refusal::Large.number(), 25);
 }
 
@@ -53,4 +58,27 @@ fn entries_make_a_program() {
     let broken = rigtemple::deliberate(&card, &program[..5], &mut c, 2);
     assert_eq!(broken, Err(Refusal::Program));
     assert_eq!(c, before);
+}
+
+#[test]
+fn names_are_those_of_two_sheets() {
+    let path = concat!(env!("CARGO_MANIFEST_DIR"), "/../../cards/stripe.card");
+    let card = std::fs::read(path).expect("the file is there");
+    let master = b"\x05\0\x0E\0\x13\0\x17\0\x1D\0\x21\0\x27\0weavewindrepairpickstripe";
+    let shed = b"\x05\0\x0E\0\x12\0\x17\0\x17\0\x1D\0\x1D\0v\xC3\xA4vspolainslag";
+    let named = |action| rigtemple::name(&card, shed, master, action).map(|it| (it.sheet, it.text));
+    assert_eq!(named(0), Ok((Sheet::Shed, "v\u{E4}v")));
+    assert_eq!(named(1), Ok((Sheet::Shed, "spola")));
+    assert_eq!(named(2), Ok((Sheet::Master, "repair")));
+    assert_eq!(named(4), Ok((Sheet::Master, "stripe")));
+    assert_eq!(named(5), Err(Refusal::NoAction));
+    let none = rigtemple::name(&card, &[], master, 0).expect("a shed may have no sheet");
+    assert_eq!((none.sheet, none.text), (Sheet::Master, "weave"));
+    let (shed_refused, master_refused) =
+        (Refusal::Sheet(Sheet::Shed), Refusal::Sheet(Sheet::Master));
+    assert_eq!(
+        rigtemple::name(&card, &shed[1..], &[], 5),
+        Err(shed_refused)
+    );
+    assert_eq!(rigtemple::name(&card, shed, shed, 5), Err(master_refused));
 }

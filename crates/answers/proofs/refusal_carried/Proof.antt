@@ -11,6 +11,9 @@ enum-known-r c = search needs
 enum-known-r-2 : tie.Need-enum-known-r-2
 enum-known-r-2 c = search needs
 
+enum-known-r-3 : tie.Need-enum-known-r-3
+enum-known-r-3 c = search needs
+
 returns : tie.Need-returns
 unfolding carried
 returns c = rw (c .before .r .given .1)
@@ -20,7 +23,11 @@ unfolding carried
 returns-2 c = rw (c .before .r2 .given .1)
 
 returns-3 : tie.Need-returns-3
-returns-3 c = sym (carries-nothing (c .before .args .r) (c .match .keys3))
+unfolding carried
+returns-3 c = rw (c .before .r3 .given .1)
+
+returns-4 : tie.Need-returns-4
+returns-4 c = sym (carries-nothing (c .before .args .r) (c .match .keys4))
 
 pub refusal-carried-spec : {M : Type 1} → statement M
-refusal-carried-spec = tie.close (tie.spec enum-known-r enum-known-r-2 returns returns-2 returns-3)
+refusal-carried-spec = tie.close (tie.spec enum-known-r enum-known-r-2 enum-known-r-3 returns returns-2 returns-3 returns-4)

@@ -60,6 +60,12 @@ enum-told-18 c = search needs
 enum-told-19 : tie.Need-enum-told-19
 enum-told-19 c = search needs
 
+enum-told-20 : tie.Need-enum-told-20
+enum-told-20 c = search needs
+
+enum-told-21 : tie.Need-enum-told-21
+enum-told-21 c = search needs
+
 returns : tie.Need-returns
 unfolding numberOf
 returns c = rw (c .enum-told .given .1)
@@ -136,6 +142,14 @@ returns-19 : tie.Need-returns-19
 unfolding numberOf
 returns-19 c = rw (c .enum-told19 .given .1)
 
+returns-20 : tie.Need-returns-20
+unfolding numberOf
+returns-20 c = rw (c .enum-told20 .given .1)
+
+returns-21 : tie.Need-returns-21
+unfolding numberOf
+returns-21 c = rw (c .enum-told21 .given .1)
+
 pub refusal-number-spec : {M : Type 1} → statement M
 refusal-number-spec =
     tie.close
@@ -159,6 +173,8 @@ refusal-number-spec =
     enum-told-17
     enum-told-18
     enum-told-19
+    enum-told-20
+    enum-told-21
     returns
     returns-2
     returns-3
@@ -177,4 +193,6 @@ refusal-number-spec =
     returns-16
     returns-17
     returns-18
-    returns-19)
+    returns-19
+    returns-20
+    returns-21)

@@ -1,0 +1,4 @@
+pub mod Sheets
+pub mod Rules
+pub mod Naming
+pub mod Told

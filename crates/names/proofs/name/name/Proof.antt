@@ -1,0 +1,74 @@
+use Rattle.names.specs.Naming.{asked}
+use Rattle.names.proofs.Naming.{own-sheet, other-sheet, ends-within, its-bytes, its-place}
+use native.Mathlib.Omega.{arith}
+use borrow.Author.Needs.{needs}
+use denote.Ref.{now}
+use Rattle.names.proofs.name.name.Statement.{statement}
+use Rattle.names.proofs.name.name.Tie as tie
+
+named-requires : tie.Need-named-requires
+named-requires c κs = search needs
+
+add-end : tie.Need-add-end
+add-end c = omega (arith, c .before .named .ensures .1)
+
+sub-result : tie.Need-sub-result
+sub-result c = search needs
+
+part-result-start : tie.Need-part-result-start
+part-result-start c = search needs
+
+part-result-end : tie.Need-part-result-end
+part-result-end c =
+    let a = c .before .before .before .before .before .before .before .args in
+    let q = asked (now (a .shed)) (now (a .master)) (a .action) in
+    let n = c .before .before .before .named in
+    ends-within (now (a .card)) q (n .result) (n .ensures .0) (now (a .shed)) (own-sheet (now (a .card)) q (n .result) (n .ensures .0) (now (a .shed)) (now (a .master)) (c .if1 .taken))
+
+returns : tie.Need-returns
+returns c =
+    let a = c .before .before .before .before .before .before .before .before .args in
+    let q = asked (now (a .shed)) (now (a .master)) (a .action) in
+    let n = c .before .before .before .before .named in
+    let h = c .before .if1 .taken in (
+      its-bytes (now (a .card)) q (n .result) (n .ensures .0) (now (a .shed)) (own-sheet (now (a .card)) q (n .result) (n .ensures .0) (now (a .shed)) (now (a .master)) h),
+      its-place (now (a .card)) q (n .result) (n .ensures .0) (a .shed .ptr) (a .master .ptr) (a .shed .ptr) (own-sheet (now (a .card)) q (n .result) (n .ensures .0) (a .shed .ptr) (a .master .ptr) h),
+    )
+
+sub-result-2 : tie.Need-sub-result-2
+sub-result-2 c = search needs
+
+part-result-start-2 : tie.Need-part-result-start-2
+part-result-start-2 c = search needs
+
+part-result-end-2 : tie.Need-part-result-end-2
+part-result-end-2 c =
+    let a = c .before .before .before .before .before .before .before .args in
+    let q = asked (now (a .shed)) (now (a .master)) (a .action) in
+    let n = c .before .before .before .named in
+    ends-within (now (a .card)) q (n .result) (n .ensures .0) (now (a .master)) (other-sheet (now (a .card)) q (n .result) (n .ensures .0) (now (a .shed)) (now (a .master)) (c .if1 .left))
+
+returns-2 : tie.Need-returns-2
+returns-2 c =
+    let a = c .before .before .before .before .before .before .before .before .args in
+    let q = asked (now (a .shed)) (now (a .master)) (a .action) in
+    let n = c .before .before .before .before .named in
+    let h = c .before .if1 .left in (
+      its-bytes (now (a .card)) q (n .result) (n .ensures .0) (now (a .master)) (other-sheet (now (a .card)) q (n .result) (n .ensures .0) (now (a .shed)) (now (a .master)) h),
+      its-place (now (a .card)) q (n .result) (n .ensures .0) (a .shed .ptr) (a .master .ptr) (a .master .ptr) (other-sheet (now (a .card)) q (n .result) (n .ensures .0) (a .shed .ptr) (a .master .ptr) h),
+    )
+
+pub name-spec : {M : Type 1} → statement M
+name-spec =
+    tie.close
+    (tie.spec
+    named-requires
+    add-end
+    sub-result
+    part-result-start
+    part-result-end
+    returns
+    sub-result-2
+    part-result-start-2
+    part-result-end-2
+    returns-2)

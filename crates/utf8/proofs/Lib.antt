@@ -1,0 +1,4 @@
+pub mod FirstByte
+pub mod Steps
+pub mod Grammar
+pub mod Characters
