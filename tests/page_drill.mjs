@@ -17,11 +17,10 @@ const [folder, option] = process.argv.slice(2);
 const page = await import(pathToFileURL(join(folder, "rigtemple.js")));
 const header = readFileSync(join(folder, "rigtemple.h"), "utf8");
 const module = new WebAssembly.Module(readFileSync(join(folder, "rigtemple.wasm")));
-const guarded = new Guarded(new WebAssembly.Instance(module), header);
+const PAGES = 4; // enough for the largest request
+const guarded = new Guarded(new WebAssembly.Instance(module), header, PAGES);
 const guide = page.guideOf(guarded);
 const LENT = 0xee;
-const PAGES = 4; // enough for the largest request, so that nothing is added while a call is made
-guarded.own.memory.grow(PAGES - 1);
 
 // ---- requests in, answers out
 
@@ -168,9 +167,8 @@ const requests = {
 
 while (at < input.length) {
   const request = requests[getNumber(255, 1)] ?? end(1);
-  guarded.bytes.fill(LENT, guarded.heap);
+  guarded.bytes.fill(LENT, guarded.heap, guarded.arena);
   request();
-  if (guarded.bytes.length !== 65536 * PAGES) end(3);
 }
 if (option === "--stack") for (const [name, bytes] of Object.entries(guarded.stack)) console.log(`${name} ${bytes}`);
 end(0);
