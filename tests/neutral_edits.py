@@ -17,6 +17,7 @@ OTHERS = "a function of others that is not known here"
 POINTER = "a place for a pointer is used otherwise"
 NUMBER = "a number is read or written where a pointer lies"
 MOVE = "call void @llvm.memmove.p0.p0.i64(ptr {0}, ptr {0}, i64 8, i1 false)".format(r"\2")
+SLICE = r"((%\w+) = alloca \[16 x i8\], align 8\n  store ptr .*)"
 
 # What is changed, by the first place of a pattern that fits, and the reason.
 EDITS = [
@@ -36,7 +37,7 @@ EDITS = [
     ("a place for a pointer moved by bytes", r"(  (%\w+) = alloca ptr, align 8)", r"\1\n  " + MOVE, POINTER),
     ("a place for a pointer handed on", r"(  (%\w+) = alloca ptr, align 8)", r"\1\n  store ptr \2, ptr \2, align 8", POINTER),
     ("a place for a pointer read as a number", r"(  (%\w+) = alloca ptr, align 8)", r"\1\n  %n = load i64, ptr \2, align 8", POINTER),
-    ("a pointer's bytes read as a number", r"((%\w+) = alloca \[16 x i8\], align 8\n  store ptr .*)", r"\1\n  %n = load i32, ptr \2, align 4", NUMBER),
+    ("a pointer's bytes read as a number", SLICE, r"\1\n  %n = load i32, ptr \2, align 4", NUMBER),
     ("numbers of 128 bits", r"= add nuw i64 ", "= add nuw i128 ", FORM),
     ("numbers of a fraction", r"= add nuw i64 (%\w+), \d+", r"= fadd double \1, 1.0", FORM),
     ("vectors", r"= load i64, ptr", "= load <2 x i64>, ptr", FORM),

@@ -47,24 +47,48 @@ await test("from bytes, from a buffer and from a module", async () => {
   }
 });
 
-await test("as a page does, from a server", async () => {
+/* Does something with a server of the folder's files, by its address. */
+async function served(body) {
   const server = createServer((request, response) => {
     const name = request.url.slice(1);
     if (!/^[\w.]+$/.test(name) || name === "missing.wasm") return response.writeHead(404).end();
     response.writeHead(200).end(readFileSync(join(folder, name)));
   });
   await new Promise((done) => server.listen(0, "127.0.0.1", done));
-  const at = `http://127.0.0.1:${server.address().port}/`;
   try {
-    const fetched = await page.open(fetch(at + "rigtemple.wasm"));
-    const card = new Uint8Array(await (await fetch(at + "stripe.card")).arrayBuffer());
-    assert.equal(fetched.load(card).name, "done");
-    await assert.rejects(page.open(fetch(at + "missing.wasm")), /404/);
+    await body(`http://127.0.0.1:${server.address().port}/`);
   } finally {
     server.closeAllConnections();
     server.close();
   }
-});
+}
+
+await test("from a server", () => served(async (at) => {
+  assert.equal((await page.open(fetch(at + "rigtemple.wasm"))).check(stripe).name, "done");
+  await assert.rejects(page.open(fetch(at + "missing.wasm")), /404/);
+}));
+
+/* The lines that begin with the import, of a document: what it shows of a page, as a module's bytes. */
+function shown(text, after) {
+  const lines = text.slice(text.indexOf("    import { open }")).split("\n");
+  const end = lines.findIndex((line) => line !== "" && !line.startsWith("    "));
+  const beside = pathToFileURL(join(folder, "rigtemple.js")).href;
+  const code = lines.slice(0, end).join("\n").replace('"./rigtemple.js"', JSON.stringify(beside));
+  return `data:text/javascript,${encodeURIComponent(code + after)}`;
+}
+
+await test("as docs/API.md and HOW-TO-LINK.txt show it", () => served(async (at) => {
+  const own = globalThis.fetch;
+  globalThis.fetch = (name) => own(at + name);
+  try {
+    const { place } = await import(shown(words(root, "docs", "API.md"), "\nexport { place };"));
+    assert.equal(place.length, 45);
+    const { answer, name } = await import(shown(words(folder, "HOW-TO-LINK.txt"), "\nexport { answer, name };"));
+    assert.deepEqual([answer, name], [0, "done"]);
+  } finally {
+    globalThis.fetch = own;
+  }
+}));
 
 // ---- docs/API.md: from a card to a saved place and back
 
@@ -81,7 +105,8 @@ await test("from a card to a saved place and back", () => {
   assert.equal(taken.answer, 0);
   assert.deepEqual([taken.configuration.plan[0], taken.configuration.length, taken.configuration.phase], [4, 1, 1]);
   const saved = guide.save(stripe, taken.configuration);
-  assert.equal(Buffer.from(saved.place).toString("hex"), "33500100" + "01002c000100" + "0000" + "09" + "00".repeat(15) + "04" + "00".repeat(15) + "04");
+  const head = "335001000100" + "2c0001000000";
+  assert.equal(Buffer.from(saved.place).toString("hex"), `${head}09${"00".repeat(15)}04${"00".repeat(15)}04`);
   const restored = guide.restore(stripe, saved.place);
   assert.deepEqual(restored.configuration, taken.configuration);
   const ran = guide.run(stripe, restored.configuration, 1000);
@@ -138,7 +163,8 @@ await test("a false condition is told with its node", () => {
 });
 
 await test("the names are docs/API.md's, and no number has another", () => {
-  const table = new Map([...words(root, "docs", "API.md").matchAll(/^\| (\d+) \| ([a-z ]+) \| /gm)].map(([, n, name]) => [Number(n), name]));
+  const rows = words(root, "docs", "API.md").matchAll(/^\| (\d+) \| ([a-z ]+) \| /gm);
+  const table = new Map([...rows].map(([, n, name]) => [Number(n), name]));
   for (let n = 0; n < 30; n++) assert.equal(page.answerName(n), table.get(n) ?? "no answer of the guide");
 });
 

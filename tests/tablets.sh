@@ -11,7 +11,7 @@
 # --cases, --texts and --programs are those of tests/compare.py. --emulated takes Debian's compiler
 # and emulator for 64-bit Arm on an Arm machine too. Beside the kit and Python 3 it needs Debian's
 # packages nodejs and, on an Arm machine, gcc, elsewhere gcc-aarch64-linux-gnu and qemu-user. Where
-# there are cmake, and clang with lld, these are tried too.
+# there are tsc (node-typescript) and cmake, the types and a build by CMake are tried too.
 set -eu
 
 die() { printf 'tablets.sh: %s\n' "$*" >&2; exit 2; }
@@ -97,6 +97,37 @@ expect 'no path of this machine is in it' not grep -rqF "$root" "$folder"
 expect 'nothing else is asked for' not "$root/tablets" --engine
 expect 'a file in its place' not "$root/tablets" "$root/crates.txt"
 
+# What it stops for, in words: in a house of its own, with the module and the archive of this one.
+says() { # PART COMMAND...
+    part=$1 ended=0
+    shift
+    "$@" >"$room/words" 2>&1 || ended=$?
+    cat "$room/words"
+    [ "$ended" -eq 2 ] && grep -qF "$part" "$room/words"
+}
+house=$room/house
+mkdir -p "$house/crates/board" "$house/cards" "$house/target/staticlib" "$room/bare"
+cp -R "$root/tablets" "$root/tests" "$root/include" "$root/tablet" "$root/crates.txt" "$house"
+cp "$root/cards/stripe.card" "$house/cards"
+for tool in readlink dirname; do ln -s "$(command -v "$tool")" "$room/bare/$tool"; done
+made_of() { # ARCHIVE
+    cp "$1" "$house/target/staticlib/libboard.a"
+    rm -rf "$house/target/module"
+    cp -R "$root/target/module" "$house/target/module"
+}
+expect 'without Python it names the package' says "install Debian's package python3" \
+    env PATH="$room/bare" /bin/sh "$root/tablets" "$room/none"
+made_of "$folder/aarch64/librigtemple.a"
+expect 'an archive of another module is told' says 'is not made of' "$house/tablets"
+made_of "$folder/x86_64/librigtemple.a"
+echo -fomit-frame-pointer >>"$house/target/module/words"
+expect 'a word of the compiler that is not known is told' \
+    says 'with -fomit-frame-pointer, which is not known here' "$house/tablets"
+sed -i 's/^uint16_t rigtemple_check_parts(/uint16_t rigtemple_checked_parts(/' \
+    "$house/include/rigtemple.h"
+expect 'another header is told' says 'the header does not declare it' "$house/tablets"
+expect 'nothing is left then' test ! -e "$house/target/tablets"
+
 # What ./tablets looks for in the module, and refuses.
 "${own:?}/clang" --target=x86_64-unknown-linux-gnu -O0 -Xclang -disable-llvm-passes -x ir -S \
     -emit-llvm "$root/target/module/module.bc" -o "$room/module.ll"
@@ -137,6 +168,17 @@ page_drill() { node "$tests/page_drill.mjs" "$folder" "$@"; }
 stored_page() { page_drill <"$root/crates/drill/stdin" | cmp - "$root/crates/drill/stdout"; }
 expect 'the stored requests in a page' stored_page
 count 'the JavaScript module' node "$tests/page.mjs" "$folder"
+typed() {
+    mkdir "$room/types"
+    cp "$tests/page_types.ts" "$folder/rigtemple.js" "$folder/rigtemple.d.ts" "$room/types"
+    (cd "$room/types" && tsc --noEmit --strict --target es2022 --module es2022 \
+        --moduleResolution node --lib es2022,dom page_types.ts)
+}
+if command -v tsc >/dev/null; then
+    expect 'the types of the JavaScript module' typed
+else
+    printf "its types are not tried: there is no tsc (Debian's package node-typescript)\n"
+fi
 
 # ---- stack and room
 
