@@ -165,7 +165,7 @@ export function guideOf(instance) {
     return [lent.bytes(parts.beliefs), lent.bytes(parts.goals), lent.bytes(parts.plan), parts.length, parts.phase, parts.finished];
   }
 
-  /* A configuration that a call changes, and what it became. */
+  /* A configuration that a call changes: its numbers are lent too. */
   function lend(lent, c) {
     const parts = asParts(c);
     return [
@@ -173,7 +173,8 @@ export function guideOf(instance) {
       lent.number(parts.length, 2), lent.number(parts.phase, 1), lent.number(parts.finished, 2),
     ];
   }
-  /* Room for a configuration that a call makes. */
+
+  /* Room for a configuration that a call makes, and the one that lies there. */
   function roomForConfiguration(lent) {
     return [SET_BYTES, SET_BYTES, MOST_PLAN_ACTIONS, 2, 1, 2].map((bytes) => lent.room(bytes));
   }

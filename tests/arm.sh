@@ -11,7 +11,8 @@ aarch64 | arm64)
     ;;
 *)
     command -v aarch64-linux-gnu-gcc >/dev/null ||
-        die "there is no C compiler for 64-bit Arm: install Debian's package gcc-aarch64-linux-gnu"
+        die "there is no C compiler for 64-bit Arm: install Debian's packages" \
+            "gcc-aarch64-linux-gnu and libc6-dev-arm64-cross"
     command -v qemu-aarch64 >/dev/null ||
         die "there is no emulator for 64-bit Arm: install Debian's package qemu-user"
     # shellcheck disable=SC2034  # for the script that reads this
