@@ -256,8 +256,7 @@ def main():
             cards, runs, failed = cards + held.cards, runs + held.runs, failed + held.failed
     print(cases.table(met))
     requests = sum(sum(column) for column in met)
-    others = f", through other programs: {len(options.drill)}"
-    through = others if options.drill else f" and {runs} runs of the program"
+    through = f", each through {len(options.drill)} programs" if options.drill else f" and {runs} runs of the program"
     print(f"{requests} requests about {cards} cards{through}, by seed {options.seed}")
     print(f"{requests * max(1, len(options.drill)) + runs - failed} passed, {failed} failed")
     sys.exit(1 if failed else 0)
