@@ -9,6 +9,7 @@ export declare const MOST_LIST_ENTRIES: 768;
 export declare const MOST_PRINTED_BYTES: 894;
 export declare const MOST_PROGRAM_BYTES: 512;
 export declare const MOST_REMAINING: 128;
+export declare const MOST_SHEET_BYTES: 65535;
 export declare const NO_CHOICE: 65535;
 
 export type Kind = "selection" | "action" | "revision";
@@ -16,12 +17,14 @@ export type Ending = "spent" | "rest" | "full";
 export type DeliberationEnding = "spent" | "finished" | "stuck" | "full";
 export type Verdict = "bounded" | "open";
 export type Offender = "none" | "initial plan" | "selection" | "revision";
+export type Sheet = "master" | "shed";
 
 export declare const KINDS: readonly Kind[];
 export declare const ENDINGS: readonly Ending[];
 export declare const DELIBERATION_ENDINGS: readonly DeliberationEnding[];
 export declare const VERDICTS: readonly Verdict[];
 export declare const OFFENDERS: readonly Offender[];
+export declare const SHEETS: readonly Sheet[];
 
 /** The name of an answer: "plan full" for 11. */
 export declare function answerName(answer: number): string;
@@ -99,6 +102,17 @@ export interface Printed extends Answer {
   text: string;
 }
 
+export interface Named extends Answer {
+  /** The sheet that the action's name lies in; with 20 the one that is refused, with another refusal the master's. */
+  sheet: Sheet;
+  /** Where in that sheet it begins, and how many bytes it has; 0 and 0 after a refusal. */
+  start: number;
+  length: number;
+  /** The action's name: as bytes of their own, and as text; empty after a refusal. */
+  bytes: Uint8Array;
+  text: string;
+}
+
 /** The guide's calls. A room that is left out is always enough. */
 export interface Guide {
   check(card: Uint8Array): Answer;
@@ -112,6 +126,8 @@ export interface Guide {
   restore(card: Uint8Array, place: Uint8Array): Reached;
   text(text: Uint8Array, roomInBytes?: number): Read;
   print(card: Uint8Array, node: number, roomInBytes?: number): Printed;
+  /** A shed that has no sheet gives null or undefined, or one of no bytes. */
+  name(card: Uint8Array, shed: Uint8Array | null | undefined, master: Uint8Array, action: number): Named;
 }
 
 /** The guide of a rigtemple.wasm: of its bytes, of what fetch gives, or of a module that is compiled already. */

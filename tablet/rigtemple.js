@@ -11,7 +11,7 @@
  * be any; what is not a Uint8Array, or a number that its field cannot hold, is a mistake of the page, and throws.
  */
 
-export const VERSION = "3.1";
+export const VERSION = "3.2";
 
 /* Sizes, as rigtemple.h has them. */
 export const SET_BYTES = 16;
@@ -22,6 +22,7 @@ export const MOST_LIST_ENTRIES = 768;
 export const MOST_PRINTED_BYTES = 894;
 export const MOST_PROGRAM_BYTES = 512;
 export const MOST_REMAINING = 128;
+export const MOST_SHEET_BYTES = 65535;
 
 /* What an answer's numbers stand for, by their place from 0. */
 export const KINDS = ["selection", "action", "revision"];
@@ -29,11 +30,12 @@ export const ENDINGS = ["spent", "rest", "full"];
 export const DELIBERATION_ENDINGS = ["spent", "finished", "stuck", "full"];
 export const VERDICTS = ["bounded", "open"];
 export const OFFENDERS = ["none", "initial plan", "selection", "revision"];
+export const SHEETS = ["master", "shed"];
 
 const NAMES = {
   0: "done", 1: "short", 2: "mark", 3: "count", 4: "offsets", 5: "weight", 6: "node", 7: "rule", 8: "action byte", 9: "atom",
   10: "given up", 11: "plan full", 12: "no room", 13: "configuration", 14: "no rule", 15: "front", 16: "condition", 17: "text",
-  18: "nested", 19: "program", 25: "large",
+  18: "nested", 19: "program", 20: "sheet", 21: "no action", 25: "large",
 };
 
 /* The name of an answer: "plan full" for 11. */
@@ -133,6 +135,9 @@ function asNumber(value, what, most) {
   if (!Number.isInteger(value) || value < 0 || value > most) throw new RangeError(`${what} is ${value}, not 0 to ${most}`);
   return value;
 }
+
+/* A name's bytes as a string: a byte order mark is a character of it like others. */
+const UTF8 = new TextDecoder("utf-8", { ignoreBOM: true });
 
 /* A configuration of the page's, looked at. */
 function asParts(c) {
@@ -310,6 +315,21 @@ export function guideOf(instance) {
       const bytes = lent.room(2);
       const said = ask("print", ...given, node, text, BigInt(room), bytes);
       return { ...said, text: String.fromCharCode(...lent.bytesAt(text, lent.numberAt(bytes))) };
+    },
+
+    /* The name of an action: in the shed's sheet, which may be left out or null for none, or in the master's. */
+    name(card, shed, master, action) {
+      const lent = new Lent(exports);
+      const given = pair(lent, asBytes(card, "the card"));
+      const own = pair(lent, asBytes(shed ?? new Uint8Array(), "the shed's sheet"));
+      const masters = pair(lent, asBytes(master, "the master's sheet"));
+      asNumber(action, "the action", 65535);
+      const [which, from, count] = [lent.room(1), lent.room(2), lent.room(2)];
+      const said = ask("name", ...given, ...own, ...masters, action, which, from, count);
+      const [sheet, start, length] = [SHEETS[lent.byteAt(which)], lent.numberAt(from), lent.numberAt(count)];
+      const [at] = said.answer === 0 && sheet === "shed" ? own : masters;
+      const bytes = lent.bytesAt(at + start, length);
+      return { ...said, sheet, start, length, bytes, text: UTF8.decode(bytes) };
     },
   };
 }

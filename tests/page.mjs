@@ -20,6 +20,8 @@ const header = words(folder, "rigtemple.h");
 const types = words(folder, "rigtemple.d.ts");
 const stripe = read(root, "cards", "stripe.card");
 const maximal = read(root, "cards", "maximal.card");
+const english = read(root, "cards", "stripe.en.sheet");
+const swedish = read(root, "cards", "stripe.sv.sheet");
 const guide = await page.open(wasm);
 let passed = 0;
 let failed = 0;
@@ -37,6 +39,14 @@ const atoms = (...numbers) => {
   const set = new Uint8Array(16);
   for (const k of numbers) set[k >> 3] |= 1 << (k & 7);
   return set;
+};
+/* A sheet with a name for each action, in the order of their numbers. */
+const sheetOf = (names) => {
+  const parts = names.map((name) => Buffer.from(name));
+  const offsets = [2 * names.length + 4];
+  for (const part of parts) offsets.push(offsets.at(-1) + part.length);
+  const numbers = [names.length, ...offsets].flatMap((number) => [number & 255, number >> 8]);
+  return new Uint8Array(Buffer.concat([Buffer.from(numbers), ...parts]));
 };
 
 // ---- how it is opened
@@ -132,6 +142,37 @@ await test("a text, and back", () => {
   assert.deepEqual(guide.print(stripe, 4), { answer: 0, name: "done", text: "B1&!B3" });
 });
 
+// ---- docs/API.md: names
+
+await test("names in two languages", () => {
+  const named = (shed, action) => {
+    const { sheet, start, length, text, ...rest } = guide.name(stripe, shed, english, action);
+    assert.deepEqual(rest, { answer: 0, name: "done", bytes: new Uint8Array(Buffer.from(text)) });
+    return [sheet, start, length, text];
+  };
+  assert.deepEqual(named(swedish, 0), ["shed", 14, 4, "väv"]);
+  assert.deepEqual(named(swedish, 2), ["master", 23, 6, "repair"]);
+  for (const none of [null, undefined, new Uint8Array()]) assert.deepEqual(named(none, 0), ["master", 14, 5, "weave"]);
+  assert.deepEqual([english, swedish], [sheetOf(["weave", "wind", "repair", "pick", "stripe"]), sheetOf(["väv", "spola", "", "inslag", ""])]);
+});
+
+await test("every character of a name is in its text", () => {
+  const names = ["\uFEFFmark", "a\0b", "\uFFFF\u{10FFFF}", "\uFEFF", "\uFFFD"];
+  const master = sheetOf(names);
+  names.forEach((name, action) => assert.equal(guide.name(stripe, null, master, action).text, name));
+});
+
+await test("a name that is refused, and which sheet", () => {
+  const none = { start: 0, length: 0, bytes: new Uint8Array(), text: "" };
+  const [cut, other] = [english.slice(0, -1), sheetOf(["one"])];
+  const sheet = { answer: 20, name: "sheet", ...none };
+  assert.deepEqual(guide.name(stripe, cut, other, 9), { ...sheet, sheet: "shed" });
+  assert.deepEqual(guide.name(stripe, swedish, cut, 9), { ...sheet, sheet: "master" });
+  assert.deepEqual(guide.name(stripe, english, swedish, 0), { ...sheet, sheet: "master" });
+  assert.deepEqual(guide.name(stripe, swedish, english, 5), { answer: 21, name: "no action", sheet: "master", ...none });
+  assert.deepEqual(guide.name(new Uint8Array(), cut, cut, 9), { answer: 1, name: "short", sheet: "master", ...none });
+});
+
 // ---- refusals, by name
 
 await test("refusals have their names", () => {
@@ -178,6 +219,11 @@ await test("nothing that is handed in is changed, and an answer has bytes of its
   const copy = structuredClone(taken);
   guide.run(card, taken, 1000);
   assert.deepEqual([card, first, taken], [stripe, kept, copy]);
+  const [shed, master] = [swedish.slice(), english.slice()];
+  const named = guide.name(card, shed, master, 0);
+  guide.name(card, null, master, 1);
+  named.bytes.fill(0);
+  assert.deepEqual([card, shed, master, guide.name(card, shed, master, 0).text], [stripe, swedish, english, "väv"]);
 });
 
 await test("what is no bytes or no such number throws", () => {
@@ -186,6 +232,8 @@ await test("what is no bytes or no such number throws", () => {
     assert.throws(() => guide.check(bad), TypeError);
     assert.throws(() => guide.list(stripe, { ...c, plan: bad }), TypeError);
     assert.throws(() => guide.deliberate(stripe, bad, c, 1), TypeError);
+    assert.throws(() => guide.name(stripe, swedish, bad, 0), TypeError);
+    if (bad != null) assert.throws(() => guide.name(stripe, bad, english, 0), TypeError);
   }
   assert.throws(() => guide.list(stripe, { ...c, beliefs: new Uint8Array(15) }), RangeError);
   assert.throws(() => guide.list(stripe, { ...c, plan: new Uint8Array(1025) }), RangeError);
@@ -194,6 +242,7 @@ await test("what is no bytes or no such number throws", () => {
     assert.throws(() => guide.run(stripe, c, bad), RangeError);
     assert.throws(() => guide.deliberate(stripe, stripe, c, bad), RangeError);
     assert.throws(() => guide.print(stripe, bad), RangeError);
+    assert.throws(() => guide.name(stripe, swedish, english, bad), RangeError);
     assert.throws(() => guide.save(stripe, { ...c, finished: bad }), RangeError);
   }
   assert.throws(() => guide.run(stripe, { ...c, phase: 256 }, 1), RangeError);
@@ -216,7 +265,7 @@ await test("one page of memory is enough for the largest card, and a long text g
   for (const asked of [
     small.check(maximal), small.grade(maximal), small.list(maximal, full), small.take(maximal, full, 0), small.run(maximal, full, 1000),
     small.deliberate(maximal, program, full, 10), small.save(maximal, full), small.restore(maximal, small.save(maximal, full).place),
-    small.print(maximal, 0), small.text(read(root, "cards", "stripe.text")),
+    small.print(maximal, 0), small.text(read(root, "cards", "stripe.text")), small.name(stripe, swedish, english, 0),
   ]) {
     assert.ok([0, 14, 15, 16].includes(asked.answer), asked.name);
   }
@@ -224,6 +273,21 @@ await test("one page of memory is enough for the largest card, and a long text g
   const long = Buffer.concat([read(root, "cards", "stripe.text"), Buffer.from(`# ${"x".repeat(300000)}\n`)]);
   assert.deepEqual(small.text(new Uint8Array(long)).card, small.text(read(root, "cards", "stripe.text")).card);
   assert.ok(instance.exports.memory.buffer.byteLength > 300000);
+});
+
+await test("two sheets of the most bytes get memory", () => {
+  const instance = new WebAssembly.Instance(new WebAssembly.Module(wasm));
+  const large = page.guideOf(instance);
+  const names = Array.from({ length: 256 }, (_, i) => `${i}`.padEnd(i < 255 ? 254 : 249, "x"));
+  const own = names.map((name, i) => (i % 2 === 0 ? `shed's ${name}`.padEnd(name.length + names[i + 1].length, "y") : ""));
+  const [shed, master] = [sheetOf(own), sheetOf(names)];
+  assert.deepEqual([shed.length, master.length], [page.MOST_SHEET_BYTES, page.MOST_SHEET_BYTES]);
+  for (const action of [0, 1, 254, 255]) {
+    const { answer, sheet, text } = large.name(maximal, shed, master, action);
+    assert.deepEqual([answer, sheet, text], [0, own[action] ? "shed" : "master", own[action] || names[action]]);
+  }
+  assert.equal(large.name(maximal, new Uint8Array(page.MOST_SHEET_BYTES + 1), master, 0).answer, 20);
+  assert.ok(instance.exports.memory.buffer.byteLength > maximal.length + 2 * page.MOST_SHEET_BYTES);
 });
 
 await test("what a guide does leaves nothing in another", async () => {
@@ -253,7 +317,7 @@ await test("what is exported has a type", () => {
   const typed = [...types.matchAll(/^export declare (?:const|function) (\w+)/gm)].map(([, name]) => name);
   assert.deepEqual(typed.sort(), Object.keys(page).sort());
   for (const [name, list] of [["Kind", page.KINDS], ["Ending", page.ENDINGS], ["DeliberationEnding", page.DELIBERATION_ENDINGS],
-    ["Verdict", page.VERDICTS], ["Offender", page.OFFENDERS]]) {
+    ["Verdict", page.VERDICTS], ["Offender", page.OFFENDERS], ["Sheet", page.SHEETS]]) {
     assert.ok(types.includes(`export type ${name} = ${list.map((word) => `"${word}"`).join(" | ")};`), name);
   }
 });

@@ -163,6 +163,17 @@ const requests = {
     putNumber(remaining.length);
     put(remaining);
   },
+  12() {
+    const [shed, master] = [getBytes(getNumber()), getBytes(getNumber())];
+    const { answer, sheet, start, length, bytes, text } = guide.name(card, shed, master, getNumber());
+    const held = answer === 0 && sheet === "shed" ? shed : master;
+    if (bytes.length !== length || Buffer.compare(bytes, held.subarray(start, start + length)) !== 0) end(3);
+    if (Buffer.compare(Buffer.from(text), bytes) !== 0) end(3);
+    putNumber(answer);
+    putWord(page.SHEETS, sheet);
+    putNumber(start);
+    putNumber(length);
+  },
 };
 
 while (at < input.length) {
