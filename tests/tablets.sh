@@ -6,13 +6,13 @@
 # call is measured, and what a page and an app for Android do is tried as far as it can be here. The
 # last line is 'N passed, M failed'.
 #
-#   tests/tablets.sh [--seed N] [--cases N] [--texts N] [--programs N] [--emulated]
+#   tests/tablets.sh [--seed N] [--cases N] [--texts N] [--programs N] [--names N] [--emulated]
 #
-# --cases, --texts and --programs are those of tests/compare.py. --emulated takes Debian's compiler
-# and emulator for 64-bit Arm on an Arm machine too. Beside the kit and Python 3 it needs Debian's
-# packages nodejs and, on an Arm machine, gcc, elsewhere gcc-aarch64-linux-gnu, libc6-dev-arm64-cross
-# and qemu-user. Where there are tsc (node-typescript) and cmake, the types and a build by CMake are
-# tried too.
+# --cases, --texts, --programs and --names are those of tests/compare.py. --emulated takes Debian's
+# compiler and emulator for 64-bit Arm on an Arm machine too. Beside the kit and Python 3 it needs
+# Debian's packages nodejs and, on an Arm machine, gcc, elsewhere gcc-aarch64-linux-gnu,
+# libc6-dev-arm64-cross and qemu-user. Where there are tsc (node-typescript) and cmake, the types and
+# a build by CMake are tried too.
 set -eu
 
 die() { printf 'tablets.sh: %s\n' "$*" >&2; exit 2; }
@@ -21,6 +21,7 @@ seed=1
 cases=2000
 texts=50
 programs=50
+names=50
 emulated=
 while [ $# -gt 0 ]; do
     case $1 in
@@ -28,8 +29,10 @@ while [ $# -gt 0 ]; do
     --cases) cases=${2:?--cases takes a number}; shift ;;
     --texts) texts=${2:?--texts takes a number}; shift ;;
     --programs) programs=${2:?--programs takes a number}; shift ;;
+    --names) names=${2:?--names takes a number}; shift ;;
     --emulated) emulated=yes ;;
-    *) die "usage: tablets.sh [--seed N] [--cases N] [--texts N] [--programs N] [--emulated]" ;;
+    *) die "usage: tablets.sh [--seed N] [--cases N] [--texts N] [--programs N] [--names N]" \
+        "[--emulated]" ;;
     esac
     shift
 done
@@ -153,8 +156,8 @@ run_arm() { # PROGRAM ARGUMENT...
 build_arm arm_drill "$tests/header_drill.c"
 stored_arm() { run_arm arm_drill <"$root/crates/drill/stdin" | cmp - "$root/crates/drill/stdout"; }
 expect 'the stored requests on 64-bit Arm' stored_arm
-for program in eight_calls text_calls deliberate_calls; do
-    build_arm "$program" "$tests/$program.c" "$tests/cards.c" "$tests/programs.c"
+for program in eight_calls text_calls deliberate_calls name_calls; do
+    build_arm "$program" "$tests/$program.c" "$tests/cards.c" "$tests/programs.c" "$tests/sheets.c"
     count "$program on 64-bit Arm" run_arm "$program"
 done
 
@@ -184,11 +187,13 @@ fi
 # ---- stack and room
 
 # All that an app lends with the largest card: the card, a configuration, a list, a place, a program
-# and what remains of it. To read a text it lends the card alone, and the text.
+# and what remains of it. To read a text it lends the card alone, and the text; for a name two sheets
+# too, here with 40 bytes for each of 256 actions.
 lent=$((24128 + 1062 + 2 * 768 + 44 + 1024 + 512 + 128))
+sheets=$((2 * (2 * 256 + 4 + 256 * 40)))
 stack_arm() {
     build_arm stack "$tests/stack.c" "$tests/calls.c" "$tests/cards.c" "$tests/programs.c" \
-        "$tests/texts.c"
+        "$tests/sheets.c" "$tests/texts.c"
     run_arm stack >"$room/arm.stack"
 }
 stack_page() {
@@ -198,8 +203,11 @@ stack_page() {
 # Each call within its bound, and with what is lent within 65,536 bytes.
 within() { # PROCESSOR
     while read -r call bytes; do
-        case $call in deliberate) most=4096 ;; text) most=34816 ;; *) most=2304 ;; esac
-        case $call in text) all=$((24128 + bytes)) ;; *) all=$((lent + bytes)) ;; esac
+        most=2304 all=$((lent + bytes))
+        case $call in
+        text) most=34816 all=$((24128 + bytes)) ;;
+        name) all=$((lent + sheets + bytes)) ;;
+        esac
         if [ "$bytes" -gt "$most" ] || [ "$all" -gt 65536 ]; then
             echo "$call takes $bytes bytes of stack, with what is lent $all"
             return 1
@@ -224,7 +232,7 @@ expect 'stack and room in a page' within page
 # ---- fresh cases
 
 count "seed $seed, fresh requests through both" python3 -B "$tests/compare.py" --seed "$seed" \
-    --cases "$cases" --texts "$texts" --programs "$programs" \
+    --cases "$cases" --texts "$texts" --programs "$programs" --names "$names" \
     --drill "${arm_run:+$arm_run }'$room/arm_drill'" --drill "node '$tests/page_drill.mjs' '$folder'"
 grep ' requests about ' "$room/said" || :
 
