@@ -141,11 +141,12 @@ count 'changes of the module that are refused' \
 # ---- 64-bit Arm
 
 arm=$folder/aarch64/librigtemple.a
+# With -D_DEFAULT_SOURCE the C library's headers have what Linux adds to C11's.
 build_arm() { # PROGRAM FILE...
     built=$room/$1
     shift
     # shellcheck disable=SC2086  # words
-    ${arm_cc:?} -std=c11 -O2 -Wall -Wextra -Werror -o "$built" "$@" "$arm"
+    ${arm_cc:?} -std=c11 -D_DEFAULT_SOURCE -O2 -Wall -Wextra -Werror -o "$built" "$@" "$arm"
 }
 run_arm() { # PROGRAM ARGUMENT...
     run=$room/$1
