@@ -45,6 +45,8 @@ command -v node >/dev/null || die "node is missing: install Debian's package nod
 . "$tests/arm.sh"
 # shellcheck source=tests/kit.sh
 . "$tests/kit.sh"
+# shellcheck source=tests/stated.sh
+. "$tests/stated.sh"
 room=$(mktemp -d)
 trap 'rm -rf "$room"' EXIT
 passed=0
@@ -216,6 +218,20 @@ within() { # PROCESSOR
     done <"$room/$1.stack"
     [ "$(wc -l <"$room/$1.stack")" -eq "$(grep -c '^uint16_t rigtemple_.*_parts(' "$folder/rigtemple.h")" ]
 }
+# What the header's head says of 64-bit Arm: the bytes of text, and how many more than on x86-64 each
+# other call takes at most.
+as_stated() {
+    tr -s '\n *' ' ' <"$folder/rigtemple.h" | tr -d , |
+        sed 's/.*On 64-bit Arm text takes \([0-9]*\) and each other call at most \([0-9]*\) .*/\1 \2/' \
+            >"$room/head"
+    read -r reading more <"$room/head"
+    while read -r call bytes; do
+        case $call in
+        text) [ "$bytes" -eq "$reading" ] ;;
+        *) [ "$bytes" -le $(($(stated "$call") + more)) ] ;;
+        esac || { echo "$call takes $bytes bytes of stack"; return 1; }
+    done <"$room/arm.stack"
+}
 expect 'the stack on 64-bit Arm is measured' stack_arm
 expect 'the stack in a page is measured' stack_page
 printf '%-12s %10s %10s\n' 'bytes' '64-bit Arm' 'in a page'
@@ -223,6 +239,7 @@ while read -r call bytes; do
     printf '%-12s %10d %10d\n' "$call" "$bytes" "$(sed -n "s/^$call //p" "$room/page.stack")"
 done <"$room/arm.stack"
 expect 'stack and room on 64-bit Arm' within arm
+expect "the stack on 64-bit Arm is as the header's head says" as_stated
 expect 'stack and room in a page' within page
 
 # ---- CMake and Android
