@@ -221,10 +221,10 @@ within() { # PROCESSOR
 # What the header's head says of 64-bit Arm: the bytes of text, and how many more than on x86-64 each
 # other call takes at most.
 as_stated() {
-    tr -s '\n *' ' ' <"$folder/rigtemple.h" | tr -d , |
-        sed 's/.*On 64-bit Arm text takes \([0-9]*\) and each other call at most \([0-9]*\) .*/\1 \2/' \
-            >"$room/head"
-    read -r reading more <"$room/head"
+    head=$(tr -s '\n *' ' ' <"$folder/rigtemple.h" | tr -d , | sed -n \
+        's/.*On 64-bit Arm text takes \([0-9]*\) and each other call at most \([0-9]*\) .*/\1 \2/p')
+    [ -n "$head" ] || { echo "the header's head says nothing of it"; return 1; }
+    reading=${head% *} more=${head#* }
     while read -r call bytes; do
         case $call in
         text) [ "$bytes" -eq "$reading" ] ;;
