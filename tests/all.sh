@@ -61,6 +61,8 @@ try tests/example.sh
 try tests/languages.sh
 try tests/room.sh
 try tests/bound.sh
+try tests/tablets.sh --seed "$seed" --cases $((cases / 10)) --texts $((cases / 400)) --programs $((cases / 400)) \
+    --names $((cases / 400))
 try python3 tests/definitions.py --seed "$seed" --cards 100
 try python3 tests/compare.py --seed "$seed" --cases "$cases" --texts $((cases / 20)) --programs $((cases / 20)) \
     --names $((cases / 20))

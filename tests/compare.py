@@ -10,6 +10,9 @@ seed. Each request goes through target/bin/drill, and the answer is compared byt
 can read whole goes through target/bin/rigtemple too, and the lines are compared with those of oracle/program.py. The first
 disagreement is told in words. The last line is 'N passed, M failed': requests and runs of the program on which both agree.
 
+--drill COMMAND, which may stand more than once, puts other programs in the drill's place: each request goes through each of them, and
+target/bin/rigtemple is not run.
+
 --spoil changes one of the oracle's answers and one of its lines, so that the last line has to say '2 failed'.
 """
 
@@ -17,6 +20,7 @@ import argparse
 import multiprocessing
 import os
 import platform
+import shlex
 import shutil
 import subprocess
 import sys
@@ -38,8 +42,8 @@ SHOWN = 40
 
 
 class Job(NamedTuple):
-    """A chunk: its seed, how many requests, or cases of texts, of programs or of names, the largest card, text or sheet, and whether
-    the oracle is spoiled."""
+    """A chunk: its seed, how many requests, or cases of texts, of programs or of names, the largest card, text or sheet, whether the
+    oracle is spoiled, and the commands that stand in the drill's place."""
 
     seed: str
     requests: int
@@ -48,6 +52,7 @@ class Job(NamedTuple):
     names: int
     largest: int
     spoil: bool
+    drills: tuple
 
 
 class Held(NamedTuple):
@@ -81,10 +86,14 @@ def path(name):
     return os.path.join(TOP, "target", "bin", name)
 
 
-def output(name, data):
-    """What a program writes for some input. The programs are for x86-64; elsewhere they run in the kit's emulator."""
+def command(name):
+    """The words that run a program. The programs are for x86-64; elsewhere they run in the kit's emulator."""
     own = platform.machine() in ("x86_64", "AMD64")
-    words = [path(name)] if own else [os.path.join(TOP, "tests", "run_c.sh"), path(name)]
+    return (path(name),) if own else (os.path.join(TOP, "tests", "run_c.sh"), path(name))
+
+
+def output(words, data):
+    """What a command writes for some input."""
     return subprocess.run(words, input=data, stdout=subprocess.PIPE, stderr=subprocess.DEVNULL).stdout
 
 
@@ -137,11 +146,11 @@ def shortened(data):
     return (data[:SHOWN].hex(" ") or "nothing") + more
 
 
-def requests_that_differ(job, found):
-    """The requests to which the drill answers otherwise, in words; each is asked by itself."""
+def requests_that_differ(job, drill_words, found):
+    """The requests to which a drill answers otherwise, in words; each is asked by itself."""
     for case, answers in found:
         for request, answer in zip(case.requests, answers):
-            got = output("drill", cases.request_card(case.card) + request)
+            got = output(drill_words, cases.request_card(case.card) + request)
             if got != answer:
                 call = cases.CALL_NAMES[request[0] - 1]
                 yield (
@@ -150,28 +159,29 @@ def requests_that_differ(job, found):
                 )
 
 
-def hold_requests(job, found):
-    """The disagreements of the drill. The requests are asked in one stream, and one by one only if that differs."""
+def hold_requests(job, drill_words, found):
+    """The disagreements of a drill. The requests are asked in one stream, and one by one only if that differs."""
     stream = b"".join(cases.stream(case for case, _ in found))
     expected = b"".join(b"".join(answers) for _, answers in found)
-    got = output("drill", stream)
+    got = output(drill_words, stream)
     if got == expected:
         return []
     at = len(os.path.commonprefix([got, expected]))
-    alone = list(requests_that_differ(job, found))
+    alone = list(requests_that_differ(job, drill_words, found))
     return alone or [f"seed {job.seed}: the drill's answers differ in one stream only, first at byte {at}"]
 
 
 def hold_program(job, found):
     """The disagreements of the program, and how many cards it was run on: those "of at most 24,129 bytes" in cases that are not of
     texts, programs or names."""
-    read = [case for case, _ in found if len(case.card) <= program.INPUT_LIMIT and job.requests]
+    runs = job.requests and job.drills == (command("drill"),)
+    read = [case for case, _ in found if len(case.card) <= program.INPUT_LIMIT and runs]
     differing = []
     for number, case in enumerate(read):
         expected = "".join(line + "\n" for line in program.lines(case.card)).encode()
         if job.spoil and number == 0:
             expected = spoiled(expected)
-        got = output("rigtemple", case.card)
+        got = output(command("rigtemple"), case.card)
         if got != expected:
             differing.append(
                 f"seed {job.seed}, case '{case.name}', the program's lines:\n"
@@ -185,7 +195,7 @@ def hold(job):
     found, met = answered(job)
     if job.spoil:
         found[-1][1][-1] = spoiled(found[-1][1][-1])
-    differing = hold_requests(job, found)
+    differing = [one for words in job.drills for one in hold_requests(job, words, found)]
     others, runs = hold_program(job, found)
     differing += others
     return Held(met, len(found), runs, len(differing), differing[0] if differing else "")
@@ -203,6 +213,7 @@ def arguments():
     parser.add_argument("--programs", type=int, default=0, help="how many cases of programs")
     parser.add_argument("--names", type=int, default=0, help="how many cases of names")
     parser.add_argument("--largest", type=int, default=65535, help="bytes of the largest card, text and sheet")
+    parser.add_argument("--drill", action="append", default=[], help="another program in the drill's place, as a command")
     parser.add_argument("--spoil", action="store_true", help="change one answer and one line of the oracle's")
     options = parser.parse_args()
     if options.cases < 1:
@@ -218,21 +229,23 @@ def chunks(count):
 
 def jobs(options):
     """The chunks, each with a seed of its own."""
+    drills = tuple(tuple(shlex.split(words)) for words in options.drill) or (command("drill"),)
     for number, begin in enumerate(range(0, options.cases, REQUESTS_PER_CHUNK)):
         count = min(REQUESTS_PER_CHUNK, options.cases - begin)
-        yield Job(f"{options.seed}.{number}", count, 0, 0, 0, options.largest, options.spoil and number == 0)
+        yield Job(f"{options.seed}.{number}", count, 0, 0, 0, options.largest, options.spoil and number == 0, drills)
     for number, count in chunks(options.texts):
-        yield Job(f"{options.seed}.text.{number}", 0, count, 0, 0, options.largest, False)
+        yield Job(f"{options.seed}.text.{number}", 0, count, 0, 0, options.largest, False, drills)
     for number, count in chunks(options.programs):
-        yield Job(f"{options.seed}.program.{number}", 0, 0, count, 0, options.largest, False)
+        yield Job(f"{options.seed}.program.{number}", 0, 0, count, 0, options.largest, False, drills)
     for number, count in chunks(options.names):
-        yield Job(f"{options.seed}.name.{number}", 0, 0, 0, count, options.largest, False)
+        yield Job(f"{options.seed}.name.{number}", 0, 0, 0, count, options.largest, False, drills)
 
 
 def main():
     """Compares all chunks, and prints the table and the counts."""
     options = arguments()
-    build(("drill", "rigtemple"))
+    if not options.drill:
+        build(("drill", "rigtemple"))
     met = nothing_met()
     cards = runs = failed = 0
     with multiprocessing.Pool(PROCESSES) as pool:
@@ -243,8 +256,9 @@ def main():
             cards, runs, failed = cards + held.cards, runs + held.runs, failed + held.failed
     print(cases.table(met))
     requests = sum(sum(column) for column in met)
-    print(f"{requests} requests about {cards} cards and {runs} runs of the program, by seed {options.seed}")
-    print(f"{requests + runs - failed} passed, {failed} failed")
+    through = f", each through {len(options.drill)} programs" if options.drill else f" and {runs} runs of the program"
+    print(f"{requests} requests about {cards} cards{through}, by seed {options.seed}")
+    print(f"{requests * max(1, len(options.drill)) + runs - failed} passed, {failed} failed")
     sys.exit(1 if failed else 0)
 
 

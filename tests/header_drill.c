@@ -25,9 +25,12 @@
  * bytes of the plan's array; the rest of it is zero. In an answer m is the least that serves. The
  * node of a take is with 16 the one that settled the condition, else 0; the place of a text with 17
  * that of the first wrong byte, else 0; the sheet of a name is 0 the master's or 1 the shed's: the
- * one that it lies in, or with 20 the one that is refused. Lent buffers are lent filled with EE hex.
- * What a refused grading says beside its number is written as 0. A request that breaks these rules
- * ends the program, and so does what a call leaves wrong and no answer shows.
+ * one that it lies in, or with 20 the one that is refused. What a refused grading says beside its
+ * number is written as 0. A request that breaks these rules ends the program, and so does what a
+ * call leaves wrong and no answer shows.
+ *
+ * All that a call may write is lent filled with EE hex, with bytes of the same around it. They are
+ * looked at after each call: one that is written ends the program.
  */
 #include <stdlib.h>
 #include <string.h>
@@ -128,10 +131,43 @@ static void put_number(uint16_t value)
     put_byte((uint8_t)(value >> 8));
 }
 
+/* ---- lending ---- */
+
+enum { GUARD = 64, PARTS = 8 };
+static _Alignas(16) uint8_t arena[32768];
+static struct { size_t from, to; } lent[PARTS];
+static size_t parts;
+
+/* Lends so many bytes of the arena, behind the guard of what was lent before. */
+static void *lend(size_t bytes)
+{
+    size_t from = (parts > 0 ? lent[parts - 1].to + 15 : 0) / 16 * 16 + GUARD;
+    if (parts == PARTS || bytes > sizeof arena - GUARD - from)
+        end(3);
+    lent[parts].from = from;
+    lent[parts].to = from + bytes;
+    return arena + lent[parts++].from;
+}
+
+/* Looks at all of the arena that was not lent, and takes back what was. */
+static void take_back(void)
+{
+    size_t at = 0;
+    for (size_t part = 0; part <= parts; part++) {
+        for (size_t to = part < parts ? lent[part].from : sizeof arena; at < to; at++)
+            if (arena[at] != LENT)
+                end(3);
+        at = part < parts ? lent[part].to : at;
+    }
+    memset(arena, LENT, sizeof arena);
+    parts = 0;
+}
+
 /* ---- images ---- */
 
-static void get_image(struct rigtemple_configuration *c)
+static struct rigtemple_configuration *get_image(void)
 {
+    struct rigtemple_configuration *c = lend(sizeof *c);
     memset(c, 0, sizeof *c);
     get_bytes(c->beliefs, sizeof c->beliefs);
     get_bytes(c->goals, sizeof c->goals);
@@ -139,6 +175,7 @@ static void get_image(struct rigtemple_configuration *c)
     c->phase = get_byte();
     c->finished = get_number(65535);
     get_bytes(c->plan, get_number(sizeof c->plan));
+    return c;
 }
 
 static void put_image(const struct rigtemple_configuration *c)
@@ -159,70 +196,63 @@ static void put_image(const struct rigtemple_configuration *c)
 
 static void answer_load(void)
 {
-    struct rigtemple_configuration c;
-    memset(&c, LENT, sizeof c);
-    put_number(rigtemple_load(card, card_len, &c));
-    put_image(&c);
+    struct rigtemple_configuration *c = lend(sizeof *c);
+    put_number(rigtemple_load(card, card_len, c));
+    put_image(c);
 }
 
 static void answer_grade(void)
 {
-    uint8_t verdict = LENT, offender = LENT;
-    uint16_t rule = LENT;
-    uint16_t number = rigtemple_grade(card, card_len, &verdict, &offender, &rule);
+    uint8_t *verdict = lend(1), *offender = lend(1);
+    uint16_t *rule = lend(2);
+    uint16_t number = rigtemple_grade(card, card_len, verdict, offender, rule);
     int done = number == RIGTEMPLE_ANSWER_DONE;
     put_number(number);
-    put_byte(done ? verdict : 0);
-    put_byte(done ? offender : 0);
-    put_number(done ? rule : 0);
+    put_byte(done ? *verdict : 0);
+    put_byte(done ? *offender : 0);
+    put_number(done ? *rule : 0);
 }
 
 static void answer_list(void)
 {
-    struct rigtemple_configuration c;
-    uint16_t list[LIST_LIMIT], count = LENT;
-    get_image(&c);
+    struct rigtemple_configuration *c = get_image();
     size_t room = get_number(LIST_LIMIT);
-    memset(list, LENT, sizeof list);
-    put_number(rigtemple_list(card, card_len, &c, list, room, &count));
-    put_number(count);
+    uint16_t *list = lend(2 * room), *count = lend(2);
+    put_number(rigtemple_list(card, card_len, c, list, room, count));
+    put_number(*count);
     for (size_t i = 0; i < room; i++)
         put_number(list[i]);
 }
 
 static void answer_take(void)
 {
-    struct rigtemple_configuration c;
-    uint16_t node = LENT;
-    get_image(&c);
-    put_number(rigtemple_take(card, card_len, &c, get_number(65535), &node));
-    put_number(node);
-    put_image(&c);
+    struct rigtemple_configuration *c = get_image();
+    uint16_t *node = lend(2);
+    put_number(rigtemple_take(card, card_len, c, get_number(65535), node));
+    put_number(*node);
+    put_image(c);
 }
 
 static void answer_run(void)
 {
-    struct rigtemple_configuration c;
-    uint16_t count = LENT;
-    uint8_t ending = LENT;
-    get_image(&c);
-    put_number(rigtemple_run(card, card_len, &c, get_number(65535), &count, &ending));
-    put_image(&c);
-    put_number(count);
-    put_byte(ending);
+    struct rigtemple_configuration *c = get_image();
+    uint16_t *count = lend(2);
+    uint8_t *ending = lend(1);
+    put_number(rigtemple_run(card, card_len, c, get_number(65535), count, ending));
+    put_image(c);
+    put_number(*count);
+    put_byte(*ending);
 }
 
 /* The count is not in the answer: one that is wrong ends the program. */
 static void answer_save(void)
 {
-    struct rigtemple_configuration c;
-    uint8_t place[SAVE_LIMIT];
-    uint16_t count = LENT;
-    get_image(&c);
+    struct rigtemple_configuration *c = get_image();
     size_t room = get_number(SAVE_LIMIT);
-    memset(place, LENT, sizeof place);
-    uint16_t number = rigtemple_save(card, card_len, &c, place, room, &count);
-    if (count != (number == RIGTEMPLE_ANSWER_DONE ? 44 + c.length : 0))
+    uint8_t *place = lend(room);
+    uint16_t *count = lend(2);
+    uint16_t number = rigtemple_save(card, card_len, c, place, room, count);
+    if (*count != (number == RIGTEMPLE_ANSWER_DONE ? 44 + c->length : 0))
         end(3);
     put_number(number);
     put_bytes(place, room);
@@ -230,38 +260,37 @@ static void answer_save(void)
 
 static void answer_restore(void)
 {
-    struct rigtemple_configuration c;
     uint8_t place[PLACE_LIMIT];
     size_t place_len = get_number(PLACE_LIMIT);
     get_bytes(place, place_len);
-    memset(&c, LENT, sizeof c);
-    put_number(rigtemple_restore(card, card_len, place, place_len, &c));
-    put_image(&c);
+    struct rigtemple_configuration *c = lend(sizeof *c);
+    put_number(rigtemple_restore(card, card_len, place, place_len, c));
+    put_image(c);
 }
 
 static void answer_text(void)
 {
-    static uint8_t text[TEXT_LIMIT], made[CARD_ROOM_LIMIT];
-    uint16_t count = LENT;
-    size_t place = LENT, text_len = get_length(TEXT_LIMIT);
+    static uint8_t text[TEXT_LIMIT];
+    size_t text_len = get_length(TEXT_LIMIT);
     get_bytes(text, text_len);
-    size_t room = get_number(CARD_ROOM_LIMIT);
-    memset(made, LENT, sizeof made);
-    put_number(rigtemple_text(text, text_len, made, room, &count, &place));
-    put_number((uint16_t)place);
-    put_number((uint16_t)(place >> 16));
-    put_number(count);
+    size_t room = get_number(CARD_ROOM_LIMIT), *place = lend(sizeof *place);
+    uint8_t *made = lend(room);
+    uint16_t *count = lend(2);
+    put_number(rigtemple_text(text, text_len, made, room, count, place));
+    put_number((uint16_t)*place);
+    put_number((uint16_t)(*place >> 16));
+    put_number(*count);
     put_bytes(made, room);
 }
 
 static void answer_print(void)
 {
-    uint8_t text[PRINT_LIMIT];
-    uint16_t count = LENT, node = get_number(65535);
+    uint16_t node = get_number(65535);
     size_t room = get_number(PRINT_LIMIT);
-    memset(text, LENT, sizeof text);
-    put_number(rigtemple_print(card, card_len, node, text, room, &count));
-    put_number(count);
+    uint8_t *text = lend(room);
+    uint16_t *count = lend(2);
+    put_number(rigtemple_print(card, card_len, node, text, room, count));
+    put_number(*count);
     put_bytes(text, room);
 }
 
@@ -269,26 +298,25 @@ static void answer_print(void)
  * program. */
 static void answer_deliberate(void)
 {
-    struct rigtemple_configuration c;
-    uint8_t program[PROGRAM_LIMIT], remaining[RIGTEMPLE_MOST_REMAINING];
-    uint8_t ending = LENT, remaining_length = LENT;
-    uint16_t count = LENT;
+    uint8_t program[PROGRAM_LIMIT];
     size_t program_len = get_number(PROGRAM_LIMIT);
     get_bytes(program, program_len);
-    get_image(&c);
-    memset(remaining, LENT, sizeof remaining);
-    put_number(rigtemple_deliberate(card, card_len, program, program_len, &c, get_number(65535),
-                                    &count, &ending, remaining, &remaining_length));
-    if (remaining_length > sizeof remaining)
+    struct rigtemple_configuration *c = get_image();
+    uint16_t *count = lend(2);
+    uint8_t *ending = lend(1), *remaining = lend(RIGTEMPLE_MOST_REMAINING);
+    uint8_t *remaining_length = lend(1);
+    put_number(rigtemple_deliberate(card, card_len, program, program_len, c, get_number(65535),
+                                    count, ending, remaining, remaining_length));
+    if (*remaining_length > RIGTEMPLE_MOST_REMAINING)
         end(3);
-    for (size_t i = remaining_length; i < sizeof remaining; i++)
+    for (size_t i = *remaining_length; i < RIGTEMPLE_MOST_REMAINING; i++)
         if (remaining[i] != 0)
             end(3);
-    put_image(&c);
-    put_number(count);
-    put_byte(ending);
-    put_number(remaining_length);
-    put_bytes(remaining, remaining_length);
+    put_image(c);
+    put_number(*count);
+    put_byte(*ending);
+    put_number(*remaining_length);
+    put_bytes(remaining, *remaining_length);
 }
 
 /* The start is where the name lies behind its sheet's first byte. A name that does not lie in its
@@ -297,26 +325,26 @@ static void answer_name(void)
 {
     static uint8_t shed[RIGTEMPLE_MOST_SHEET_BYTES], master[RIGTEMPLE_MOST_SHEET_BYTES];
     const uint8_t *name = card, *held = master;
-    uint16_t bytes = LENT;
-    uint8_t sheet = LENT;
+    uint16_t *bytes = lend(2);
+    uint8_t *sheet = lend(1);
     size_t shed_len = get_number(sizeof shed);
     get_bytes(shed, shed_len);
     size_t master_len = get_number(sizeof master), held_len = master_len;
     get_bytes(master, master_len);
     uint16_t number = rigtemple_name(card, card_len, shed, shed_len, master, master_len,
-                                     get_number(65535), &name, &bytes, &sheet);
-    if (number == RIGTEMPLE_ANSWER_DONE && sheet == RIGTEMPLE_SHEET_SHED) {
+                                     get_number(65535), &name, bytes, sheet);
+    if (number == RIGTEMPLE_ANSWER_DONE && *sheet == RIGTEMPLE_SHEET_SHED) {
         held = shed;
         held_len = shed_len;
     }
-    if (name < held || bytes > held_len || name > held + (held_len - bytes))
+    if (name < held || *bytes > held_len || name > held + (held_len - *bytes))
         end(3);
-    if (number != RIGTEMPLE_ANSWER_DONE && (name != master || bytes != 0))
+    if (number != RIGTEMPLE_ANSWER_DONE && (name != master || *bytes != 0))
         end(3);
     put_number(number);
-    put_byte(sheet);
+    put_byte(*sheet);
     put_number((uint16_t)(name - held));
-    put_number(bytes);
+    put_number(*bytes);
 }
 
 static void answer(uint8_t request)
@@ -369,7 +397,10 @@ static void answer(uint8_t request)
 
 int main(void)
 {
-    while (more())
+    memset(arena, LENT, sizeof arena);
+    while (more()) {
         answer(get_byte());
+        take_back();
+    }
     end(0);
 }

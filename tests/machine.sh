@@ -1,12 +1,17 @@
 # shellcheck shell=sh
 # Read by the tests that use the machine's own compilers: sets `linked`, a folder with a
-# librigtemple.a that they can link, and `what`, which of two it is. Where they make code for x86-64
-# it is the library, from the folder $folder; elsewhere the C engine of bench/ under the library's
-# names, compiled here. Without a C compiler `linked` is empty. `root` is the script's own.
+# librigtemple.a that they can link, and `what`, which it is. Where they make code for x86-64 it is
+# the library, from the folder $folder, and for 64-bit Arm the one that ./tablets makes; elsewhere
+# the C engine of bench/ under the library's names, compiled here. Without a C compiler `linked` is
+# empty. `root` and `die` are the script's own.
 linked='' what=''
 case $(cc -dumpmachine 2>/dev/null) in
 '') ;;
 x86_64-*linux*) linked=${folder:?} what='the library' ;;
+aarch64-*linux*)
+    "${root:?}/tablets" "$root/target/c/tablets" 2>/dev/null || die './tablets failed'
+    linked=$root/target/c/tablets/aarch64 what='the library for 64-bit Arm'
+    ;;
 *)
     # shellcheck source=tests/engine.sh
     . "${root:?}/tests/engine.sh"

@@ -9,6 +9,13 @@
 
 enum { PAINTED = 65536, PAINT = 0xA5 };
 
+/* Where the stack ends now. */
+#if defined(__x86_64__)
+#define STACK_POINTER(own) __asm__ volatile("movq %%rsp, %0" : "=r"(own))
+#elif defined(__aarch64__)
+#define STACK_POINTER(own) __asm__ volatile("mov %0, sp" : "=r"(own))
+#endif
+
 static uint16_t answer;
 static size_t deepest[CALLS];
 
@@ -16,7 +23,7 @@ static size_t deepest[CALLS];
 static __attribute__((noinline)) size_t stack_of(uint16_t (*make)(void))
 {
     volatile uint8_t *own;
-    __asm__ volatile("movq %%rsp, %0" : "=r"(own));
+    STACK_POINTER(own);
     for (size_t i = 1; i <= PAINTED; i++)
         own[-(long)i] = PAINT;
     answer = make();
