@@ -41,10 +41,10 @@ def main():
     for begin in range(0, len(requests), PER_RUN):
         asked = requests[begin : begin + PER_RUN]
         expected = [drill.answer(b"", request) for request in asked]
-        if compare.output("drill", b"".join(asked)) == b"".join(expected):
+        if compare.output(compare.command("drill"), b"".join(asked)) == b"".join(expected):
             continue
         for request, answer in zip(asked, expected):
-            if compare.output("drill", request) != answer:
+            if compare.output(compare.command("drill"), request) != answer:
                 failed += 1
                 print("differs: " + repr(request[5:-2]))
     print(f"{len(requests) - failed} passed, {failed} failed")
