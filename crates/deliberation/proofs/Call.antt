@@ -10,12 +10,14 @@ use Rattle.paper.specs.Language.{𝐁, Agent, Config}
 use Rattle.paper.specs.Transitions.{Choice, Step}
 use Rattle.runs.specs.Order.{State}
 use Rattle.runs.specs.Run.{Chain, stay, _then_}
+use Rattle.runs.specs.Theorems.{NoneBelieved}
+use Rattle.runs.proofs.Goals.{goal-law}
 use Rattle.meaning.specs.declared.Refusal.{Refusal}
 use Rattle.meaning.specs.declared.Answer.{Answer}
 use Rattle.meaning.specs.declared.Answer.the-variants.{Done, Refused}
 use Rattle.meaning.specs.declared.Configuration.{Configuration}
 use Rattle.meaning.specs.Card.{Bytes, layout, conditions, agent}
-use Rattle.meaning.specs.Configurations.{stateOf}
+use Rattle.meaning.specs.Configurations.{stateOf, configurationOf}
 use Rattle.meaning.specs.Refusals.{numberOf, answerNumber, Row, _given-when_, firstGiven, cardAnswer, containing, configurationGood, configurationTable}
 use Rattle.meaning.proofs.Tables.{done≢refused, given, not-given}
 use Rattle.meaning.proofs.Accepted.{card-laws}
@@ -26,12 +28,12 @@ use Rattle.deliberation.specs.Programs.{still}
 use Rattle.deliberation.specs.MetaTransitions.{Computation, notIdle}
 use Rattle.deliberation.specs.Entries.{entryCount, entriesOf, programGood, programTable, deliberateAnswer, program}
 use Rattle.deliberation.specs.Deliberate.{Outcome, deliberate, remainingOf, deliberated, whole, deliberates}
-use Rattle.deliberation.specs.Theorems.{partsOf, wholeOf, numbersIn, standFor, Followed, EndsExactly, Tells, TellsLaw, BoundedMovesLaw, RefusalLaw, DeterminedLaw}
+use Rattle.deliberation.specs.Theorems.{partsOf, wholeOf, numbersIn, standFor, Followed, EndsExactly, Deliberates, Tells, TellsLaw, BoundedMovesLaw, RefusalLaw, DeterminedLaw}
 use Rattle.deliberation.proofs.Good.{some-entries, most-entries}
 use Rattle.deliberation.specs.Stacked.{nothing, put}
 use Rattle.deliberation.proofs.Room.{stacked-length, stacked-known}
 use Rattle.deliberation.proofs.Standing.{stood-one}
-use Rattle.deliberation.proofs.Followed.{computation, chain, fits}
+use Rattle.deliberation.proofs.Followed.{computation, chain, Kept, keeps, fits}
 use Rattle.deliberation.proofs.Run.{Walked, walked, ends-exactly}
 
 -- ---- the answer, by its two equations
@@ -174,6 +176,20 @@ module _ (b p : Bytes) (c : Configuration) (budget : ℕ) (pass : Passed b p c) 
 
 pub tells-law : TellsLaw
 tells-law b p c budget e r q = subst (Tells b p c budget) (sym (q ∙ deliberates-done b p c budget e)) (tells b p c budget (passed b p c e))
+
+-- ---- what a done deliberation keeps
+
+-- what each transition keeps whose plan fits, a done deliberation keeps
+pub done-keeps : (b p : Bytes) (c : Configuration) (budget : ℕ) → deliberateAnswer b p c ≡ Done → (r : Deliberated) → Deliberates b p c budget r
+    → (Q : State → Type 0) → Kept (agent b) Q → Q (stateOf c) → (s : State) × ((r .configuration ≡ configurationOf s) × Q s)
+done-keeps b p c budget e r q Q f h =
+    let o = outcome b p c budget in
+    (o .state, (ap (λ (x : Deliberated). x .configuration) (q ∙ deliberates-done b p c budget e), keeps Q f (walk b p c budget (passed b p c e) .followed) h))
+
+-- no goal gets believed
+pub none-believed : (b p : Bytes) (c : Configuration) (budget : ℕ) → deliberateAnswer b p c ≡ Done → (r : Deliberated) → Deliberates b p c budget r
+    → NoneBelieved (stateOf c .mental) → NoneBelieved (stateOf (r .configuration) .mental)
+none-believed b p c budget e r q h = goal-law (agent b) .stays-so (tells-law b p c budget e r q .chain) h
 
 -- ---- demand 3
 
