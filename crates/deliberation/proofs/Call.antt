@@ -26,9 +26,9 @@ use Rattle.deliberation.specs.declared.DeliberationEnding.{DeliberationE
 use Rattle.deliberation.specs.declared.Deliberated.{Deliberated}
 use Rattle.deliberation.specs.Programs.{still}
 use Rattle.deliberation.specs.MetaTransitions.{Computation, notIdle}
-use Rattle.deliberation.specs.Entries.{entryCount, entriesOf, programGood, programTable, deliberateAnswer, program}
+use Rattle.deliberation.specs.Entries.{entryCount, entriesOf, programGood, programTable, deliberateAnswer, program, moveAt}
 use Rattle.deliberation.specs.Deliberate.{Outcome, deliberate, remainingOf, deliberated, whole, deliberates}
-use Rattle.deliberation.specs.Theorems.{partsOf, wholeOf, numbersIn, standFor, Followed, EndsExactly, Deliberates, Tells, TellsLaw, BoundedMovesLaw, RefusalLaw, DeterminedLaw}
+use Rattle.deliberation.specs.Theorems.{partsOf, wholeOf, numbersIn, standFor, Followed, Numbered, EndsExactly, Deliberates, Tells, TellsLaw, BoundedMovesLaw, RefusalLaw, DeterminedLaw}
 use Rattle.deliberation.proofs.Good.{some-entries, most-entries}
 use Rattle.deliberation.specs.Stacked.{nothing, put}
 use Rattle.deliberation.proofs.Room.{stacked-length, stacked-known}
@@ -139,7 +139,7 @@ module _ (b p : Bytes) (c : Configuration) (budget : ℕ) (pass : Passed b p c) 
   last-known : last < entryCount p
   last-known = let h = some-entries gs (layout b) p (pass .program-good) in omega arith
 
-  walk : Walked gs (layout b) p (pass .program-good) (agent b) (conditions 𝐁 (layout b) b) last last-known budget (still (wholeOf b p)) (stateOf c) (outcome b p c budget)
+  walk : Walked gs (layout b) p (pass .program-good) (agent b) (conditions 𝐁 (layout b) b) last last-known budget (still (wholeOf b p)) (whole p) (stateOf c) (outcome b p c budget)
   walk =
       walked gs (layout b) p (pass .program-good) (agent b) (conditions 𝐁 (layout b) b) last last-known budget (still (wholeOf b p)) (whole p) (stateOf c)
       (sym (stood-one (conditions 𝐁 (layout b) b) (entriesOf p) last)) (put last [] (omega arith) nothing)
@@ -150,6 +150,10 @@ module _ (b p : Bytes) (c : Configuration) (budget : ℕ) (pass : Passed b p c) 
   -- the configuration that is answered stands for the state reached
   state-back : stateOf (deliberated (outcome b p c budget) .configuration) ≡ outcome b p c budget .state
   state-back = configuration-laws .of-state (outcome b p c budget .state) state-fits
+
+  moved : Numbered (agent b) (moveAt (layout b) b p) (whole p) (stateOf c) (walk .labels) (outcome b p c budget .remaining) (outcome b p c budget .state)
+  unfolding agent
+  moved = walk .numbered
 
   tells : Tells b p c budget (deliberated (outcome b p c budget))
   tells =
@@ -169,6 +173,7 @@ module _ (b p : Bytes) (c : Configuration) (budget : ℕ) (pass : Passed b p c) 
         counted = w .counted;
         ends = subst (λ s. EndsExactly (agent b) budget (outcome b p c budget .count) (w .rest) s (outcome b p c budget .ending)) back (ends-exactly (w .because));
         remains = w .stands ∙ ap (λ ns. partsOf (standFor b p ns)) (sym (numbers-back ns));
+        numbered = rw (state-back, numbers-back ns) moved;
         room = rw (length-back ns) (omega arith);
         known = λ n i. (let h = stacked-known (w .stacked) n (subst (List·Memᴰ n) (numbers-back ns) i) in omega arith);
         chain = subst (λ (s : State). Chain (agent b) (stateOf c .mental) (notIdle (w .labels)) (s .mental)) back (chain (w .followed));

@@ -169,7 +169,7 @@ first-move-law A s P = record { is-one = is-one A s P; none-exactly = none-exact
 -- ---- which of them it is
 
 module _ (A : Agent) (s : Config) where
-  lowest : (m : Move Rest) (n : ℕ) → firstMove A s Prog.execute ≡ some m → m .label ≡ taking (Choice.act n)
+  pub lowest : (m : Move Rest) (n : ℕ) → firstMove A s Prog.execute ≡ some m → m .label ≡ taking (Choice.act n)
       → (i : ℕ) → i < n → (s′ : Config) → Step A s (Choice.act i) s′ → ⊥
   unfolding firstMove
   lowest m n e x =
@@ -180,7 +180,7 @@ module _ (A : Agent) (s : Config) where
       taking-inj : {j k : Choice} → taking j ≡ taking k → j ≡ k
       taking-inj e = cc
 
-  left : (P₁ P₂ : Prog) (x : Label) (P₁′ : Rest) (s′ : Config) → MetaStep A P₁ s x P₁′ s′ → firstMove A s (P₁ ⊕ P₂) ≡ firstMove A s P₁
+  pub left : (P₁ P₂ : Prog) (x : Label) (P₁′ : Rest) (s′ : Config) → MetaStep A P₁ s x P₁′ s′ → firstMove A s (P₁ ⊕ P₂) ≡ firstMove A s P₁
   unfolding firstMove
   left P₁ P₂ x P₁′ s′ t = go (firstMove A s P₁) refl
     where
@@ -188,9 +188,14 @@ module _ (A : Agent) (s : Config) where
       go none e = absurd (not-none t e)
       go (some m) e = rw e (either-left m (firstMove A s P₂))
 
-  right : (P₁ P₂ : Prog) → NoTransition A P₁ s → firstMove A s (P₁ ⊕ P₂) ≡ firstMove A s P₂
+  pub right : (P₁ P₂ : Prog) → NoTransition A P₁ s → firstMove A s (P₁ ⊕ P₂) ≡ firstMove A s P₂
   unfolding firstMove
   right P₁ P₂ h = rw (none-exactly A s P₁ .1 h)
 
+  pub in-first : (P₁ P₂ : Prog) (m : Move Rest) → firstMove A s P₁ ≡ some m
+      → firstMove A s (P₁ ⨾ P₂) ≡ some (record { label = m .label; remaining = still (m .remaining ⨾′ P₂) })
+  unfolding firstMove
+  in-first P₁ P₂ m e = rw (e, firstMove)
+
 pub way-out-law : WayOutLaw
-way-out-law A s = record { lowest = lowest A s; left = left A s; right = right A s }
+way-out-law A s = record { lowest = lowest A s; left = left A s; right = right A s; sequence = in-first A s }
