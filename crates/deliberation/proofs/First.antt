@@ -67,6 +67,16 @@ not-enabled : {A : Agent} {s s′ : Config} {k : Choice} → enabled A s k ≡ f
 not-enabled {A} {s} {s′} {k} h x = false≢true (sym h ∙ enabled-exactly A s k .1 (s′, x))
 
 module _ (A : Agent) (s : Config) where
+  lower-closed : (n : ℕ) → lowestAction A s ≡ some (Choice.act n) → (i : ℕ) → i < n → (s′ : Config) → Step A s (Choice.act i) s′ → ⊥
+  unfolding lowestAction ofKind
+  lower-closed n e i h s′ x =
+      let r = lowest-of (enabled A s) Choice.act 0 (length (A .AS)) (Choice.act n) e in
+      let q : n ≡ r .number = act-number (r .is-it) in
+      not-enabled (r .before i (omega arith) (omega arith)) x
+    where
+      act-number : {m n : ℕ} → Choice.act m ≡ Choice.act n → m ≡ n
+      act-number e = cc
+
   lowest-step : (k : Choice) → lowestAction A s ≡ some k → (n : ℕ) × ((k ≡ Choice.act n) × ((s′ : Config) × Step A s (Choice.act n) s′))
   unfolding lowestAction ofKind
   lowest-step k e =
@@ -79,16 +89,6 @@ module _ (A : Agent) (s : Config) where
     where
       act-lt : {s s′ : Config} {n : ℕ} → Step A s (Choice.act n) s′ → n < length (A .AS)
       act-lt (execute {n = n} e p) = entry-lt (A .AS) n e
-
-  lower-closed : (n : ℕ) → lowestAction A s ≡ some (Choice.act n) → (i : ℕ) → i < n → (s′ : Config) → Step A s (Choice.act i) s′ → ⊥
-  unfolding lowestAction ofKind
-  lower-closed n e i h s′ x =
-      let r = lowest-of (enabled A s) Choice.act 0 (length (A .AS)) (Choice.act n) e in
-      let q : n ≡ r .number = act-number (r .is-it) in
-      not-enabled (r .before i (omega arith) (omega arith)) x
-    where
-      act-number : {m n : ℕ} → Choice.act m ≡ Choice.act n → m ≡ n
-      act-number e = cc
 
   if-enabled : (k : Choice) → enabled A s k ≡ true → ifEnabled A s k ≡ some k
   unfolding ifEnabled
