@@ -1,5 +1,5 @@
 -- The laws of the first move of a program leave no other.
-use mathlib.Core.Path.{_≡_, refl, ap, ap₂, _∙_, sym}
+use mathlib.Core.Path.{_≡_, refl, ap, _∙_, sym}
 use mathlib.Core.Logic.{⊎-elim}
 use mathlib.Core.Bool.{Bool, true, false}
 use mathlib.Core.Option.{Option, none, some}
@@ -8,16 +8,14 @@ use native.Mathlib.Decide.{decLt}
 use native.Mathlib.Omega.{arith}
 use Rattle.paper.specs.Language.{Agent, Config}
 use Rattle.paper.specs.Transitions.{Choice}
-use Rattle.paper.proofs.Relation.{none≢some, false≢true}
+use Rattle.paper.proofs.Relation.{false≢true}
 use Rattle.deliberation.specs.Programs.{Bexp, Prog, execute, apply, select, while_doing_od, _⨾_, _⊕_, Rest, E, still, 𝒲}
 use Rattle.deliberation.specs.MetaTransitions.{Label, idle, taking, MetaStep}
 use Rattle.deliberation.specs.FirstMove.{Move, firstMove}
 use Rattle.deliberation.specs.Theorems.{NoTransition, FirstMoveLaws, WayOut, FirstMoveDetermined}
+use Rattle.deliberation.proofs.Moves.{same-move, same-first}
 use Rattle.deliberation.proofs.First.{is-one, none-exactly, lowest, left, right, in-first}
 use Rattle.deliberation.proofs.Equivalence.{of-execute, of-apply, of-select, of-while, of-sequence}
-
-pub same-move : {R : Type 0} (m n : Move R) → m .label ≡ n .label → m .remaining ≡ n .remaining → m ≡ n
-same-move m n e f = ap₂ (λ x r. record { label = x; remaining = r }) e f
 
 -- a number that is not below another, nor the other below it
 same-number : (j k : ℕ) → (j < k → ⊥) → (k < j → ⊥) → j ≡ k
@@ -26,12 +24,9 @@ same-number j k f g = elim (decLt j k) [ yes h ↦ absurd (f h) | no h ↦ elim 
 module _ (A : Agent) (s : Config) (first : Prog → Option (Move Rest)) (laws : (P : Prog) → FirstMoveLaws A s first P) (way : WayOut A s first) where
   -- both have a move or neither: it is enough that the moves are the same
   by-moves : (P : Prog) → ((m n : Move Rest) → first P ≡ some m → firstMove A s P ≡ some n → m ≡ n) → first P ≡ firstMove A s P
-  by-moves P f = go (first P) (firstMove A s P) refl refl
-    where
-      go : (o u : Option (Move Rest)) → first P ≡ o → firstMove A s P ≡ u → first P ≡ firstMove A s P
-      go none u e g = e ∙ sym (none-exactly A s P .1 (laws P .none-exactly .0 e))
-      go (some m) none e g = absurd (none≢some (sym (laws P .none-exactly .1 (none-exactly A s P .0 g)) ∙ e))
-      go (some m) (some n) e g = e ∙ ap {B = Option (Move Rest)} (λ x. some x) (f m n e g) ∙ sym g
+  by-moves P f =
+      same-first (first P) (firstMove A s P) (λ e. none-exactly A s P .1 (laws P .none-exactly .0 e))
+      (λ e. laws P .none-exactly .1 (none-exactly A s P .0 e)) f
 
   -- a program all of whose transitions have one label and leave one rest
   abbrev OneWay : Prog → Label → Rest → Type 0

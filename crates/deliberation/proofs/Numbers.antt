@@ -7,7 +7,7 @@ use mathlib.Core.Option.{Option, none, some}
 use Prim.Native.Nat.{ℕ, suc, _<_}
 use native.Mathlib.Omega.{arith}
 use Rattle.paper.specs.Language.{𝐁, Query, Config}
-use Rattle.paper.proofs.Relation.{none≢some, some-inj, false≢true}
+use Rattle.paper.proofs.Relation.{some-inj, false≢true}
 use Rattle.meaning.specs.declared.Node.{Node}
 use Rattle.meaning.specs.Card.{Bytes, layout, condition, conditions, agentFor, agent}
 use Rattle.meaning.specs.Refusals.{containing}
@@ -17,13 +17,12 @@ use Rattle.deliberation.specs.Kinds.{EntryKind, Execute, Apply, Select, 
 use Rattle.deliberation.specs.FirstMove.{Move, idles, followedBy, leftElseRight, firstMove}
 use Rattle.deliberation.specs.Entries.{entryOf, entryCount, entriesOf, programGood, progOf, program, standing, moveOf, moveAt}
 use Rattle.deliberation.specs.Theorems.{NoTransition, partsOf, _≈_, standFor, NumbersLaws, OneNumber, OneNumberLaw, NumbersDetermined, EntryLaws, executes, applies, selects, while-plan, while-belief, does-both, does-one}
-use Rattle.deliberation.proofs.Moves.{idles-holds, either-left, followed-some}
+use Rattle.deliberation.proofs.Moves.{idles-holds, either-left, followed-some, same-move, same-first}
 use Rattle.deliberation.proofs.Good.{from-lower, entry-rule, program-at, move-at}
 use Rattle.deliberation.proofs.First.{is-one}
 use Rattle.deliberation.proofs.Parts.{still-inj}
 use Rattle.deliberation.proofs.Standing.{stood, some-stood, numbers-law}
 use Rattle.deliberation.proofs.Equivalence.{of-execute, of-apply, of-select, of-while}
-use Rattle.deliberation.proofs.Determined.{same-move}
 
 module _ (b p : Bytes) (good : programGood (containing 2 (layout b) b) (layout b) p ≡ true) (s : Config) where
   abbrev βs : List (Query 𝐁)
@@ -85,12 +84,8 @@ module _ (b p : Bytes) (good : programGood (containing 2 (layout b) b) (layout b
       ours = numbers-law b p good s n [] h
 
       by-moves : ((m k : Move (List ℕ)) → other n ≡ some m → move n ≡ some k → m ≡ k) → other n ≡ move n
-      by-moves f = go (other n) (move n) refl refl
-        where
-          go : (o u : Option (Move (List ℕ))) → other n ≡ o → move n ≡ u → other n ≡ move n
-          go none u e g = e ∙ sym (none-there ours .1 (none-there theirs .0 e))
-          go (some m) none e g = absurd (none≢some (sym (none-there theirs .1 (none-there ours .0 g)) ∙ e))
-          go (some m) (some k) e g = e ∙ ap {B = Option (Move (List ℕ))} (λ y. some y) (f m k e g) ∙ sym g
+      by-moves f =
+          same-first (other n) (move n) (λ e. none-there ours .1 (none-there theirs .0 e)) (λ e. none-there theirs .1 (none-there ours .0 e)) f
 
       -- an entry whose transitions leave nothing
       no-rest : (Q : Prog) → P n ≡ Q → ((y : Label) (R : Rest) (c : Config) → MetaStep (agent b) Q s y R c → R ≡ E) → other n ≡ move n
