@@ -28,10 +28,11 @@ use meaning::Plan;
 fn asked_by(front: bool, conditions: u16) -> Asked
     ensures { λ r. ⌜ r ≡ askedBy true front (told conditions) ⌝ }
 {
+    let hold = is_true(conditions);
     if !front {
         return Asked::Front;
     }
-    if !is_true(conditions) {
+    if !hold {
         return Asked::Condition(settler(conditions));
     }
     Asked::Enabled

@@ -35,7 +35,11 @@ pub fn settler(mark: u16) -> u8
 fn mark_of(value: bool, node: u8) -> u16
     ensures { λ r. ⌜ _≡_ {A = Bool × ℕ} (told r) (value, node) ⌝ }
 {
-    if value { 256 + node as u16 } else { node as u16 }
+    if value {
+        256 + node as u16
+    } else {
+        node as u16
+    }
 }
 
 // Both of two: "the left child's where the left alone settles the value, else the right's", of an "and".
