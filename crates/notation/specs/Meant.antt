@@ -1,0 +1,72 @@
+-- A text means what it says: the agent, the weights and the start of a card, held beside the lines of a text.
+use mathlib.Core.Path.{_≡_}
+use mathlib.Core.List.{List, [], _∷_}
+use Prim.Native.Nat.{ℕ}
+use lib.ListN.{take}
+use Rattle.paper.specs.Language.{Letter, 𝐁, 𝐆, Query, ⊤, atom, ¬′, _∧′_, _∨′_, Specification, Selection, Revision, ⟨_/_/_⟩}
+use Rattle.paper.specs.Transitions.{struckBy}
+use Rattle.runs.specs.Order.{State}
+use Rattle.meaning.specs.declared.Answer.the-variants.{Done}
+use Rattle.meaning.specs.Card.{Bytes, layout, weights, agent, start}
+use Rattle.notation.specs.Conditions.{Tree, true, believes, goal, not, and, or}
+use Rattle.notation.specs.Lines.{Do, Select, Revise, Begin, Said, Text}
+use Rattle.notation.specs.Built.{setOf}
+use Rattle.notation.specs.Reading.{Reads}
+
+-- 004, Definition 3: "β ::= ⊤ | B(p) | ¬β | β₁ ∧ β₂ | β₁ ∨ β₂" and "κ ::= ⊤ | G(p) | ¬κ | κ₁ ∧ κ₂ | κ₁ ∨ κ₂": the tree that a
+-- query is written as.
+abbrev pub written : (L : Letter) → Query L → Tree
+written L ⊤ = true
+written 𝐁 (atom p) = believes p
+written 𝐆 (atom p) = goal p
+written L (¬′ q) = not (written L q)
+written L (q ∧′ r) = and (written L q) (written L r)
+written L (q ∨′ r) = or (written L q) (written L r)
+
+-- 02, Wish 2: "A text card gives atoms, actions with weights, specifications, rules and the start one to a line.": a do line gives
+-- a specification.
+pub record Specifies (d : Do) (x : Specification) : Type 0 where
+  pub action : x .a ≡ d .action
+  pub condition : written 𝐁 (x .β) ≡ d .condition .tree
+  pub add : x .Add ≡ setOf (d .add)
+  pub del : x .Del ≡ setOf (d .del)
+
+-- a select line gives a selection rule
+pub record Selects (r : Select) (x : Selection) : Type 0 where
+  pub belief : written 𝐁 (x .β) ≡ r .belief .tree
+  pub goal : written 𝐆 (x .κ) ≡ r .goal .tree
+  pub plan : x .π ≡ r .plan
+
+-- a revise line gives a revision rule
+pub record Revises (r : Revise) (x : Revision) : Type 0 where
+  pub head : x .πₕ ≡ r .head
+  pub condition : written 𝐁 (x .β) ≡ r .condition .tree
+  pub body : x .πb ≡ r .body
+
+-- the begin line gives the start. 02, Wish 5: "the goals are those not believed, and at load likewise".
+abbrev pub startOf : Begin → State
+startOf b = record {
+  mental = ⟨ setOf (b .beliefs) / b .plan / struckBy (setOf (b .beliefs)) (setOf (b .goals)) ⟩;
+  phase = 0;
+  finished = 0;
+}
+
+-- Just so many, each in its turn: docs/TEXT.md: "Atoms, actions, specifications and rules have the numbers of their lines, from 0,
+-- each kind for itself."
+pub data InTurn {X Y : Type 0} (Gives : X → Y → Type 0) : List X → List Y → Type 0 where
+  no-more : InTurn Gives [] []
+  then : {x : X} {y : Y} {xs : List X} {ys : List Y} → Gives x y → InTurn Gives xs ys → InTurn Gives (x ∷ xs) (y ∷ ys)
+
+-- 02, Wish 2: "A text card gives atoms, actions with weights, specifications, rules and the start": the card has just those.
+pub record Means (s : Said) (b : Bytes) : Type 0 where
+  pub atoms : layout b .atoms ≡ s .atoms
+  pub actions : weights (layout b) b ≡ s .weights
+  pub specifications : InTurn Specifies (s .dos) (agent b .AS)
+  pub selections : InTurn Selects (s .selects) (agent b .PS)
+  pub revisions : InTurn Revises (s .revises) (agent b .PR)
+  pub begin : start b ≡ startOf (s .begin)
+
+-- 02, Wish 2: "builds an edition 1 card": of every text that is answered done, what the lent buffer holds then means the lines of
+-- the text.
+abbrev pub MeantLaw : Type 0
+MeantLaw = (t out : Bytes) (n : ℕ) (left : Bytes) → Reads t out Done n left → (s : Said) × (Text t s × Means s (take n left))
