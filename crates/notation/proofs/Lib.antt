@@ -49,3 +49,4 @@ pub mod Meant
 pub mod PrintingRefusals
 pub mod PrintingRoom
 pub mod PrintingTexts
+pub mod MeantSets

@@ -15,7 +15,7 @@ use Rattle.meaning.specs.Refusals.{containsOf, containing}
 use Rattle.meaning.proofs.AtomKinds.{or-none}
 use Rattle.notation.specs.Conditions.{Tree, true, believes, goal, not, and, or}
 use Rattle.notation.specs.Printing.{treeOf, trees, treeAt}
-use Rattle.notation.specs.Meant.{written}
+use Rattle.notation.specs.Meant.{written, others, OneTree}
 use Rattle.notation.proofs.MadeCompleted.{makeTree}
 
 -- ---- a pass and what is made of it
@@ -35,13 +35,13 @@ module _ {X Y : Type 0} (make : ℕ → Node → (ℕ → X) → X) (other : X) 
       ∙ ap (λ m. passOn make′ (f other) m ns) (sym (map-append f made (make (length made) n q ∷ [])))
       ∙ passed-on (made ++ (make (length made) n q ∷ [])) ns
 
-  pub passed : (ns : List Node) → pass make′ (f other) ns ≡ map f (pass make other ns)
+  passed : (ns : List Node) → pass make′ (f other) ns ≡ map f (pass make other ns)
   passed ns = passed-on [] ns
 
 -- ---- the query of a tree
 
 -- a tree as a query of a letter
-abbrev pub queryFor : (L : Letter) → Tree → Query L
+abbrev queryFor : (L : Letter) → Tree → Query L
 queryFor L true = ⊤
 queryFor 𝐁 (believes p) = atom p
 queryFor 𝐆 (believes p) = ⊤
@@ -64,7 +64,7 @@ query-of L Or a b tree = refl
 query-of L Unknown a b tree = refl
 
 -- whether an atom of a kind stands in a tree
-abbrev pub has : ℕ → Tree → Bool
+abbrev has : ℕ → Tree → Bool
 has kind true = Bool.false
 has kind (believes p) = eqb kind 1
 has kind (goal p) = eqb kind 2
@@ -87,25 +87,20 @@ module _ (l : Layout) (b : Bytes) where
   query-trees L = passed makeTree true (λ i n q. queryOf L (nodeKind (n .kind)) (n .a) (n .b) q) (queryFor L) (λ i n q. query-of L (nodeKind (n .kind)) (n .a) (n .b) q) (nodes l b)
 
   -- the condition of a node is its tree, read as a query
-  pub query-at : (L : Letter) (n : ℕ) → condition (conditions L l b) n ≡ queryFor L (treeAt l b n)
+  query-at : (L : Letter) (n : ℕ) → condition (conditions L l b) n ≡ queryFor L (treeAt l b n)
   query-at L n = rw (query-trees L) (List·getD-map (queryFor L) (trees l b) n true)
 
   has-trees : (kind : ℕ) → containing kind l b ≡ map (has kind) (trees l b)
   unfolding containing trees
   has-trees kind = passed makeTree true (λ i n q. containsOf kind (nodeKind (n .kind)) (n .a) (n .b) q) (has kind) (λ i n q. has-of kind (nodeKind (n .kind)) (n .a) (n .b) q) (nodes l b)
 
-  pub has-at : (kind n : ℕ) → getD (containing kind l b) n Bool.false ≡ has kind (treeAt l b n)
+  has-at : (kind n : ℕ) → getD (containing kind l b) n Bool.false ≡ has kind (treeAt l b n)
   has-at kind n = rw (has-trees kind) (List·getD-map (has kind) (trees l b) n true)
 
 -- ---- a tree without atoms of the other letter
 
--- the kind of the other letter's atoms
-abbrev pub others : Letter → ℕ
-others 𝐁 = 2
-others 𝐆 = 1
-
 -- is written as it is read
-pub as-written : (L : Letter) (t : Tree) → has (others L) t ≡ Bool.false → written L (queryFor L t) ≡ t
+as-written : (L : Letter) (t : Tree) → has (others L) t ≡ Bool.false → written L (queryFor L t) ≡ t
 as-written L true e = refl
 as-written 𝐁 (believes p) e = refl
 as-written 𝐆 (believes p) e = absurd (false≢true (sym e))
@@ -116,3 +111,7 @@ as-written L (and l r) e =
     let (f, g) = or-none (has (others L) l) (has (others L) r) e in ap₂ and (as-written L l f) (as-written L r g)
 as-written L (or l r) e =
     let (f, g) = or-none (has (others L) l) (has (others L) r) e in ap₂ or (as-written L l f) (as-written L r g)
+
+pub one-tree : OneTree
+one-tree L l b n free =
+    ap (written L) (query-at l b L n) ∙ as-written L (treeAt l b n) (sym (has-at l b (others L) n) ∙ free)

@@ -24,7 +24,7 @@ use Rattle.notation.specs.Lines.{Do, Select, Revise, Said, conditions}
 use Rattle.notation.specs.Built.{size, sizes, own, setOf, pool, specifications, selections, revisions, built}
 use Rattle.notation.specs.Reading.{numbersFit, entriesFit}
 use Rattle.notation.specs.Printing.{treeAt}
-use Rattle.notation.specs.Meant.{written, Specifies, Selects, Revises, InTurn, no-more, then}
+use Rattle.notation.specs.Meant.{written, others, Specifies, Selects, Revises, InTurn, no-more, then}
 use Rattle.notation.specs.Making.{setFits}
 use Rattle.notation.proofs.MadeLists.{each-true}
 use Rattle.notation.proofs.MadeSets.{set-length}
@@ -39,7 +39,7 @@ use Rattle.notation.proofs.MadeCompleted.{tree-among}
 use Rattle.notation.proofs.MadeNumbered.{card-trees}
 use Rattle.notation.proofs.Standing.{StandsAt, byte-there, number-there, part-there}
 use Rattle.notation.proofs.StandingSections.{layoutSaid, pool-stands}
-use Rattle.notation.proofs.MeantConditions.{queryFor, query-at, has, has-at, others, as-written}
+use Rattle.notation.proofs.MeantConditions.{one-tree}
 
 -- ---- an entry where it stands
 
@@ -115,9 +115,7 @@ module _ (s : Said) (n : numbersFit s ≡ Bool.true) (e : entriesFit s ≡ Bool.
       → conditionGood l (foreign L) (own k t) ≡ Bool.true → written L (condition (queries L) (own k t)) ≡ t
   condition-there L before t behind k h f good =
       let there : treeAt l b (own k t) ≡ t = rw (card-trees s n e, h, ← f) (tree-among before t behind) in
-      let free : has (others L) t ≡ Bool.false =
-      ap (has (others L)) (sym there) ∙ sym (has-at l b (others L) (own k t)) ∙ not-true _ (both (ltb (own k t) (l .nodes .count)) _ good .1) in
-      ap (written L) (query-at l b L (own k t) ∙ ap (queryFor L) there) ∙ as-written L t free
+      one-tree L l b (own k t) (not-true _ (both (ltb (own k t) (l .nodes .count)) _ good .1)) ∙ there
 
   -- a plan, behind the plans before it
   pub plan-there : (before p behind : Bytes) (x : Span) → pool s ≡ before ++ (p ++ behind) → x .start ≡ length before → x .length ≡ length p → plan l b x ≡ p

@@ -1,17 +1,23 @@
 -- A text means what it says: the agent, the weights and the start of a card, held beside the lines of a text.
 use mathlib.Core.Path.{_≡_}
-use mathlib.Core.List.{List, [], _∷_}
+use mathlib.Core.Logic.{_↔_}
+use mathlib.Core.Bool.{Bool}
+use mathlib.Core.List.{List, [], _∷_, List·Memᴰ}
 use Prim.Native.Nat.{ℕ}
-use lib.ListN.{take}
+use lib.ListN.{getD, take}
+use Rattle.paper.specs.Atoms.{_∈_}
 use Rattle.paper.specs.Language.{Letter, 𝐁, 𝐆, Query, ⊤, atom, ¬′, _∧′_, _∨′_, Specification, Selection, Revision, ⟨_/_/_⟩}
 use Rattle.paper.specs.Transitions.{struckBy}
 use Rattle.runs.specs.Order.{State}
 use Rattle.meaning.specs.declared.Answer.the-variants.{Done}
-use Rattle.meaning.specs.Card.{Bytes, layout, weights, agent, start}
+use Rattle.meaning.specs.declared.Layout.{Layout}
+use Rattle.meaning.specs.Card.{Bytes, layout, conditions, condition, weights, agent, start}
+use Rattle.meaning.specs.Refusals.{containing}
 use Rattle.notation.specs.Conditions.{Tree, true, believes, goal, not, and, or}
 use Rattle.notation.specs.Lines.{Do, Select, Revise, Begin, Said, Text}
 use Rattle.notation.specs.Built.{setOf}
 use Rattle.notation.specs.Reading.{Reads}
+use Rattle.notation.specs.Printing.{treeAt}
 
 -- 004, Definition 3: "β ::= ⊤ | B(p) | ¬β | β₁ ∧ β₂ | β₁ ∨ β₂" and "κ ::= ⊤ | G(p) | ¬κ | κ₁ ∧ κ₂ | κ₁ ∨ κ₂": the tree that a
 -- query is written as.
@@ -22,6 +28,19 @@ written 𝐆 (atom p) = goal p
 written L (¬′ q) = not (written L q)
 written L (q ∧′ r) = and (written L q) (written L r)
 written L (q ∨′ r) = or (written L q) (written L r)
+
+-- 01, "A configuration and its transitions": "A belief condition contains no goal atom, and a goal condition no belief atom.": the
+-- kind of the atoms that a condition of a letter may not have.
+abbrev pub others : Letter → ℕ
+others 𝐁 = 2
+others 𝐆 = 1
+
+-- What a node stands for is one tree: as a query of the guide, which `agent` asks, it is written as the tree that is printed, if it
+-- has no atom of the other letter.
+abbrev pub OneTree : Type 0
+OneTree =
+    (L : Letter) (l : Layout) (b : Bytes) (n : ℕ) → getD (containing (others L) l b) n Bool.false ≡ Bool.false
+    → written L (condition (conditions L l b) n) ≡ treeAt l b n
 
 -- 02, Wish 2: "A text card gives atoms, actions with weights, specifications, rules and the start one to a line.": a do line gives
 -- a specification.
@@ -70,3 +89,7 @@ pub record Means (s : Said) (b : Bytes) : Type 0 where
 -- the text.
 abbrev pub MeantLaw : Type 0
 MeantLaw = (t out : Bytes) (n : ℕ) (left : Bytes) → Reads t out Done n left → (s : Said) × (Text t s × Means s (take n left))
+
+-- docs/TEXT.md: "A set's numbers may come in any order and twice": the set has just those atoms.
+abbrev pub SetLaw : Type 0
+SetLaw = (ns : List ℕ) (k : ℕ) → (k ∈ setOf ns ≡ Bool.true) ↔ List·Memᴰ k ns
