@@ -19,8 +19,8 @@ use Rattle.notation.specs.Built.{setOf}
 use Rattle.notation.specs.Reading.{Reads}
 use Rattle.notation.specs.Printing.{treeAt}
 
--- 004, Definition 3: "β ::= ⊤ | B(p) | ¬β | β₁ ∧ β₂ | β₁ ∨ β₂" and "κ ::= ⊤ | G(p) | ¬κ | κ₁ ∧ κ₂ | κ₁ ∨ κ₂": the tree that a
--- query is written as.
+-- 01, "A configuration and its transitions": "Conditions (004, Definitions 3 and 8)": the tree that a belief query or a goal query
+-- is written as.
 abbrev pub written : (L : Letter) → Query L → Tree
 written L ⊤ = true
 written 𝐁 (atom p) = believes p
@@ -35,8 +35,8 @@ abbrev pub others : Letter → ℕ
 others 𝐁 = 2
 others 𝐆 = 1
 
--- What a node stands for is one tree: as a query of the guide, which `agent` asks, it is written as the tree that is printed, if it
--- has no atom of the other letter.
+-- What a node stands for is one tree: as the query that an agent asks it is written as the tree that is printed, if it has no atom
+-- of the other letter.
 abbrev pub OneTree : Type 0
 OneTree =
     (L : Letter) (l : Layout) (b : Bytes) (n : ℕ) → getD (containing (others L) l b) n Bool.false ≡ Bool.false
