@@ -1,5 +1,5 @@
 -- What a deliberation answers when it is done is accepted again, and strikes no goal anew.
-use mathlib.Core.Path.{_≡_, refl, ap, _∙_, sym, subst}
+use mathlib.Core.Path.{_≡_, refl, ap, _∙_, sym}
 use mathlib.Core.List.{List}
 use Prim.Native.Nat.{ℕ, _≤_}
 use lib.ListN.{length, take}
@@ -14,7 +14,7 @@ use Rattle.meaning.specs.Card.{Bytes, layout, agent}
 use Rattle.meaning.specs.Configurations.{padded, stateOf, configurationOf}
 use Rattle.meaning.proofs.Calls.{configuration-good}
 use Rattle.meaning.proofs.Configurations.{take-padded, configuration-laws}
-use Rattle.demands.specs.Demands.{OnAccepted}
+use Rattle.demands.specs.Demands.{OnAccepted, StandsFor}
 use Rattle.demands.specs.Struck.{Unbelieved}
 use Rattle.demands.proofs.AcceptedAgain.{accepted-again, handed-in}
 use Rattle.demands.proofs.Known.{Known, KnownAgent, known-agent, known-after}
@@ -36,24 +36,35 @@ module _ {l : Layout} {A : Agent} (known : KnownAgent l A) where
   known-followed (one-move f g r) h = known-followed r (known-goes g h)
 
 -- a state whose configuration stands for one that the card knows is that one
-known-back : (l : Layout) (s : State) → Known l (stateOf (configurationOf s)) → Known l s
+stands-back : (l : Layout) (s : State) → Known l (stateOf (configurationOf s)) → stateOf (configurationOf s) ≡ s
 unfolding stateOf configurationOf
-known-back l s k =
+stands-back l s k =
     let π = s .mental .π in
     let h : length (take (length π) (padded π)) ≤ 1024 = k .fits in
     let e : take (length π) (padded π) ≡ π = take-padded π (length π) refl in
-    subst (Known l) (configuration-laws .of-state s (rw e at h)) k
+    configuration-laws .of-state s (rw e at h)
 
 module _ (b p : Bytes) (c : Configuration) (budget : ℕ) (r : Deliberated) (w : Deliberates b p c budget r) where
-  pub deliberate-again : r .answer ≡ Done → OnAccepted b (r .configuration)
-  deliberate-again d =
-      let e : deliberateAnswer b p c ≡ Done = sym (deliberate-answer b p c budget r w) ∙ d in
-      let pass = passed b p c e in
-      let t = tells-law b p c budget e r w in
-      let on = configuration-good b c (pass .card) (pass .configuration-good) in
-      let k : Known (layout b) (stateOf (r .configuration)) = known-followed (known-agent b (pass .card)) (t .followed) (handed-in b c on) in
-      let z : r .configuration ≡ configurationOf (outcome b p c budget .state) = ap (λ (x : Deliberated). x .configuration) (w ∙ deliberates-done b p c budget e) in
-      rw z (accepted-again b (pass .card) _ (known-back (layout b) _ (rw z at k)))
+  module _ (d : r .answer ≡ Done) where
+    pub deliberate-done : deliberateAnswer b p c ≡ Done
+    deliberate-done = sym (deliberate-answer b p c budget r w) ∙ d
+
+    known : Known (layout b) (stateOf (r .configuration))
+    known =
+        let pass = passed b p c deliberate-done in
+        let on = configuration-good b c (pass .card) (pass .configuration-good) in
+        known-followed (known-agent b (pass .card)) (tells-law b p c budget deliberate-done r w .followed) (handed-in b c on)
+
+    -- what is answered is handed out for the state reached, and stands for it
+    pub deliberate-stands : StandsFor (r .configuration) (outcome b p c budget .state)
+    deliberate-stands =
+        let z : r .configuration ≡ configurationOf (outcome b p c budget .state) = ap (λ (x : Deliberated). x .configuration) (w ∙ deliberates-done b p c budget deliberate-done) in
+        record { handed-out = z; stands-for = ap stateOf z ∙ stands-back (layout b) (outcome b p c budget .state) (rw z at known) }
+
+    pub deliberate-again : OnAccepted b (r .configuration)
+    deliberate-again =
+        let s = deliberate-stands in
+        rw (s .handed-out) (accepted-again b (passed b p c deliberate-done .card) _ (rw (s .stands-for) at known))
 
   pub deliberate-struck : Unbelieved c → Unbelieved (r .configuration)
   deliberate-struck u = go (deliberateAnswer b p c) refl

@@ -16,7 +16,7 @@ use Rattle.meaning.specs.declared.Ran.{Ran}
 use Rattle.meaning.specs.Card.{Bytes, agent, start}
 use Rattle.meaning.specs.Configurations.{stateOf}
 use Rattle.meaning.specs.Calls.{choice}
-use Rattle.demands.specs.Contracts.{Loads, Takes, Runs, Shaped}
+use Rattle.demands.specs.Contracts.{Loads, Takes, Runs}
 use Rattle.demands.specs.TurnedScreen.{Turn, held}
 use Rattle.deliberation.specs.declared.Deliberated.{Deliberated}
 use Rattle.deliberation.specs.Programs.{Rest, still}
@@ -36,7 +36,7 @@ pub data Since (b : Bytes) : Configuration → Type 0 where
   deliberated : {c : Configuration} → Since b c → (p : Bytes) (budget : ℕ) (r : Deliberated) → Deliberates b p c budget r
       → r .answer ≡ Done → Since b (r .configuration)
   -- 02, Wish 4: "Saving and restoring keep it": a turn of the screen, with room to save
-  turned : {c : Configuration} → Since b c → Shaped c → (t : Turn b c) → Since b (held t)
+  turned : {c : Configuration} → Since b c → (t : Turn b c) → Since b (held t)
 
 -- The transitions of what was done, by their choices: of a chosen move the one that its code stands for; of a run as many of the
 -- guide's as it counts; of a deliberation its moves that are not idle; of a turn none.
@@ -51,7 +51,7 @@ pub data Made (b : Bytes) : (c : Configuration) → Since b c → List Choice �
       {d : r .answer ≡ Done} {ks : List Choice} {xs : List Label} {rest : Rest}
       → Made b _ h ks → Followed (agent b) (still (wholeOf b p)) (stateOf c) xs rest (stateOf (r .configuration)) → r .count ≡ length xs
       → Made b _ (deliberated h p budget r w d) (ks ++ notIdle xs)
-  by-turn : {c : Configuration} {h : Since b c} {s : Shaped c} {t : Turn b c} {ks : List Choice} → Made b _ h ks → Made b _ (turned h s t) ks
+  by-turn : {c : Configuration} {h : Since b c} {t : Turn b c} {ks : List Choice} → Made b _ h ks → Made b _ (turned h t) ks
 
 -- 02, Wish 4: "Let the configuration hold how many transitions have left the plan empty since load, stopping at 65,535."
 pub record Finished (b : Bytes) {c : Configuration} (h : Since b c) : Type 0 where
