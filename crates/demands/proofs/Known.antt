@@ -97,7 +97,7 @@ known-∖ : (n : ℕ) (s t : Atoms) → setGood n s ≡ true → setGood n (s �
 known-∖ n s t e = all-unknown n (s ∖ t) (λ k h. ∈-∖ k s t ∙ ap (λ x. x && not (k ∈ t)) (unknown n s e k h))
 
 -- 01, "Numbers the guide may answer": "no atoms"
-none-in : (n k : ℕ) → k ∈ replicate n 0 ≡ false
+pub none-in : (n k : ℕ) → k ∈ replicate n 0 ≡ false
 unfolding _∈_ bit
 none-in n k = elim (decLt (k / 8) n) [
   | yes l ↦ (let e : _≡_ {A = ℕ} (getD (replicate n 0) (k / 8) 0) 0 = getD-replicate n (k / 8) 0 0 l in rw (e, zero-div))

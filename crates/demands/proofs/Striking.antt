@@ -16,10 +16,12 @@ use Rattle.runs.proofs.Goals.{goal-law}
 use Rattle.meaning.specs.declared.Answer.the-variants.{Done}
 use Rattle.meaning.specs.declared.Configuration.{Configuration}
 use Rattle.meaning.specs.declared.Reply.{Reply}
+use Rattle.meaning.specs.declared.Graded.{Graded}
 use Rattle.meaning.specs.declared.Written.{Written}
 use Rattle.meaning.specs.declared.Ran.{Ran}
+use Rattle.meaning.specs.Sizes.{edition1Set}
 use Rattle.meaning.specs.Card.{Bytes, layout, agent, initialBeliefs, initialGoals, start}
-use Rattle.meaning.specs.Configurations.{stateOf, configurationOf}
+use Rattle.meaning.specs.Configurations.{stateOf, configurationOf, empty}
 use Rattle.meaning.specs.Place.{placed}
 use Rattle.meaning.specs.Refusals.{cardAnswer, placeAnswer}
 use Rattle.meaning.specs.Calls.{choice}
@@ -28,7 +30,8 @@ use Rattle.meaning.proofs.Starting.{start-law}
 use Rattle.demands.specs.Demands.{Transition}
 use Rattle.demands.specs.Struck.{Unbelieved, Struck}
 use Rattle.demands.proofs.Codes.{chosen}
-use Rattle.demands.proofs.Ways.{Replying, Writing, Taking, Running, refused, is-closed, plan-full, no-room, done, loading, restoring, listing, saving, taking, running}
+use Rattle.demands.proofs.Known.{none-in}
+use Rattle.demands.proofs.Ways.{Replying, Grading, Writing, Taking, Running, refused, is-closed, plan-full, no-room, done, loading, restoring, grading, listing, saving, taking, running}
 
 module _ (b : Bytes) where
   loaded : (r : Reply) → Replying (cardAnswer b) (start b) r → r .answer ≡ Done → Unbelieved (r .configuration)
@@ -51,6 +54,11 @@ module _ (b : Bytes) where
       let γ = initialGoals (layout b) b in
       (refl, λ k. rw (∈-∖ k γ σ) (kept-goal (k ∈ γ) (k ∈ σ)))
   loaded-exactly r (refused e) h = absurd (done≢refused (sym h))
+
+  graded : (r : Graded) → Grading b r → Unbelieved (r .configuration)
+  unfolding empty stateOf configurationOf
+  graded r (done e) k h = none-in edition1Set k
+  graded r (refused e) k h = none-in edition1Set k
 
   wrote : (c : Configuration) (xs out left : List ℕ) (r : Written) → Writing b c xs out r left → Unbelieved c → Unbelieved (r .configuration)
   wrote c xs out left r (refused e) u = u
@@ -87,6 +95,7 @@ pub struck : Struck
 struck = record {
   load = λ b r w. loaded b r (loading b r w);
   load-exactly = λ b r w. loaded-exactly b r (loading b r w);
+  grade = λ b r w. graded b r (grading b r w);
   action = λ b c n i q r w. acted b c n i q r (taking b c n r w);
   list = λ b c out left r w. wrote b c _ out left r (listing b c out left r w);
   take = λ b c n r w. took b c n r (taking b c n r w);

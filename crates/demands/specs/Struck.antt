@@ -11,13 +11,14 @@ use Rattle.runs.specs.Theorems.{NoneBelieved}
 use Rattle.meaning.specs.declared.Answer.the-variants.{Done}
 use Rattle.meaning.specs.declared.Configuration.{Configuration}
 use Rattle.meaning.specs.declared.Reply.{Reply}
+use Rattle.meaning.specs.declared.Graded.{Graded}
 use Rattle.meaning.specs.declared.Written.{Written}
 use Rattle.meaning.specs.declared.Ran.{Ran}
 use Rattle.meaning.specs.Card.{Bytes, layout, initialBeliefs, initialGoals}
 use Rattle.meaning.specs.Place.{placed}
 use Rattle.meaning.specs.Configurations.{stateOf}
 use Rattle.meaning.specs.Calls.{choice}
-use Rattle.demands.specs.Contracts.{Loads, Lists, Takes, Runs, Saves, Restores}
+use Rattle.demands.specs.Contracts.{Loads, Grades, Lists, Takes, Runs, Saves, Restores}
 
 -- No goal of a configuration is believed.
 abbrev pub Unbelieved : Configuration → Type 0
@@ -33,6 +34,8 @@ pub record Struck : Type 0 where
   -- 02, Wish 5: "after an action the goals are those not believed": the code is that of a specification, and the move is taken.
   pub action : (b : Bytes) (c : Configuration) (n i : ℕ) → choice n ≡ some (act i) → (r : Reply) → Takes b c n r → r .answer ≡ Done
       → Unbelieved (r .configuration)
+  -- 01, "What the guide does": "grade the card": the empty configuration has no goal
+  pub grade : (b : Bytes) (r : Graded) → Grades b r → Unbelieved (r .configuration)
   -- from a configuration where no goal is believed, no call reaches one where one is, whoever chooses
   pub list : (b : Bytes) (c : Configuration) (out left : List ℕ) (r : Written) → Lists b c out r left → Unbelieved c
       → Unbelieved (r .configuration)
