@@ -29,7 +29,8 @@ use Rattle.every_call.specs.Calls.{Names, Prints}
 
 -- 00, demand 1: "Every public call ends, on all bytes and numbers, with an answer listed in document 01. A refusal hands back the
 -- configuration it was given, or the empty one where it was given none, and writes to no lent buffer." That each call ends is
--- proved with its code.
+-- proved with its code. The lent numbers of a deliberation are the one buffer of which the last part does not hold: a refusal makes
+-- them all 0.
 pub record EveryCall : Type 0 where
   pub eight : Demand1
   -- 02, Wish 6: "19 …, after 9 and before 13."
