@@ -17,13 +17,13 @@ use Rattle.meaning.specs.Configurations.{stateOf}
 use Rattle.card.specs.GoodCard.{GoodCondition}
 use Rattle.door.specs.Asking.{judging, both, isThere, frontFits, conditionsOf, askedBy, asked}
 use Rattle.door.proofs.Asking.{empty-exactly, first-exactly}
-use Rattle.choices.specs.Judged.{toldOf, Judged}
+use Rattle.choices.specs.Judged.{markAt, Judged}
 use Rattle.choices.specs.Truth.{other}
 use Rattle.choices.proofs.OnePass.{one-pass-of}
 
 module _ (l : Layout) (b : Bytes) (c : Configuration) (marks : List ℕ) (j : Judged l b c marks) where
   -- a mark has what the tree of its condition has
-  pub marked : (L : Letter) (x : ℕ) → GoodCondition l b (other L) x → toldOf marks x ≡ judging L l b (stateOf c .mental) x
+  pub marked : (L : Letter) (x : ℕ) → GoodCondition l b (other L) x → markAt marks x ≡ judging L l b (stateOf c .mental) x
   unfolding stateOf
   marked L x k = j .marked x (k .known) ∙ one-pass-of L l b (j .ready .card .nodes) (stateOf c .mental) x k .keeps
 
@@ -41,7 +41,7 @@ module _ (l : Layout) (b : Bytes) (c : Configuration) (marks : List ℕ) (j : Ju
     n = c .mind .length
 
     pub asks-selection : i < l .selections .count
-        → askedBy true (eqb n 0) (both (toldOf marks (selectionAt l b i .belief)) (toldOf marks (selectionAt l b i .goal))) ≡ asked l b (stateOf c .mental) (select i)
+        → askedBy true (eqb n 0) (both (markAt marks (selectionAt l b i .belief)) (markAt marks (selectionAt l b i .goal))) ≡ asked l b (stateOf c .mental) (select i)
     unfolding stateOf
     asks-selection h =
         let r = j .ready .card .selections i h in
@@ -50,7 +50,7 @@ module _ (l : Layout) (b : Bytes) (c : Configuration) (marks : List ℕ) (j : Ju
         (ap₂ both (marked 𝐁 _ (r .belief)) (marked 𝐆 _ (r .goal)))
 
     pub asks-specification : i < l .specifications .count
-        → askedBy true (not (eqb n 0) && eqb (specificationAt l b i .action) (getD d 0 0)) (toldOf marks (specificationAt l b i .node)) ≡ asked l b (stateOf c .mental) (act i)
+        → askedBy true (not (eqb n 0) && eqb (specificationAt l b i .action) (getD d 0 0)) (markAt marks (specificationAt l b i .node)) ≡ asked l b (stateOf c .mental) (act i)
     unfolding stateOf
     asks-specification h =
         asks (act i) _ _ (lt-ltb i (l .specifications .count) h)
@@ -58,6 +58,6 @@ module _ (l : Layout) (b : Bytes) (c : Configuration) (marks : List ℕ) (j : Ju
         (marked 𝐁 _ (j .ready .card .specifications i h .belief))
 
     pub asks-revision : i < l .revisions .count
-        → askedBy true (isPrefix (plan l b (revisionAt l b i .head)) (take n d)) (toldOf marks (revisionAt l b i .node)) ≡ asked l b (stateOf c .mental) (revise i)
+        → askedBy true (isPrefix (plan l b (revisionAt l b i .head)) (take n d)) (markAt marks (revisionAt l b i .node)) ≡ asked l b (stateOf c .mental) (revise i)
     unfolding stateOf
     asks-revision h = asks (revise i) _ _ (lt-ltb i (l .revisions .count) h) refl (marked 𝐁 _ (j .ready .card .revisions i h .belief))

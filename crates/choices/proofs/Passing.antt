@@ -10,16 +10,16 @@ use lib.ListN.{length, set}
 use lib.Seq.{getD-set-same, getD-set-other}
 use Rattle.paper.specs.Next.{if}
 use Rattle.door.specs.Asking.{both}
-use Rattle.choices.specs.Judged.{told, toldOf, either}
+use Rattle.choices.specs.Judged.{ofMark, markAt, either}
 
 module _ (v : Bool) (n : ℕ) (h : n < 256) where
-  pub tells-true : v ≡ true → told (256 + n) ≡ (v, n)
+  pub tells-true : v ≡ true → ofMark (256 + n) ≡ (v, n)
   tells-true e =
       let d : (256 + n) / 256 ≡ 1 = omega arith in
       let m : (256 + n) % 256 ≡ n = omega arith in
       (λ i. (eqb (d i) 1, m i)) ∙ ap (λ v. (v, n)) (sym e)
 
-  pub tells-false : v ≡ false → told n ≡ (v, n)
+  pub tells-false : v ≡ false → ofMark n ≡ (v, n)
   tells-false e =
       let d : n / 256 ≡ 0 = omega arith in
       let m : n % 256 ≡ n = omega arith in
@@ -45,8 +45,8 @@ module _ (p q : Bool × ℕ) where
   either-second e = ap eitherBy (sym e)
 
 -- a turn of the pass: what the marks below i tell stays, and mark i tells what is due
-pub told-turn : (f : ℕ → Bool × ℕ) (l : List ℕ) (i v : ℕ) → i < length l → ((j : ℕ) → j < i → toldOf l j ≡ f j) → told v ≡ f i → (j : ℕ) → j < i + 1 → toldOf (set l i v) j ≡ f j
+pub told-turn : (f : ℕ → Bool × ℕ) (l : List ℕ) (i v : ℕ) → i < length l → ((j : ℕ) → j < i → markAt l j ≡ f j) → ofMark v ≡ f i → (j : ℕ) → j < i + 1 → markAt (set l i v) j ≡ f j
 told-turn f l i v h low e =
-    below-more (λ (j : ℕ). toldOf (set l i v) j ≡ f j) i
-    (λ j hj. ap told (getD-set-other l i j v 0 (omega arith)) ∙ low j hj)
-    (ap told (getD-set-same l i v 0 h) ∙ e)
+    below-more (λ (j : ℕ). markAt (set l i v) j ≡ f j) i
+    (λ j hj. ap ofMark (getD-set-other l i j v 0 (omega arith)) ∙ low j hj)
+    (ap ofMark (getD-set-same l i v 0 h) ∙ e)

@@ -14,12 +14,12 @@ use Rattle.door.specs.Ready.{Ready}
 use Rattle.choices.specs.OnePass.{kept}
 
 -- 02, Wish 3: "one mark and the settling atom", by their number: 256 where the mark is true, and the node that settled it
-abbrev pub told : ℕ → Bool × ℕ
-told mark = (eqb (mark / 256) 1, mark % 256)
+abbrev pub ofMark : ℕ → Bool × ℕ
+ofMark mark = (eqb (mark / 256) 1, mark % 256)
 
 -- of a node
-abbrev pub toldOf : List ℕ → ℕ → Bool × ℕ
-toldOf marks n = told (getD marks n 0)
+abbrev pub markAt : List ℕ → ℕ → Bool × ℕ
+markAt marks n = ofMark (getD marks n 0)
 
 -- one of two conditions: whether one holds, and 02, Wish 1: "the left child's where the left alone settles the value, else the
 -- right's"
@@ -28,7 +28,7 @@ either p q = (p .0 || q .0, if (p .0) (p .1) (q .1))
 
 -- 02, Wish 3: "keeping one mark and the settling atom for each node": marks that tell, in a mind, what the pass keeps
 abbrev pub Marked : Layout → Bytes → Mind → List ℕ → Type 0
-Marked l b m marks = (n : ℕ) → n < l .nodes .count → toldOf marks n ≡ getD (kept l b (m .beliefs) (m .goals)) n (false, 0)
+Marked l b m marks = (n : ℕ) → n < l .nodes .count → markAt marks n ≡ getD (kept l b (m .beliefs) (m .goals)) n (false, 0)
 
 -- an accepted card and configuration, with such marks
 pub record Judged (l : Layout) (b : Bytes) (c : Configuration) (marks : List ℕ) : Type 0 where

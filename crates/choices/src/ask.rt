@@ -7,7 +7,7 @@ ghost use Rattle.paper.specs.Next.{enabled};
 ghost use Rattle.runs.specs.Order.{guide};
 ghost use Rattle.door.specs.Words.{agentFor, stateOf, configured, asked, choiceAt, chosen, firstOfKind};
 ghost use Rattle.layout.specs.Entries.{countOf};
-ghost use Rattle.choices.specs.Judged.{told, Judged};
+ghost use Rattle.choices.specs.Judged.{ofMark, Judged};
 ghost use Rattle.door.specs.Asking.{askedBy};
 use crate::truth::Marks;
 use crate::truth::both_of;
@@ -26,7 +26,7 @@ use meaning::Plan;
 
 // By whether the plan's front fits, and the mark of the conditions: in this order. "Whoever judges a condition passes it on".
 fn asked_by(front: bool, conditions: u16) -> Asked
-    ensures { λ r. ⌜ r ≡ askedBy true front (told conditions) ⌝ }
+    ensures { λ r. ⌜ r ≡ askedBy true front (ofMark conditions) ⌝ }
 {
     let hold = is_true(conditions);
     if !front {

@@ -8,7 +8,7 @@ ghost use Rattle.meaning.specs.Kinds.{nodeKind};
 ghost use Rattle.card.specs.GoodCard.{GoodCard};
 ghost use Rattle.door.specs.Asking.{both};
 ghost use Rattle.choices.specs.OnePass.{keptOf};
-ghost use Rattle.choices.specs.Judged.{told, toldOf, either, Marked};
+ghost use Rattle.choices.specs.Judged.{ofMark, markAt, either, Marked};
 use layout::entries::read_node;
 use meaning::Layout;
 use meaning::Mind;
@@ -19,21 +19,21 @@ pub type Marks = [u16; 256];
 
 // Whether a condition holds, by its mark.
 pub fn is_true(mark: u16) -> bool
-    ensures { λ r. ⌜ r ≡ told mark .0 ⌝ }
+    ensures { λ r. ⌜ r ≡ ofMark mark .0 ⌝ }
 {
     mark / 256 == 1
 }
 
 // The node that settled it.
 pub fn settler(mark: u16) -> u8
-    ensures { λ r. ⌜ r ≡ told mark .1 ⌝ }
+    ensures { λ r. ⌜ r ≡ ofMark mark .1 ⌝ }
 {
     (mark % 256) as u8
 }
 
 // The mark of a value and of the node that settled it.
 fn mark_of(value: bool, node: u8) -> u16
-    ensures { λ r. ⌜ _≡_ {A = Bool × ℕ} (told r) (value, node) ⌝ }
+    ensures { λ r. ⌜ _≡_ {A = Bool × ℕ} (ofMark r) (value, node) ⌝ }
 {
     if value {
         256 + node as u16
@@ -44,14 +44,14 @@ fn mark_of(value: bool, node: u8) -> u16
 
 // Both of two: "the left child's where the left alone settles the value, else the right's", of an "and".
 pub fn both_of(left: u16, right: u16) -> u16
-    ensures { λ r. ⌜ told r ≡ both (told left) (told right) ⌝ }
+    ensures { λ r. ⌜ ofMark r ≡ both (ofMark left) (ofMark right) ⌝ }
 {
     if is_true(left) { right } else { left }
 }
 
 // One of two: the same of an "or".
 fn one_of(left: u16, right: u16) -> u16
-    ensures { λ r. ⌜ told r ≡ either (told left) (told right) ⌝ }
+    ensures { λ r. ⌜ ofMark r ≡ either (ofMark left) (ofMark right) ⌝ }
 {
     if is_true(left) { left } else { right }
 }
@@ -60,7 +60,7 @@ fn one_of(left: u16, right: u16) -> u16
 // child's": node i, by the marks of the lower nodes.
 fn judge(i: u8, x: Node, m: Mind, marks: &Marks) -> u16
     requires { ⌜ x .kind ≤ 5 ⌝ }
-    ensures { λ r. ⌜ told r ≡ keptOf i (nodeKind (x .kind)) (x .a) (x .b) (m .beliefs) (m .goals) (toldOf (now (marks .entry))) ⌝ }
+    ensures { λ r. ⌜ ofMark r ≡ keptOf i (nodeKind (x .kind)) (x .a) (x .b) (m .beliefs) (m .goals) (markAt (now (marks .entry))) ⌝ }
 {
     let kind = x.kind;
     let a = x.a;

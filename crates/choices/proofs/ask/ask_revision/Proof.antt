@@ -3,7 +3,7 @@ use Rattle.layout.specs.PlaceParts.{configured}
 use Rattle.meaning.specs.Card.{part, plan}
 use Rattle.paper.specs.Next.{isPrefix}
 use mathlib.Core.Bool.{true}
-use Rattle.choices.specs.Judged.{toldOf}
+use Rattle.choices.specs.Judged.{markAt}
 use Rattle.door.specs.Asking.{askedBy}
 use Rattle.choices.proofs.Marked.{asks-revision}
 use Rattle.card.specs.GoodCard.{GoodSpan}
@@ -44,7 +44,7 @@ returns c =
     let e = r .ensures .0 in
     let at = c .before .before .before .before .before .pool-at .ensures in
     let f = c .before .before .before .starts-with .ensures ∙ (λ j. isPrefix (part (now (a .card)) (at j) (r .result .head .length)) (take (a .m .length) (now (a .plan)))) ∙ ap (λ (x : RevisionEntry). isPrefix (plan (a .l) (now (a .card)) (x .head)) (take (a .m .length) (now (a .plan)))) e in
-    let p = ap (λ (x : RevisionEntry). toldOf M (x .node)) e in
+    let p = ap (λ (x : RevisionEntry). markAt M (x .node)) e in
     c .asked-by .ensures ∙ ap₂ (askedBy true) f p ∙ asks-revision (a .l) (now (a .card)) (configured (a .m) (now (a .plan))) M (s .pre .0) (a .i) (s .pre .1)
 
 pub ask-revision-spec : {M : Type 1} → statement M

@@ -4,7 +4,7 @@ use lib.Dec.{eqb}
 use mathlib.Core.Bool.{true}
 use Rattle.door.specs.Asking.{both, askedBy}
 use Rattle.meaning.specs.declared.SelectionEntry.{SelectionEntry}
-use Rattle.choices.specs.Judged.{toldOf}
+use Rattle.choices.specs.Judged.{markAt}
 use Rattle.choices.proofs.Marked.{asks-selection}
 use borrow.Author.Needs.{needs}
 use denote.Ref.{now}
@@ -26,7 +26,7 @@ returns c =
     let a = s .args in
     let M = now (a .marks) in
     let e = c .before .before .before .before .before .before .before .read-selection .ensures .0 in
-    let p = c .before .both-of .ensures ∙ ap (λ (x : SelectionEntry). both (toldOf M (x .belief)) (toldOf M (x .goal))) e in
+    let p = c .before .both-of .ensures ∙ ap (λ (x : SelectionEntry). both (markAt M (x .belief)) (markAt M (x .goal))) e in
     c .asked-by .ensures ∙ ap (askedBy true (eqb (a .m .length) 0)) p ∙ asks-selection (a .l) (now (a .card)) (configured (a .m) (now (a .plan))) M (s .pre .0) (a .i) (s .pre .1)
 
 pub ask-selection-spec : {M : Type 1} → statement M

@@ -4,7 +4,7 @@ use lib.Dec.{eqb}
 use mathlib.Core.Bool.{true, not, _&&_}
 use Rattle.door.specs.Asking.{askedBy}
 use Rattle.meaning.specs.declared.SpecificationEntry.{SpecificationEntry}
-use Rattle.choices.specs.Judged.{toldOf}
+use Rattle.choices.specs.Judged.{markAt}
 use Rattle.choices.proofs.Marked.{asks-specification}
 use borrow.Author.Needs.{needs}
 use denote.Ref.{now}
@@ -24,7 +24,7 @@ returns c =
     let a = s .args in
     let M = now (a .marks) in
     let e = c .before .before .before .before .before .before .read-specification .ensures in
-    let p = ap (λ (x : SpecificationEntry). toldOf M (x .node)) e in
+    let p = ap (λ (x : SpecificationEntry). markAt M (x .node)) e in
     let f = ap (λ (x : SpecificationEntry). not (eqb (a .m .length) 0) && eqb (x .action) (getD (now (a .plan)) 0 0)) e in
     c .asked-by .ensures ∙ ap₂ (askedBy true) f p ∙ asks-specification (a .l) (now (a .card)) (configured (a .m) (now (a .plan))) M (s .pre .0) (a .i) (s .pre .1)
 

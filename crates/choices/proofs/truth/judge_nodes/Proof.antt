@@ -4,7 +4,7 @@ use mathlib.Core.Bool.{false}
 use lib.ListN.{length-set, length, getD}
 use Rattle.meaning.specs.Kinds.{nodeKind}
 use Rattle.choices.specs.OnePass.{keptOf, kept}
-use Rattle.choices.specs.Judged.{toldOf}
+use Rattle.choices.specs.Judged.{markAt}
 use Rattle.choices.proofs.Passing.{told-turn}
 use Rattle.choices.proofs.OnePass.{kept-next}
 use mathlib.Core.Path.{_≡_, ap, _∙_}
@@ -16,7 +16,7 @@ use Rattle.choices.proofs.truth.judge_nodes.Statement.{statement}
 use Rattle.choices.proofs.truth.judge_nodes.Tie as tie
 
 abbrev Inv-loop : tie.InvT-loop
-Inv-loop card l m marks₀ n i₀ marks i = (i ≤ n) × (length marks ≡ 256) × ((j : ℕ) → j < i → toldOf marks j ≡ getD (kept l card (m .beliefs) (m .goals)) j (false, 0))
+Inv-loop card l m marks₀ n i₀ marks i = (i ≤ n) × (length marks ≡ 256) × ((j : ℕ) → j < i → markAt marks j ≡ getD (kept l card (m .beliefs) (m .goals)) j (false, 0))
 
 abbrev μ-loop : tie.MeasureT-loop
 μ-loop card l m marks₀ n i₀ marks i = n - i
@@ -47,11 +47,11 @@ loop-again c =
     let b = now (a .card) in
     let k : l .i < a .l .nodes .count = omega arith in
     let r = l .inv .1 in
-    let e = c .judge .ensures ∙ ap (λ (x : Node). keptOf (l .i) (nodeKind (x .kind)) (x .a) (x .b) (a .m .beliefs) (a .m .goals) (toldOf (l .marks))) (c .before .before .read-node .ensures) in (
+    let e = c .judge .ensures ∙ ap (λ (x : Node). keptOf (l .i) (nodeKind (x .kind)) (x .a) (x .b) (a .m .beliefs) (a .m .goals) (markAt (l .marks))) (c .before .before .read-node .ensures) in (
       omega arith,
       simp length-set (l .inv .1),
       told-turn (λ j. getD (kept (a .l) b (a .m .beliefs) (a .m .goals)) j (false, 0)) (l .marks) (l .i) (c .judge .result) (let q = p .layout .nodes in omega arith) (l .inv .2)
-          (e ∙ kept-next (a .l) b (p .nodes) (a .m .beliefs) (a .m .goals) (l .i) k (toldOf (l .marks)) (l .inv .2)),
+          (e ∙ kept-next (a .l) b (p .nodes) (a .m .beliefs) (a .m .goals) (l .i) k (markAt (l .marks)) (l .inv .2)),
     )
 
 returns : tie.Need-returns Inv-loop μ-loop
