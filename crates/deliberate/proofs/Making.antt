@@ -27,7 +27,7 @@ use Rattle.layout.specs.PlaceParts.{configured}
 use Rattle.door.specs.declared.asked.Chosen.{Chosen}
 use Rattle.choices.specs.OnePass.{kept}
 use Rattle.door.specs.Ready.{Ready}
-use Rattle.choices.specs.Judged.{toldOf, Marked, Judged}
+use Rattle.choices.specs.Judged.{markAt, Marked, Judged}
 use Rattle.door.specs.Asking.{choiceAt, chosen}
 use Rattle.door.proofs.Asking.{empty-exactly}
 use Rattle.choices.proofs.Marked.{marked}
@@ -218,14 +218,14 @@ module _ (l : Layout) (b : Bytes) (c : Configuration) where
     idle-on false true i body ns e = absurd (false≢true e)
     idle-on false false i body ns e = refl
 
-    pub while-on : (i : ℕ) (e : Node) (q : ℕ → Option (Move (List ℕ))) (ns : List ℕ) (t : Bool) → GoodEntry l b i e → HoldsBy e (c .mind .length) (toldOf marks (e .a) .0) t
+    pub while-on : (i : ℕ) (e : Node) (q : ℕ → Option (Move (List ℕ))) (ns : List ℕ) (t : Bool) → GoodEntry l b i e → HoldsBy e (c .mind .length) (markAt marks (e .a) .0) t
         → moveResult A′ (stateOf c) (moveOf A′ (conditions 𝐁 l b) (stateOf c .mental) i (entryKind (e .kind)) (e .a) (e .b) q) ns ≡ on (again t (e .b) i ns) (stateOf c)
     unfolding 𝒲 stateOf
     while-on i e q ns t g (by-plan h) =
         let k = empty-exactly (c .plan) (c .mind .length) (let x = j .ready .fits in let y = j .ready .room in omega arith) in
         rw h (idle-on (𝒲 notEmptyPlan (stateOf c .mental)) (not (eqb (c .mind .length) 0)) i (e .b) ns (ap not k))
     while-on i e q ns t g (by-mark h) =
-        rw h (idle-on (𝒲 (holds (condition (conditions 𝐁 l b) (e .a))) (stateOf c .mental)) (toldOf marks (e .a) .0) i (e .b) ns
+        rw h (idle-on (𝒲 (holds (condition (conditions 𝐁 l b) (e .a))) (stateOf c .mental)) (markAt marks (e .a) .0) i (e .b) ns
         (sym (ap (λ p. p .0) (marked l b c marks j 𝐁 (e .a) (belief-condition (subst (EntryLaws _ _ _ _ _ _) h (g .names)))))))
 
 -- ---- an entry without parts
@@ -271,7 +271,7 @@ module _ (l : Layout) (b p : Bytes) (c : Configuration) (good : GoodProgram l b 
       (omega arith, omega arith)
 
   pub leaf-idles : (marks : List ℕ) → Judged l b c marks → (r : AfterMove) (stack′ : Bytes) → r ≡ stayed (c .mind) MoveMade.On (r .top) → r .top ≤ 128
-      → length stack′ ≡ 128 → (t : Bool) → HoldsBy x (c .mind .length) (toldOf marks (x .a) .0) t → drop (r .top) stack′ ≡ again t (x .b) (leaf .at) ns′
+      → length stack′ ≡ 128 → (t : Bool) → HoldsBy x (c .mind .length) (markAt marks (x .a) .0) t → drop (r .top) stack′ ≡ again t (x .b) (leaf .at) ns′
       → Makes l b c ns′ (moveResult (agentFor l b) (stateOf c) (moveAt l b p (stateOf c .mental) (leaf .at)) ns′) r (c .plan) stack′
   leaf-idles marks j r stack′ e w n t k f =
       let g = while-on l b c marks j (leaf .at) x (moveAt l b p (stateOf c .mental)) ns′ t leaf-good k in

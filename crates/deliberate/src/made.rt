@@ -8,7 +8,7 @@ ghost use lib.ListN.{length, drop};
 ghost use Rattle.paper.specs.Language.{Agent, Config};
 ghost use Rattle.paper.specs.Next.{isSome};
 ghost use Rattle.door.specs.Words.{Bytes, agentFor, stateOf, configured, Ready, chosen, firstOfKind};
-ghost use Rattle.choices.specs.Judged.{toldOf, Judged};
+ghost use Rattle.choices.specs.Judged.{markAt, Judged};
 ghost use Rattle.deliberation.specs.Kinds.{entryKind};
 ghost use Rattle.deliberation.specs.FirstMove.{byChoice, lowestAction};
 ghost use Rattle.deliberation.specs.Entries.{moveAt};
@@ -122,7 +122,7 @@ fn make_choice(
 // Whether a while's condition holds: "3 while the plan is not empty do b, 4 while belief condition a holds do b".
 fn holds(e: Node, m: Mind, marks: &Marks) -> bool
     requires { ⌜ (3 ≤ e .kind) × (e .kind < 5) ⌝ }
-    ensures { λ r. ⌜ HoldsBy e (m .length) (toldOf (now (marks .entry)) (e .a) .0) r ⌝ }
+    ensures { λ r. ⌜ HoldsBy e (m .length) (markAt (now (marks .entry)) (e .a) .0) r ⌝ }
 {
     let kind = e.kind;
     let a = e.a as usize;
@@ -136,7 +136,7 @@ fn holds(e: Node, m: Mind, marks: &Marks) -> bool
 fn turn(e: Node, i: usize, m: Mind, marks: &Marks, stack: &mut [u8; 128], top: usize) -> AfterMove
     requires { ⌜ (3 ≤ e .kind) × (e .kind < 5) × (i < 128) × (2 ≤ top) × (top ≤ 128) × (length (now stack) ≡ 128) ⌝ }
     ensures { λ r. ⌜ (r ≡ stayed m MoveMade.On (r .top)) × (r .top ≤ 128) × (length (now (stack .exit)) ≡ 128) ⌝ }
-    ensures { λ r. ⌜ ((t : Bool) × (HoldsBy e (m .length) (toldOf (now (marks .entry)) (e .a) .0) t
+    ensures { λ r. ⌜ ((t : Bool) × (HoldsBy e (m .length) (markAt (now (marks .entry)) (e .a) .0) t
         × (drop (r .top) (now (stack .exit)) ≡ again t (e .b) i (drop top (now (stack .entry)))))) ⌝ }
 {
     if !holds(e, m, marks) {

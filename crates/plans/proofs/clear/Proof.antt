@@ -11,7 +11,7 @@ use Rattle.plans.proofs.clear.Statement.{statement}
 use Rattle.plans.proofs.clear.Tie as tie
 
 abbrev Inv-loop : tie.InvT-loop
-Inv-loop s₀ from to i₀ s i = (from ≤ i) × (i ≤ to) × (s ≡ paste s₀ from (replicate (to - from) 0) (i - from))
+Inv-loop s₀ from to i₀ s i = (from ≤ i) × (i ≤ to) × (s ≡ paste s₀ from (replicate (to - from) 0) (i - from)) × (length s ≡ length s₀)
 
 abbrev μ-loop : tie.MeasureT-loop
 μ-loop s₀ from to i₀ s i = to - i
