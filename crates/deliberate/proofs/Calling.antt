@@ -60,15 +60,17 @@ module _ (d d₁ d₂ : Bytes) (top : ℕ) (h : top ≤ 128) (s : length d ≡ 1
   pub moved-length : length d₁ ≡ 128
   moved-length = omega (arith, count, ap length in-front ∙ length-append (drop top d) (drop (128 - top) d), length-drop (128 - top) d)
 
-  pub handed-out : d₂ ≡ take (128 - top) d₁ ++ (replicate (128 - (128 - top)) 0 ++ drop 128 d₁) → remains (128 - top) d₂ ≡ remainingOf (drop top d)
+  pub handed-out : d₂ ≡ (take (128 - top) d₁ ++ replicate (128 - (128 - top)) 0) ++ drop 128 d₁ → remains (128 - top) d₂ ≡ remainingOf (drop top d)
   unfolding remainingOf
   handed-out cleared =
       let n = count in
       let m = moved-length in
+      let w : length d₁ ≤ 128 = omega arith in
+      let front : Bytes = take (128 - top) d₁ ++ replicate (128 - (128 - top)) 0 in
       let t : take (128 - top) d₁ ≡ drop top d = ap (take (128 - top)) in-front ∙ take-at (drop top d) (drop (128 - top) d) (128 - top) n in
-      let z : replicate (128 - (128 - top)) 0 ++ drop 128 d₁ ≡ replicate (128 - length (drop top d)) 0 =
-      ap (λ (x : Bytes). replicate (128 - (128 - top)) 0 ++ x) (drop-of-length-le d₁ (omega arith)) ∙ append-nil _ ∙ ap (λ j. replicate (128 - j) 0) (sym n) in
-      λ i. record { length = sym n i; numbers = (cleared ∙ ap₂ _++_ t z) i }
+      let q : d₂ ≡ drop top d ++ replicate (128 - length (drop top d)) 0 =
+      cleared ∙ ap (λ (x : Bytes). front ++ x) (drop-of-length-le d₁ w) ∙ append-nil front ∙ ap₂ _++_ t (ap (λ j. replicate (128 - j) 0) (sym n)) in
+      λ i. record { length = sym n i; numbers = q i }
 
 -- what the moves came to, as it is answered
 pub ran-so : (o : Outcome) (r : RanMoves) (plan stack numbers : Bytes) (n : ℕ) → RanTo o r plan stack → remains n numbers ≡ remainingOf (drop (r .top) stack)
