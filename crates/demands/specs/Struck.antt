@@ -25,15 +25,14 @@ abbrev pub Unbelieved : Configuration → Type 0
 Unbelieved c = NoneBelieved (stateOf c .mental)
 
 pub record Struck : Type 0 where
-  -- 02, Wish 5: "the goals are those not believed, and at load likewise"
-  pub load : (b : Bytes) (r : Reply) → Loads b r → r .answer ≡ Done → Unbelieved (r .configuration)
-  -- the same sentence, both ways: of the card's own goals those that are not believed, and the beliefs are the card's own
-  pub load-exactly : (b : Bytes) (r : Reply) → Loads b r → r .answer ≡ Done
+  -- 02, Wish 5: "the goals are those not believed, and at load likewise": of the card's own goals; the beliefs are the card's own.
+  pub load : (b : Bytes) (r : Reply) → Loads b r → r .answer ≡ Done
       → (r .configuration .mind .beliefs ≡ initialBeliefs (layout b) b) × ((k : ℕ) → (k ∈ r .configuration .mind .goals ≡ true)
       ↔ ((k ∈ initialGoals (layout b) b ≡ true) × (k ∈ r .configuration .mind .beliefs ≡ false)))
   -- 02, Wish 5: "after an action the goals are those not believed": the code is that of a specification, and the move is taken.
   pub action : (b : Bytes) (c : Configuration) (n i : ℕ) → choice n ≡ some (act i) → (r : Reply) → Takes b c n r → r .answer ≡ Done
-      → Unbelieved (r .configuration)
+      → (k : ℕ) → (k ∈ r .configuration .mind .goals ≡ true)
+      ↔ ((k ∈ c .mind .goals ≡ true) × (k ∈ r .configuration .mind .beliefs ≡ false))
   -- 01, "What the guide does": "grade the card": the empty configuration has no goal
   pub grade : (b : Bytes) (r : Graded) → Grades b r → Unbelieved (r .configuration)
   -- from a configuration where no goal is believed, no call reaches one where one is, whoever chooses
