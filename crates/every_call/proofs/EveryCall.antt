@@ -17,10 +17,10 @@ use Rattle.notation.specs.Lines.{Said}
 use Rattle.notation.specs.Built.{built}
 use Rattle.notation.specs.Reading.{textTable, saidAnswer, Reads, no-text, refused, done}
 use Rattle.notation.proofs.Laws.{read-law, read-determined}
-use Rattle.deliberation.proofs.Call.{program-refused, configuration-refused, refusal-law, determined-law}
+use Rattle.deliberation.proofs.Call.{refusal-law, determined-law}
 use Rattle.every_call.specs.EveryCall.{EveryCall, EveryOrder, EveryAnswer, EveryDone, EveryGoal}
 use Rattle.every_call.proofs.Listed.{deliberate-answer, name-answer, deliberate-among, name-among, print-among, text-among, deliberate-refused, name-refused, print-refused}
-use Rattle.every_call.proofs.Ordered.{name-card, name-sheets, print-card, print-next, print-room, text-next, text-card, text-room}
+use Rattle.every_call.proofs.Ordered.{name-card, name-shed, name-master, name-action, print-card, print-next, print-room, text-next, text-card, text-room}
 use Rattle.every_call.proofs.Deliberating.{deliberate-again, deliberate-struck}
 
 pub every-call : EveryCall
@@ -39,12 +39,12 @@ every-call = record {
 pub every-order : EveryOrder
 every-order = record {
   eight = test-order;
-  deliberate-card = λ b p c budget r w. refusal-law b p c budget r w .by-card;
+  deliberate = refusal-law;
   name-card = name-card;
   print-card = print-card;
-  deliberate-program = λ b p c budget r w card e. deliberate-answer b p c budget r w ∙ program-refused b p c card e;
-  deliberate-configuration = λ b p c budget r w card good e. deliberate-answer b p c budget r w ∙ configuration-refused b p c card good e;
-  name-sheets = name-sheets;
+  name-shed = name-shed;
+  name-master = name-master;
+  name-action = name-action;
   text-first = λ t out left a n w. read-law t out a n left w .text-exactly .1;
   text-next = text-next;
   text-card = text-card;
@@ -58,7 +58,7 @@ every-answer = record {
   eight = determined;
   deliberate = determined-law;
   name = λ b q r r′ e e′. e ∙ sym e′;
-  text = read-determined .read;
+  text = read-determined;
   print = λ b n out left left′ a a′ count count′ w w′. (w .answer ∙ sym (w′ .answer), w .counted ∙ sym (w′ .counted), w .leaves ∙ sym (w′ .leaves));
 }
 

@@ -1,18 +1,22 @@
 -- The order of tests of name, text and print.
 use mathlib.Core.Path.{_≡_, ap, _∙_, sym}
-use Prim.Native.Nat.{ℕ}
+use mathlib.Core.Bool.{true, false, not}
+use Prim.Native.Nat.{ℕ, _≤_}
+use borrow.Author.Tests.{le-ltb}
 use Rattle.meaning.specs.declared.Refusal.{Refusal}
 use Rattle.meaning.specs.declared.Answer.{Answer}
 use Rattle.meaning.specs.declared.Answer.the-variants.{Done, Refused}
 use Rattle.meaning.specs.Card.{Bytes, layout}
 use Rattle.meaning.specs.Refusals.{firstGiven, andThen, cardAnswer}
 use Rattle.meaning.specs.Calls.{roomFor}
+use Rattle.meaning.proofs.Tables.{given, not-given}
 use Rattle.notation.specs.Lines.{Said, Text}
 use Rattle.notation.specs.Built.{built}
 use Rattle.notation.specs.Reading.{textTable, saidAnswer, Reads, no-text, refused, done}
 use Rattle.notation.specs.Printing.{printTable, printed, printAnswer}
 use Rattle.notation.proofs.ReadingOnce.{unambiguous}
 use Rattle.names.specs.declared.Named.{Named}
+use Rattle.names.specs.Sheets.{shedGood, masterGood}
 use Rattle.names.specs.Naming.{Question, nameTable, nameAnswer}
 use Rattle.every_call.specs.Calls.{Names, Prints}
 use Rattle.every_call.proofs.Listed.{name-answer}
@@ -29,9 +33,23 @@ module _ (b : Bytes) (q : Question) (r : Named) (w : Names b q r) where
   unfolding nameAnswer
   name-card x e = name-answer b q r w ∙ first (cardAnswer b) _ x e
 
-  pub name-sheets : cardAnswer b ≡ Done → r .answer ≡ firstGiven (nameTable (layout b .actions)) q
-  unfolding nameAnswer
-  name-sheets e = name-answer b q r w ∙ then (cardAnswer b) _ e
+  module _ (card : cardAnswer b ≡ Done) where
+    name-rows : r .answer ≡ firstGiven (nameTable (layout b .actions)) q
+    unfolding nameAnswer
+    name-rows = name-answer b q r w ∙ then (cardAnswer b) _ card
+
+    pub name-shed : shedGood (layout b .actions) (q .shed) ≡ false → r .answer ≡ Refused (Refusal.Sheet 1)
+    unfolding nameTable
+    name-shed e = name-rows ∙ given _ _ q (ap not e)
+
+    module _ (shed : shedGood (layout b .actions) (q .shed) ≡ true) where
+      pub name-master : masterGood (layout b .actions) (q .master) ≡ false → r .answer ≡ Refused (Refusal.Sheet 0)
+      unfolding nameTable
+      name-master e = name-rows ∙ (not-given _ _ q (ap not shed) ∙ given _ _ q (ap not e))
+
+      pub name-action : masterGood (layout b .actions) (q .master) ≡ true → layout b .actions ≤ q .action → r .answer ≡ Refused Refusal.NoAction
+      unfolding nameTable
+      name-action e h = name-rows ∙ (not-given _ _ q (ap not shed) ∙ (not-given _ _ q (ap not e) ∙ given _ _ q (ap not (le-ltb _ _ h))))
 
 module _ (b : Bytes) (n : ℕ) (out left : Bytes) (a : Answer) (count : ℕ) (w : Prints b n out a count left) where
   pub print-card : (q : Refusal) → cardAnswer b ≡ Refused q → a ≡ Refused q

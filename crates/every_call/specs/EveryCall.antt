@@ -3,14 +3,14 @@
 use mathlib.Core.Path.{_≡_}
 use mathlib.Core.Bool.{true, false}
 use mathlib.Core.List.{List, [], _∷_, _++_, List·Memᴰ}
-use Prim.Native.Nat.{ℕ}
+use Prim.Native.Nat.{ℕ, _≤_}
 use lib.ListN.{take, replicate}
 use Rattle.meaning.specs.declared.Refusal.{Refusal}
 use Rattle.meaning.specs.declared.Answer.{Answer}
 use Rattle.meaning.specs.declared.Answer.the-variants.{Done, Refused}
 use Rattle.meaning.specs.declared.Configuration.{Configuration}
 use Rattle.meaning.specs.Card.{Bytes, layout}
-use Rattle.meaning.specs.Refusals.{answerNumber, firstGiven, cardAnswer, containing, configurationGood}
+use Rattle.meaning.specs.Refusals.{answerNumber, firstGiven, cardAnswer}
 use Rattle.meaning.specs.Calls.{roomFor}
 use Rattle.demands.specs.Demands.{doneOrCard, Demand1, Determined, OnAccepted}
 use Rattle.demands.specs.TestOrder.{TestOrder}
@@ -20,17 +20,18 @@ use Rattle.notation.specs.Lines.{Said, Text}
 use Rattle.notation.specs.Built.{built}
 use Rattle.notation.specs.Reading.{Derived, textTable, Reads}
 use Rattle.notation.specs.Printing.{printTable, printed}
+use Rattle.notation.specs.Theorems.{ReadDetermined}
 use Rattle.deliberation.specs.declared.Deliberated.{Deliberated}
-use Rattle.deliberation.specs.Entries.{programGood}
-use Rattle.deliberation.specs.Theorems.{Deliberates}
+use Rattle.deliberation.specs.Theorems.{Deliberates, RefusalLaw, DeterminedLaw}
 use Rattle.names.specs.declared.Named.{Named}
-use Rattle.names.specs.Naming.{Question, nameTable, refusedName}
+use Rattle.names.specs.Sheets.{shedGood, masterGood}
+use Rattle.names.specs.Naming.{Question, refusedName}
 use Rattle.every_call.specs.Calls.{Names, Prints}
 
 -- 00, demand 1: "Every public call ends, on all bytes and numbers, with an answer listed in document 01. A refusal hands back the
 -- configuration it was given, or the empty one where it was given none, and writes to no lent buffer." That each call ends is
--- proved with its code. The lent numbers of a deliberation are the one buffer of which the last part does not hold: a refusal makes
--- them all 0.
+-- proved with its code. What remains of a refused deliberation is no number, in 128 bytes that are all 0; for C those are lent, and
+-- are the one buffer that a refusal writes.
 pub record EveryCall : Type 0 where
   pub eight : Demand1
   -- 02, Wish 6: "19 …, after 9 and before 13."
@@ -64,23 +65,22 @@ pub record EveryCall : Type 0 where
 -- 4, 8, 9 or a configuration with 13; then the rest."
 pub record EveryOrder : Type 0 where
   pub eight : TestOrder
-  -- 01, "Numbers the guide may answer": "the card first with 1 to 9", of each call that is given one
-  pub deliberate-card : (b p : Bytes) (c : Configuration) (budget : ℕ) (r : Deliberated) → Deliberates b p c budget r
-      → (q : Refusal) → cardAnswer b ≡ Refused q → r .answer ≡ Refused q
+  -- 02, Wish 6: "19 a program breaking these rules or naming an unknown rule or node, after 9 and before 13."
+  pub deliberate : RefusalLaw
+  -- 01, "Numbers the guide may answer": "the card first with 1 to 9", of the two others that are given one
   pub name-card : (b : Bytes) (q : Question) (r : Named) → Names b q r → (x : Refusal) → cardAnswer b ≡ Refused x → r .answer ≡ Refused x
   pub print-card : (b : Bytes) (n : ℕ) (out left : Bytes) (a : Answer) (count : ℕ) → Prints b n out a count left
       → (q : Refusal) → cardAnswer b ≡ Refused q → a ≡ Refused q
-  -- 02, Wish 6: "19 a program breaking these rules or naming an unknown rule or node, after 9 and before 13."
-  pub deliberate-program : (b p : Bytes) (c : Configuration) (budget : ℕ) (r : Deliberated) → Deliberates b p c budget r
-      → cardAnswer b ≡ Done → programGood (containing 2 (layout b) b) (layout b) p ≡ false → r .answer ≡ Refused Refusal.Program
-  -- 01, "Numbers the guide may answer": "or a configuration with 13"
-  pub deliberate-configuration : (b p : Bytes) (c : Configuration) (budget : ℕ) (r : Deliberated) → Deliberates b p c budget r
-      → cardAnswer b ≡ Done → programGood (containing 2 (layout b) b) (layout b) p ≡ true → configurationGood (layout b) c ≡ false
-      → r .answer ≡ Refused Refusal.Configuration
-  -- 02, Wish 8: "20 a sheet breaking these rules, the shed's before the master; then 21 unknown action.": in the order of these
-  -- rows
-  pub name-sheets : (b : Bytes) (q : Question) (r : Named) → Names b q r → cardAnswer b ≡ Done
-      → r .answer ≡ firstGiven (nameTable (layout b .actions)) q
+  -- 02, Wish 8: "20 a sheet breaking these rules, the shed's before the master"
+  pub name-shed : (b : Bytes) (q : Question) (r : Named) → Names b q r → cardAnswer b ≡ Done
+      → shedGood (layout b .actions) (q .shed) ≡ false → r .answer ≡ Refused (Refusal.Sheet 1)
+  pub name-master : (b : Bytes) (q : Question) (r : Named) → Names b q r → cardAnswer b ≡ Done
+      → shedGood (layout b .actions) (q .shed) ≡ true → masterGood (layout b .actions) (q .master) ≡ false
+      → r .answer ≡ Refused (Refusal.Sheet 0)
+  -- 02, Wish 8: "then 21 unknown action."
+  pub name-action : (b : Bytes) (q : Question) (r : Named) → Names b q r → cardAnswer b ≡ Done
+      → shedGood (layout b .actions) (q .shed) ≡ true → masterGood (layout b .actions) (q .master) ≡ true
+      → layout b .actions ≤ q .action → r .answer ≡ Refused Refusal.NoAction
   -- 02, Wish 2: "Refusals, in this order: 17 text"
   pub text-first : (t out left : Bytes) (a : Answer) (n : ℕ) → Reads t out a n left → (Derived t → ⊥)
       → (p : ℕ) × (a ≡ Refused (Refusal.Text p))
@@ -102,11 +102,9 @@ pub record EveryOrder : Type 0 where
 -- every byte and number in lent buffers afterwards; equality of any two conforming answers is proved".
 pub record EveryAnswer : Type 0 where
   pub eight : Determined
-  pub deliberate : (b p : Bytes) (c : Configuration) (budget : ℕ) (r r′ : Deliberated)
-      → Deliberates b p c budget r → Deliberates b p c budget r′ → r ≡ r′
+  pub deliberate : DeterminedLaw
   pub name : (b : Bytes) (q : Question) (r r′ : Named) → Names b q r → Names b q r′ → r ≡ r′
-  pub text : (t out : Bytes) (a a′ : Answer) (n n′ : ℕ) (left left′ : Bytes)
-      → Reads t out a n left → Reads t out a′ n′ left′ → (a ≡ a′) × (n ≡ n′) × (left ≡ left′)
+  pub text : ReadDetermined
   pub print : (b : Bytes) (n : ℕ) (out left left′ : Bytes) (a a′ : Answer) (count count′ : ℕ)
       → Prints b n out a count left → Prints b n out a′ count′ left′ → (a ≡ a′) × (count ≡ count′) × (left ≡ left′)
 
