@@ -1,5 +1,5 @@
--- What the contract of a call says that is given no configuration and lies above the eight: name and print. That of deliberate is
--- Deliberates, that of text Reads.
+-- What the contracts of name (`guide/src/lib.rt` `named`) and of print (`printer/src/print.rt`) say, written out once more; those
+-- of deliberate and text are cited: `Deliberates`, `Reads`.
 use mathlib.Core.Path.{_≡_}
 use Prim.Native.Nat.{ℕ}
 use Rattle.meaning.specs.declared.Answer.{Answer}

@@ -156,8 +156,9 @@ pub record PCases : Type 0 where
 unfoldable pub stripe-bobbin : Bytes
 stripe-bobbin = ListN.take 206 stripe ++ (1 ∷ ListN.drop 207 stripe)
 
--- Where P6 cannot tell the node from the condition's root: 01, "The stripe card": "Specifications: 0 weave if node 4", "1 believes
--- 1; 2 believes 3; 3 not 2; 4 1 and 3". The choice is 256, of specification 0.
+-- 02, Wish 1: why a choice is closed. In `missing` and `in-the-way`, where P6 cannot tell the node from the condition's root, the
+-- condition is node 4: 01, "The stripe card": "Specifications: 0 weave if node 4", "1 believes 1; 2 believes 3; 3 not 2; 4 1 and
+-- 3".
 pub record ClosedCases : Type 0 where
   -- 02, Wish 1: "the left child's where the left alone settles the value": atom 1 is missing.
   pub missing : shownTake (takes stripe (configuration (set 8) (set 4) 0 (0 ∷ [])) 256) ≡ 16 ∷ 1 ∷ (set 8 ++ (set 4 ++ (0 ∷ 0 ∷ [])))
