@@ -28,7 +28,7 @@ use Rattle.deliberation.specs.Programs.{still}
 use Rattle.deliberation.specs.MetaTransitions.{Computation, notIdle}
 use Rattle.deliberation.specs.Entries.{entryCount, entriesOf, programGood, programTable, deliberateAnswer, program, moveAt}
 use Rattle.deliberation.specs.Deliberate.{Outcome, deliberate, remainingOf, deliberated, whole, deliberates}
-use Rattle.deliberation.specs.Theorems.{partsOf, wholeOf, numbersIn, standFor, Followed, Numbered, EndsExactly, Deliberates, Tells, TellsLaw, BoundedMovesLaw, RefusalLaw, DeterminedLaw}
+use Rattle.deliberation.specs.Theorems.{partsOf, wholeOf, numbersIn, standFor, Followed, FollowedNumbers, EndsExactly, Deliberates, Tells, TellsLaw, BoundedMovesLaw, RefusalLaw, DeterminedLaw}
 use Rattle.deliberation.proofs.Good.{some-entries, most-entries}
 use Rattle.deliberation.specs.Stacked.{nothing, put}
 use Rattle.deliberation.proofs.Room.{stacked-length, stacked-known}
@@ -151,7 +151,7 @@ module _ (b p : Bytes) (c : Configuration) (budget : ℕ) (pass : Passed b p c) 
   state-back : stateOf (deliberated (outcome b p c budget) .configuration) ≡ outcome b p c budget .state
   state-back = configuration-laws .of-state (outcome b p c budget .state) state-fits
 
-  moved : Numbered (agent b) (moveAt (layout b) b p) (whole p) (stateOf c) (walk .labels) (outcome b p c budget .remaining) (outcome b p c budget .state)
+  moved : FollowedNumbers (agent b) (moveAt (layout b) b p) (whole p) (stateOf c) (walk .labels) (outcome b p c budget .remaining) (outcome b p c budget .state)
   unfolding agent
   moved = walk .numbered
 

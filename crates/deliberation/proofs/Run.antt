@@ -21,7 +21,7 @@ use Rattle.deliberation.specs.FirstMove.{Move, firstMove}
 use Rattle.deliberation.specs.Entries.{entryCount, entriesOf, programGood, standing, firstMoveOf}
 use Rattle.deliberation.specs.Deliberate.{MoveResult, stuck, on, leads, moveResult, Outcome, ended, oneMore, deliberate, deliberationEndingNumber}
 use Rattle.deliberation.specs.Deliberate as Deliberate
-use Rattle.deliberation.specs.Theorems.{NoTransition, parts, partsOf, Goes, stays, goes, Followed, no-move, one-move, Numbered, as-they-are, next-moves, Overflows, EndsExactly}
+use Rattle.deliberation.specs.Theorems.{NoTransition, parts, partsOf, Goes, stays, goes, Followed, no-move, one-move, FollowedNumbers, as-they-are, next-moves, Overflows, EndsExactly}
 use Rattle.deliberation.specs.Stacked.{Stacked, put}
 use Rattle.deliberation.proofs.Room.{move-within}
 use Rattle.deliberation.proofs.First.{is-one, none-exactly}
@@ -171,7 +171,7 @@ module _ (gs : List Bool) (l : Layout) (p : Bytes) (good : programGood gs l p �
     pub rest : Rest
     pub followed : Followed A R s labels rest (o .state)
     pub stands : partsOf rest ≡ stood βs (entriesOf p) (o .remaining)
-    pub numbered : Numbered A (λ c n. firstMoveOf A βs c (entriesOf p) n) ns s labels (o .remaining) (o .state)
+    pub numbered : FollowedNumbers A (λ c n. firstMoveOf A βs c (entriesOf p) n) ns s labels (o .remaining) (o .state)
     pub counted : o .count ≡ length labels
     pub stacked : Stacked k (o .remaining)
     pub because : Because A b (o .count) rest (o .state) (o .ending)
@@ -211,7 +211,7 @@ module _ (gs : List Bool) (l : Layout) (p : Bytes) (good : programGood gs l p �
             followed = one-move f g (r .followed);
             stands = r .stands;
             numbered =
-                subst (λ y. Numbered A (λ c n. firstMoveOf A βs c (entriesOf p) n) (n ∷ ns) s (y ∷ r .labels) (o .remaining) (o .state)) (sym x)
+                subst (λ y. FollowedNumbers A (λ c n. firstMoveOf A βs c (entriesOf p) n) (n ∷ ns) s (y ∷ r .labels) (o .remaining) (o .state)) (sym x)
                 (next-moves u (subst (λ y. Goes A s y s′) x g) (r .numbered));
             counted = ap suc (r .counted);
             stacked = r .stacked;

@@ -185,10 +185,10 @@ pub data Followed (A : Agent) : Rest → State → List Label → Rest → State
       → Goes A s (m .label) s′ → Followed A (m .remaining) s′ xs P″ s″ → Followed A (still P) s (m .label ∷ xs) P″ s″
 
 -- The same of entry numbers, where move gives the first move of a number: the next number moves, and those behind it stay.
-pub data Numbered (A : Agent) (move : Config → ℕ → Option (Move (List ℕ))) : List ℕ → State → List Label → List ℕ → State → Type 0 where
-  as-they-are : {ns : List ℕ} {s : State} → Numbered A move ns s [] ns s
+pub data FollowedNumbers (A : Agent) (move : Config → ℕ → Option (Move (List ℕ))) : List ℕ → State → List Label → List ℕ → State → Type 0 where
+  as-they-are : {ns : List ℕ} {s : State} → FollowedNumbers A move ns s [] ns s
   next-moves : {n : ℕ} {ns : List ℕ} {m : Move (List ℕ)} {s s′ s″ : State} {xs : List Label} {ns″ : List ℕ} → move (s .mental) n ≡ some m
-      → Goes A s (m .label) s′ → Numbered A move (m .remaining ++ ns) s′ xs ns″ s″ → Numbered A move (n ∷ ns) s (m .label ∷ xs) ns″ s″
+      → Goes A s (m .label) s′ → FollowedNumbers A move (m .remaining ++ ns) s′ xs ns″ s″ → FollowedNumbers A move (n ∷ ns) s (m .label ∷ xs) ns″ s″
 
 -- The first move of a program takes a choice that leaves too long a plan: 01, "A configuration and its transitions": "would leave
 -- more than 1,024 actions".
@@ -244,7 +244,7 @@ pub record Tells (b p : Bytes) (c : Configuration) (budget : ℕ) (r : Deliberat
   -- 02, Wish 6: "The answer holds the remaining program as entry numbers, the next first"
   pub remains : rest ≈ standFor b p (numbersIn (r .remaining))
   -- 02, Wish 6: "a sequence is one number until a move is made in it": they are what these moves leave of the last entry's number
-  pub numbered : Numbered (agent b) (moveAt (layout b) b p) (whole p) (stateOf c) labels (numbersIn (r .remaining)) (stateOf (r .configuration))
+  pub numbered : FollowedNumbers (agent b) (moveAt (layout b) b p) (whole p) (stateOf c) labels (numbersIn (r .remaining)) (stateOf (r .configuration))
   -- there is room for the numbers, and each is one of the program's
   pub room : r .remaining .length ≤ 128
   pub known : (n : ℕ) → List·Memᴰ n (numbersIn (r .remaining)) → n < entryCount p
