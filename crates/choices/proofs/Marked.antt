@@ -14,11 +14,11 @@ use Rattle.meaning.specs.declared.Layout.{Layout}
 use Rattle.meaning.specs.declared.Configuration.{Configuration}
 use Rattle.meaning.specs.Card.{Bytes, plan, specificationAt, selectionAt, revisionAt}
 use Rattle.meaning.specs.Configurations.{stateOf}
+use Rattle.meaning.specs.Refusals.{other}
 use Rattle.card.specs.GoodCard.{GoodCondition}
 use Rattle.door.specs.Asking.{judging, both, isThere, frontFits, conditionsOf, askedBy, asked}
 use Rattle.door.proofs.Asking.{empty-exactly, first-exactly}
 use Rattle.choices.specs.Judged.{markAt, Judged}
-use Rattle.choices.specs.Truth.{other}
 use Rattle.choices.proofs.OnePass.{one-pass-of}
 
 module _ (l : Layout) (b : Bytes) (c : Configuration) (marks : List ℕ) (j : Judged l b c marks) where

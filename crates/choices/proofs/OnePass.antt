@@ -13,7 +13,7 @@ use Rattle.meaning.specs.declared.Layout.{Layout}
 use Rattle.meaning.specs.declared.Node.{Node}
 use Rattle.meaning.specs.Kinds.{NodeKind, nodeKind}
 use Rattle.meaning.specs.Card.{Bytes, layout, nodeAt, queryOf, conditions}
-use Rattle.meaning.specs.Refusals.{nodesGood, containsOf, containing}
+use Rattle.meaning.specs.Refusals.{nodesGood, containsOf, containing, other}
 use Rattle.meaning.specs.Why.{settledBy, settler}
 use Rattle.meaning.proofs.Accepted.{accepted}
 use Rattle.meaning.proofs.NodeKinds.{is-true, is-belief, is-goal, is-not, is-and, is-or, Known, leaf, inner, known-kind, leaf-low, leaf-kind, inner-kind}
@@ -23,7 +23,7 @@ use Rattle.meaning.proofs.AtomKinds.{or-none, first-free, second-free}
 use Rattle.paper.proofs.Relation.{false≢true}
 use Rattle.card.specs.GoodCard.{GoodCondition}
 use Rattle.door.specs.Asking.{judging}
-use Rattle.choices.specs.Truth.{truthOf, other}
+use Rattle.choices.specs.Truth.{truthOf}
 use Rattle.choices.specs.OnePass.{keptOf, kept, valueOf, Settles, itself, of-not, and-left, and-right, or-left, or-right, OnePass, OnePassLaw}
 
 -- ---- the node that the definition names is the one that settles the tree

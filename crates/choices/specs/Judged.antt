@@ -13,7 +13,8 @@ use Rattle.meaning.specs.Card.{Bytes}
 use Rattle.door.specs.Ready.{Ready}
 use Rattle.choices.specs.OnePass.{kept}
 
--- 02, Wish 3: "one mark and the settling atom", by their number: 256 where the mark is true, and the node that settled it
+-- 02, Wish 3: "one mark and the settling atom", by their number: that of the node that settled it, and 256 more where the mark
+-- is true
 abbrev pub ofMark : ℕ → Bool × ℕ
 ofMark mark = (eqb (mark / 256) 1, mark % 256)
 

@@ -12,11 +12,11 @@ use Rattle.meaning.specs.declared.Answer.the-variants.{Done}
 use Rattle.meaning.specs.declared.Layout.{Layout}
 use Rattle.meaning.specs.Kinds.{NodeKind, nodeKind}
 use Rattle.meaning.specs.Card.{Bytes, layout, nodeAt, nodes, pass, conditions, condition}
-use Rattle.meaning.specs.Refusals.{cardAnswer}
+use Rattle.meaning.specs.Refusals.{other, cardAnswer}
 use Rattle.meaning.specs.Why.{settledBy, settler}
 use Rattle.card.specs.GoodCard.{GoodCondition}
 use Rattle.door.specs.Asking.{judging}
-use Rattle.choices.specs.Truth.{truthOf, other}
+use Rattle.choices.specs.Truth.{truthOf}
 
 -- 02, Wish 3: "keeping one mark and the settling atom for each node": both of node i, by what was kept of the lower nodes and
 -- nothing else.

@@ -2,7 +2,6 @@
 use mathlib.Core.Bool.{Bool, true, not, _&&_, _||_}
 use Prim.Native.Nat.{ℕ}
 use Rattle.paper.specs.Atoms.{Atoms, _∈_}
-use Rattle.paper.specs.Language.{Letter, 𝐁, 𝐆}
 use Rattle.meaning.specs.Kinds.{NodeKind, True, Believes, HasGoal, Not, And, Or, Unknown}
 
 -- 01, "The card, edition 1": "Kind 0 true …; 1 believes a; 2 has goal a …; 3 not a …; 4 a and b; 5 a or b.", by the truth of
@@ -15,8 +14,3 @@ truthOf Not a b σ γ truth = not (truth a)
 truthOf And a b σ γ truth = truth a && truth b
 truthOf Or a b σ γ truth = truth a || truth b
 truthOf Unknown a b σ γ truth = true
-
--- the kind of the atoms that a query of a letter may not contain
-abbrev pub other : Letter → ℕ
-other 𝐁 = 2
-other 𝐆 = 1

@@ -14,7 +14,8 @@ use meaning::Layout;
 use meaning::Mind;
 use meaning::Node;
 
-// Of each node one mark and the settling atom, in one number: 256 where its condition holds, and the node that settled it.
+// Of each node one mark and the settling atom, in one number: the number of the node that settled it, and 256 more where its
+// condition holds.
 pub type Marks = [u16; 256];
 
 // Whether a condition holds, by its mark.

@@ -214,6 +214,8 @@ module _ (s : Said) (n : numbersFit s ≡ Bool.true) (e : entriesFit s ≡ Bool.
           specifications = rw at specifications-meant;
           selections = rw at selections-meant;
           revisions = rw at revisions-meant;
+          beliefs = beliefs-read;
+          goals = goals-read;
           begin =
               let π : plan (layout b) b (layout b .initial) ≡ s .begin .plan = rw at plan-read in
               λ i. record { mental = ⟨ beliefs-read i / π i / struckBy (beliefs-read i) (goals-read i) ⟩; phase = 0; finished = 0 };

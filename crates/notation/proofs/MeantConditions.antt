@@ -11,31 +11,31 @@ use Rattle.meaning.specs.declared.Layout.{Layout}
 use Rattle.meaning.specs.declared.Node.{Node}
 use Rattle.meaning.specs.Kinds.{NodeKind, True, Believes, HasGoal, Not, And, Or, Unknown, nodeKind}
 use Rattle.meaning.specs.Card.{Bytes, passOn, pass, nodes, queryOf, conditions, condition}
-use Rattle.meaning.specs.Refusals.{containsOf, containing}
+use Rattle.meaning.specs.Refusals.{containsOf, containing, other}
 use Rattle.meaning.proofs.AtomKinds.{or-none}
 use Rattle.notation.specs.Conditions.{Tree, true, believes, goal, not, and, or}
 use Rattle.notation.specs.Printing.{treeOf, trees, treeAt}
-use Rattle.notation.specs.Meant.{written, others, OneTree}
+use Rattle.notation.specs.Meant.{treeOfQuery, OneTree}
 use Rattle.notation.proofs.MadeCompleted.{makeTree}
 
 -- ---- a pass and what is made of it
 
-module _ {X Y : Type 0} (make : ℕ → Node → (ℕ → X) → X) (other : X) (make′ : ℕ → Node → (ℕ → Y) → Y) (f : X → Y)
+module _ {X Y : Type 0} (make : ℕ → Node → (ℕ → X) → X) (beyond : X) (make′ : ℕ → Node → (ℕ → Y) → Y) (f : X → Y)
     (same : (i : ℕ) (n : Node) (q : ℕ → X) → make′ i n (λ j. f (q j)) ≡ f (make i n q)) where
-  passed-on : (made : List X) (ns : List Node) → passOn make′ (f other) (map f made) ns ≡ map f (passOn make other made ns)
+  passed-on : (made : List X) (ns : List Node) → passOn make′ (f beyond) (map f made) ns ≡ map f (passOn make beyond made ns)
   passed-on made [] = refl
   passed-on made (n ∷ ns) =
-      let q : ℕ → X = λ j. getD made j other in
-      let p : ℕ → Y = λ j. getD (map f made) j (f other) in
+      let q : ℕ → X = λ j. getD made j beyond in
+      let p : ℕ → Y = λ j. getD (map f made) j (f beyond) in
       let p′ : ℕ → Y = λ j. f (q j) in
-      let below : p ≡ p′ = fun-ext (λ j. List·getD-map f made j other) in
+      let below : p ≡ p′ = fun-ext (λ j. List·getD-map f made j beyond) in
       let one : make′ (length (map f made)) n p ≡ f (make (length made) n q) =
       ap₂ (λ i r. make′ i n r) (length-map made f) below ∙ same (length made) n q in
-      ap (λ y. passOn make′ (f other) (map f made ++ (y ∷ [])) ns) one
-      ∙ ap (λ m. passOn make′ (f other) m ns) (sym (map-append f made (make (length made) n q ∷ [])))
+      ap (λ y. passOn make′ (f beyond) (map f made ++ (y ∷ [])) ns) one
+      ∙ ap (λ m. passOn make′ (f beyond) m ns) (sym (map-append f made (make (length made) n q ∷ [])))
       ∙ passed-on (made ++ (make (length made) n q ∷ [])) ns
 
-  passed : (ns : List Node) → pass make′ (f other) ns ≡ map f (pass make other ns)
+  passed : (ns : List Node) → pass make′ (f beyond) ns ≡ map f (pass make beyond ns)
   passed ns = passed-on [] ns
 
 -- ---- the query of a tree
@@ -100,7 +100,7 @@ module _ (l : Layout) (b : Bytes) where
 -- ---- a tree without atoms of the other letter
 
 -- is written as it is read
-as-written : (L : Letter) (t : Tree) → has (others L) t ≡ Bool.false → written L (queryFor L t) ≡ t
+as-written : (L : Letter) (t : Tree) → has (other L) t ≡ Bool.false → treeOfQuery L (queryFor L t) ≡ t
 as-written L true e = refl
 as-written 𝐁 (believes p) e = refl
 as-written 𝐆 (believes p) e = absurd (false≢true (sym e))
@@ -108,10 +108,10 @@ as-written 𝐁 (goal p) e = absurd (false≢true (sym e))
 as-written 𝐆 (goal p) e = refl
 as-written L (not t) e = ap not (as-written L t e)
 as-written L (and l r) e =
-    let (f, g) = or-none (has (others L) l) (has (others L) r) e in ap₂ and (as-written L l f) (as-written L r g)
+    let (f, g) = or-none (has (other L) l) (has (other L) r) e in ap₂ and (as-written L l f) (as-written L r g)
 as-written L (or l r) e =
-    let (f, g) = or-none (has (others L) l) (has (others L) r) e in ap₂ or (as-written L l f) (as-written L r g)
+    let (f, g) = or-none (has (other L) l) (has (other L) r) e in ap₂ or (as-written L l f) (as-written L r g)
 
 pub one-tree : OneTree
 one-tree L l b n free =
-    ap (written L) (query-at l b L n) ∙ as-written L (treeAt l b n) (sym (has-at l b (others L) n) ∙ free)
+    ap (treeOfQuery L) (query-at l b L n) ∙ as-written L (treeAt l b n) (sym (has-at l b (other L) n) ∙ free)

@@ -18,13 +18,13 @@ use Rattle.meaning.specs.declared.SelectionEntry.{SelectionEntry}
 use Rattle.meaning.specs.declared.RevisionEntry.{RevisionEntry}
 use Rattle.meaning.specs.Card.{Bytes, byte, numberAt, span, part, plan, condition, specificationOf, selectionOf, revisionOf}
 use Rattle.meaning.specs.Card as Card
-use Rattle.meaning.specs.Refusals.{all, containing, conditionGood, specificationGood, selectionGood, revisionGood}
+use Rattle.meaning.specs.Refusals.{all, containing, other, conditionGood, specificationGood, selectionGood, revisionGood}
 use Rattle.notation.specs.Conditions.{Tree, treesOf}
 use Rattle.notation.specs.Lines.{Do, Select, Revise, Said, conditions}
 use Rattle.notation.specs.Built.{size, sizes, own, setOf, pool, specifications, selections, revisions, built}
 use Rattle.notation.specs.Reading.{numbersFit, entriesFit}
 use Rattle.notation.specs.Printing.{treeAt}
-use Rattle.notation.specs.Meant.{written, others, Specifies, Selects, Revises, InTurn, no-more, then}
+use Rattle.notation.specs.Meant.{treeOfQuery, Specifies, Selects, Revises, InTurn, no-more, then}
 use Rattle.notation.specs.Making.{setFits}
 use Rattle.notation.proofs.MadeLists.{each-true}
 use Rattle.notation.proofs.MadeSets.{set-length}
@@ -108,11 +108,11 @@ module _ (s : Said) (n : numbersFit s ≡ Bool.true) (e : entriesFit s ≡ Bool.
   queries L = Card.conditions L l b
 
   abbrev foreign : Letter → List Bool
-  foreign L = containing (others L) l b
+  foreign L = containing (other L) l b
 
   -- the condition of a tree's own node, behind the nodes of the trees before it
   condition-there : (L : Letter) (before : List Tree) (t : Tree) (behind : List Tree) (k : ℕ) → ts ≡ before ++ (t ∷ behind) → sizes before ≡ k
-      → conditionGood l (foreign L) (own k t) ≡ Bool.true → written L (condition (queries L) (own k t)) ≡ t
+      → conditionGood l (foreign L) (own k t) ≡ Bool.true → treeOfQuery L (condition (queries L) (own k t)) ≡ t
   condition-there L before t behind k h f good =
       let there : treeAt l b (own k t) ≡ t = rw (card-trees s n e, h, ← f) (tree-among before t behind) in
       one-tree L l b (own k t) (not-true _ (both (ltb (own k t) (l .nodes .count)) _ good .1)) ∙ there

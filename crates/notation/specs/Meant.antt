@@ -11,8 +11,8 @@ use Rattle.paper.specs.Transitions.{struckBy}
 use Rattle.runs.specs.Order.{State}
 use Rattle.meaning.specs.declared.Answer.the-variants.{Done}
 use Rattle.meaning.specs.declared.Layout.{Layout}
-use Rattle.meaning.specs.Card.{Bytes, layout, conditions, condition, weights, agent, start}
-use Rattle.meaning.specs.Refusals.{containing}
+use Rattle.meaning.specs.Card.{Bytes, layout, conditions, condition, weights, agent, initialBeliefs, initialGoals, start}
+use Rattle.meaning.specs.Refusals.{containing, other}
 use Rattle.notation.specs.Conditions.{Tree, true, believes, goal, not, and, or}
 use Rattle.notation.specs.Lines.{Do, Select, Revise, Begin, Said, Text}
 use Rattle.notation.specs.Built.{setOf}
@@ -21,45 +21,39 @@ use Rattle.notation.specs.Printing.{treeAt}
 
 -- 01, "A configuration and its transitions": "Conditions (004, Definitions 3 and 8)": the tree that a belief query or a goal query
 -- is written as.
-abbrev pub written : (L : Letter) → Query L → Tree
-written L ⊤ = true
-written 𝐁 (atom p) = believes p
-written 𝐆 (atom p) = goal p
-written L (¬′ q) = not (written L q)
-written L (q ∧′ r) = and (written L q) (written L r)
-written L (q ∨′ r) = or (written L q) (written L r)
-
--- 01, "A configuration and its transitions": "A belief condition contains no goal atom, and a goal condition no belief atom.": the
--- kind of the atoms that a condition of a letter may not have.
-abbrev pub others : Letter → ℕ
-others 𝐁 = 2
-others 𝐆 = 1
+abbrev pub treeOfQuery : (L : Letter) → Query L → Tree
+treeOfQuery L ⊤ = true
+treeOfQuery 𝐁 (atom p) = believes p
+treeOfQuery 𝐆 (atom p) = goal p
+treeOfQuery L (¬′ q) = not (treeOfQuery L q)
+treeOfQuery L (q ∧′ r) = and (treeOfQuery L q) (treeOfQuery L r)
+treeOfQuery L (q ∨′ r) = or (treeOfQuery L q) (treeOfQuery L r)
 
 -- What a node stands for is one tree: as the query that an agent asks it is written as the tree that is printed, if it has no atom
 -- of the other letter.
 abbrev pub OneTree : Type 0
 OneTree =
-    (L : Letter) (l : Layout) (b : Bytes) (n : ℕ) → getD (containing (others L) l b) n Bool.false ≡ Bool.false
-    → written L (condition (conditions L l b) n) ≡ treeAt l b n
+    (L : Letter) (l : Layout) (b : Bytes) (n : ℕ) → getD (containing (other L) l b) n Bool.false ≡ Bool.false
+    → treeOfQuery L (condition (conditions L l b) n) ≡ treeAt l b n
 
 -- 02, Wish 2: "A text card gives atoms, actions with weights, specifications, rules and the start one to a line.": a do line gives
 -- a specification.
 pub record Specifies (d : Do) (x : Specification) : Type 0 where
   pub action : x .a ≡ d .action
-  pub condition : written 𝐁 (x .β) ≡ d .condition .tree
+  pub condition : treeOfQuery 𝐁 (x .β) ≡ d .condition .tree
   pub add : x .Add ≡ setOf (d .add)
   pub del : x .Del ≡ setOf (d .del)
 
 -- a select line gives a selection rule
 pub record Selects (r : Select) (x : Selection) : Type 0 where
-  pub belief : written 𝐁 (x .β) ≡ r .belief .tree
-  pub goal : written 𝐆 (x .κ) ≡ r .goal .tree
+  pub belief : treeOfQuery 𝐁 (x .β) ≡ r .belief .tree
+  pub goal : treeOfQuery 𝐆 (x .κ) ≡ r .goal .tree
   pub plan : x .π ≡ r .plan
 
 -- a revise line gives a revision rule
 pub record Revises (r : Revise) (x : Revision) : Type 0 where
   pub head : x .πₕ ≡ r .head
-  pub condition : written 𝐁 (x .β) ≡ r .condition .tree
+  pub condition : treeOfQuery 𝐁 (x .β) ≡ r .condition .tree
   pub body : x .πb ≡ r .body
 
 -- the begin line gives the start. 02, Wish 5: "the goals are those not believed, and at load likewise".
@@ -83,6 +77,8 @@ pub record Means (s : Said) (b : Bytes) : Type 0 where
   pub specifications : InTurn Specifies (s .dos) (agent b .AS)
   pub selections : InTurn Selects (s .selects) (agent b .PS)
   pub revisions : InTurn Revises (s .revises) (agent b .PR)
+  pub beliefs : initialBeliefs (layout b) b ≡ setOf (s .begin .beliefs)
+  pub goals : initialGoals (layout b) b ≡ setOf (s .begin .goals)
   pub begin : start b ≡ startOf (s .begin)
 
 -- 02, Wish 2: "builds an edition 1 card": of every text that is answered done, what the lent buffer holds then means the lines of
