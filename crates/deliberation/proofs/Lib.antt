@@ -12,4 +12,5 @@ pub mod Call
 pub mod Equivalence
 pub mod Determined
 pub mod Numbers
+pub mod GoalAtoms
 pub mod Accepted

@@ -84,12 +84,38 @@ pub data EntryLaws (revisions selections : ℕ) (Condition : ℕ → Type 0) (i 
   does-both : a < i → b < i → EntryLaws revisions selections Condition i a b Then
   does-one : a < i → b < i → EntryLaws revisions selections Condition i a b Or
 
--- The same of every accepted card and every entry: 01, "A configuration and its transitions": "A belief condition contains no goal
--- atom"
-abbrev pub EntryLaw : Type 0
-EntryLaw = (b p : Bytes) → cardAnswer b ≡ Done → programGood (containing 2 (layout b) b) (layout b) p ≡ true → (i : ℕ) → i < entryCount p
-    → EntryLaws (length (agent b .PR)) (length (agent b .PS)) (λ n. (n < layout b .nodes .count) × Without b 2 n) i
-    (entryOf p i .a) (entryOf p i .b) (entryKind (entryOf p i .kind))
+-- 02, Wish 6: "unused bytes are 0": those of an entry's a and b that its kind has no use for.
+pub data Unused (a b : ℕ) : EntryKind → Type 0 where
+  of-execute : a ≡ 0 → b ≡ 0 → Unused a b Execute
+  of-apply : b ≡ 0 → Unused a b Apply
+  of-select : b ≡ 0 → Unused a b Select
+  of-while-plan : a ≡ 0 → Unused a b WhilePlan
+  of-while-belief : Unused a b WhileBelief
+  of-then : Unused a b Then
+  of-or : Unused a b Or
+
+-- The rules for entry i of a program p under a card b.
+pub record EntryRules (b p : Bytes) (i : ℕ) : Type 0 where
+  -- 02, Wish 6: "0 execute, …, 6 a or b"
+  pub known : entryOf p i .kind < 7
+  -- 01, "A configuration and its transitions": "A belief condition contains no goal atom"
+  pub names : EntryLaws (length (agent b .PR)) (length (agent b .PS)) (λ n. (n < layout b .nodes .count) × Without b 2 n) i
+      (entryOf p i .a) (entryOf p i .b) (entryKind (entryOf p i .kind))
+  -- 02, Wish 6: "unused bytes are 0", the fourth of each too
+  pub unused : Unused (entryOf p i .a) (entryOf p i .b) (entryKind (entryOf p i .kind))
+  pub zero : entryOf p i .zero ≡ 0
+
+-- 02, Wish 6: "A program is 1 to 128 entries shaped like nodes": the rules for a program p under a card b.
+pub record ProgramRules (b p : Bytes) : Type 0 where
+  pub at-least : 1 ≤ entryCount p
+  pub at-most : entryCount p ≤ 128
+  pub no-byte-more : length p ≡ 4 * entryCount p
+  pub entries : (i : ℕ) → i < entryCount p → EntryRules b p i
+
+-- 02, Wish 6: "19 a program breaking these rules or naming an unknown rule or node": under every accepted card a program is good
+-- exactly if it keeps them.
+abbrev pub ProgramExactly : Type 0
+ProgramExactly = (b p : Bytes) → cardAnswer b ≡ Done → (programGood (containing 2 (layout b) b) (layout b) p ≡ true) ↔ ProgramRules b p
 
 -- ---- what entry numbers stand for
 
