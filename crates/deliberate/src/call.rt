@@ -54,7 +54,8 @@ fn refused(answer: Answer, m: Mind) -> DeliberatedInPlace
     }
 }
 
-// 02, Wish 6: "the last one the whole": the number that remains before the first move, at the end of the lent ones, which are zeros.
+// 02, Wish 6: "the last one the whole": the number that remains before the first move, at the end of the lent ones, which are
+// zeros.
 fn put_whole(remaining: &mut [u8; 128], entries: usize)
     requires { ⌜ (1 ≤ entries) × (entries ≤ 128) × (now remaining ≡ replicate 128 0) ⌝ }
     ensures { λ r. ⌜ (drop 127 (now (remaining .exit)) ≡ (entries - 1) ∷ []) × (length (now (remaining .exit)) ≡ 128) ⌝ }

@@ -1,5 +1,4 @@
 use Rattle.deliberate.proofs.Calling.{handed-out}
-use native.Mathlib.Omega.{arith}
 use borrow.Author.Needs.{needs}
 use denote.Ref.{now}
 use Rattle.deliberate.proofs.call.hand_out.Statement.{statement}
