@@ -7,7 +7,7 @@
 #   bench/instructions.sh [--engine]
 #
 # --engine puts the engine on both sides: all ratios are then about 1.
-# It needs the kit's emulator, which the kit has for machines that are not x86-64.
+# It counts in an emulator: the kit's own, which the kit has for machines that are not x86-64, or Debian's (qemu-user).
 set -eu
 
 die() { printf 'instructions.sh: %s\n' "$*" >&2; exit 2; }
@@ -16,7 +16,11 @@ die() { printf 'instructions.sh: %s\n' "$*" >&2; exit 2; }
 root=$(cd "$(dirname "$0")/.." && pwd)
 # shellcheck source=tests/kit.sh
 . "$root/tests/kit.sh"
-[ -x "$own/qemu-x86_64" ] || die "the kit has no emulator for $(uname -m)"
+emulator=$own/qemu-x86_64
+[ -x "$emulator" ] || emulator=$(command -v qemu-x86_64) || die "there is no emulator: install Debian's package qemu-user"
+# One instruction at a time: the emulator's word for it changed with its version 8.1.
+step=-singlestep
+! "$emulator" -help | grep -q one-insn-per-tb || step=-one-insn-per-tb
 program=$root/target/c/instructions
 archive=$("$root/tests/archive.sh" "$@")
 "$root/tests/build_c.sh" "$program" "$root/bench/instructions.c" "$root/bench/engine.c" \
@@ -27,7 +31,7 @@ trap 'rm -f "$log"' EXIT
 
 # How many instructions the program takes with the words that are given.
 count() {
-    "$own/qemu-x86_64" -one-insn-per-tb -d exec,nochain -D "$log" "$lib/ld-linux-x86-64.so.2" \
+    "$emulator" $step -d exec,nochain -D "$log" "$lib/ld-linux-x86-64.so.2" \
         --library-path "$lib" "$program" "$@" || [ $? -eq 1 ] || die "no such card or call"
     grep -c '^Trace' "$log"
 }

@@ -32,10 +32,10 @@
  * what remains of it RIGTEMPLE_MOST_REMAINING; to print takes RIGTEMPLE_MOST_PRINTED_BYTES; a sheet
  * has RIGTEMPLE_MOST_SHEET_BYTES at most; a text to be read has no limit.
  *
- * Bytes of stack, as tests/stack.sh measures them on x86-64: check 560, load 736, grade 2,000,
- * list 1,184, take 1,328, run 1,408, deliberate 2,016, save 704, restore 768, text 33,536 (24,976
- * where nothing nests, 128 more for the first bracket and 272 for each further one), print 1,904,
- * name 704. All but text run on a stack of 2,048. On 64-bit Arm text takes 34,064, and each other
+ * Bytes of stack, as tests/stack.sh measures them on x86-64: check 552, load 728, grade 1,784,
+ * list 1,064, take 1,192, run 1,352, deliberate 1,832, save 696, restore 760, text 33,536 (24,976
+ * where nothing nests, 128 more for the first bracket and 272 for each further one), print 1,896,
+ * name 696. All but text run on a stack of 2,048. On 64-bit Arm text takes 34,064, and each other
  * call at most 152 more than on x86-64: all but text run on 2,304.
  *
  * Save before you show. The weaver acts on what the screen tells; a move that is shown and

@@ -3,6 +3,7 @@
 
     .ci/run > LOG; python3 tests/edits.py LOG             a line for each edit; the last line is 'N passed, M failed'
     .ci/run > LOG; python3 tests/edits.py LOG --table     the same as a table of Markdown, with the sentence that each edit breaks
+    .ci/run > LOG; python3 tests/edits.py LOG --seconds   a table of Markdown: what each crate's proof and its edits took
     python3 tests/edits.py --sum                          a sum of the files of crates/, which the gate prints too
 
 The gate says at which line of a proof the checker first found an error. The fact is the declaration that this line belongs to, in
@@ -10,7 +11,8 @@ the crate with the edit applied: in a function's proof `returns` is what the fun
 `NAME-requires` what a call requires; in the other files it is a law or a theorem. Where a function needs no proof file, the line is the
 function's own, and the fact is what it ensures. Of a theorem that is a record the fact is its field. An edit fails here if the gate
 did not refuse it, or if the line belongs to no such declaration; an edit that is named by a field of the three demands, as
-demands/must-fail/demand1_check_listed, if it was refused at another fact.
+demands/must-fail/demand1_check_listed, if it was refused at another fact. The seconds are those that the gate told of each check: a check
+is one thread, so that they are processor seconds where nothing ran beside the gate.
 """
 
 import glob
@@ -21,6 +23,8 @@ import sys
 
 TOP = os.path.dirname(os.path.dirname(os.path.abspath(__file__)))
 REFUSED = re.compile(r"rt: must-fail (\w+)/(\w+): refused.*\(first at ([^:]+):(\d+):")
+PROVED = re.compile(r"^rt: (\w+) proved \((\d+) s\)", re.M)
+TRIED = re.compile(r"^rt: must-fail (\w+)/\w+: .*?(\d+) s\)$", re.M)
 # A declaration: at the left, in a module, or marked `pub`; what a `where` declares lies further in and is no fact by itself.
 DECLARED = re.compile(r"(?:  )?(?:abbrev )?([^\s:()]+) :|\s*pub ([^\s:()]+) :")
 FIELD = re.compile(r"      ([^\s=]+) = ")  # of a record that a declaration answers
@@ -87,13 +91,25 @@ def told(key, refused):
     return lines[0][2:], path, fact_at(path, edited(crate, lines, path), number)
 
 
+def print_seconds(log):
+    """What each crate's proof took, how many edits it has and what these took, the dearest crate first."""
+    rows = [(crate, int(proof), [int(took) for name, took in TRIED.findall(log) if name == crate]) for crate, proof in PROVED.findall(log)]
+    rows.sort(key=lambda row: -row[1] - sum(row[2]))
+    rows.append(("together", sum(row[1] for row in rows), [took for row in rows for took in row[2]]))
+    print("| crate | proof, s | edits | edits, s | together, s |\n|---|---|---|---|---|")
+    for crate, proof, took in rows:
+        name = crate if crate == "together" else "`%s`" % crate
+        print("| %s | %d | %d | %d | %d |" % (name, proof, len(took), sum(took), proof + sum(took)))
+    return 0
+
+
 def main(words):
     """Prints the edits, and how many are refused at a fact."""
     if words == ["--sum"]:
         print(summed())
         return 0
-    if not words or words[1:] not in ([], ["--table"]):
-        print("usage: edits.py LOG [--table], or edits.py --sum", file=sys.stderr)
+    if not words or words[1:] not in ([], ["--table"], ["--seconds"]):
+        print("usage: edits.py LOG [--table | --seconds], or edits.py --sum", file=sys.stderr)
         return 2
     if not os.path.isfile(words[0]):
         print("edits.py: there is no file %s" % words[0], file=sys.stderr)
@@ -102,6 +118,8 @@ def main(words):
     if ("ci: crates/ has the sum %s" % summed()) not in log:
         print("edits.py: the gate that printed this log had other crates, or did not say which", file=sys.stderr)
         return 2
+    if words[1:] == ["--seconds"]:
+        return print_seconds(log)
     refused = refusals(log)
     paths = sorted(glob.glob(os.path.join(TOP, "crates", "*", "must-fail", "*.edit")))
     keys = [(path.split(os.sep)[-3], os.path.basename(path)[: -len(".edit")]) for path in paths]

@@ -1,6 +1,7 @@
 #!/usr/bin/env python3
 """Holds docs/PROMISES.md against the tree: every file, name and edit in it is there, every edit of the tree is in it, and every field of
-the three demands has an edit of its name; and the lines of definitions that docs/TRUSTED.md counts.
+the three demands has an edit of its name; the lines of definitions that docs/TRUSTED.md counts; and that code and definitions cite no
+definition under proofs/.
 
     python3 tests/promises.py [--documents DIR]    the last line is 'N passed, M failed'
     python3 tests/promises.py --lines              how many lines of definitions there are, file by file, in reading order
@@ -26,16 +27,16 @@ READING = (
     ("the agent and its transitions", ("paper/specs/Atoms.antt", "paper/specs/Language.antt", "paper/specs/Transitions.antt")),
     ("the transitions as a function", ("paper/specs/Next.antt",)),
     ("the order, a run, the grade", ("runs/src/lib.rt", "runs/specs/Limits.antt", "runs/specs/Order.antt", "runs/specs/Step.antt", "runs/specs/Run.antt", "runs/specs/Weight.antt")),
-    ("a card's bytes, a configuration, a place", ("meaning/src/lib.rt", "meaning/specs/Card.antt", "meaning/specs/Configurations.antt",
+    ("a card's bytes, a configuration, a place", ("meaning/src/lib.rt", "meaning/specs/Kinds.antt", "meaning/specs/Sizes.antt", "meaning/specs/Card.antt", "meaning/specs/Configurations.antt",
                                                   "meaning/specs/Place.antt")),
     ("the refusals and the eight answers", ("meaning/specs/Refusals.antt", "meaning/specs/Why.antt", "meaning/specs/Calls.antt",
                                             "meaning/specs/Numbers.antt")),
     ("what is proved of the definitions", ("paper/specs/Theorems.antt", "runs/specs/Theorems.antt", "meaning/specs/Theorems.antt")),
     ("the letter's demands", ("demands/specs/Contracts.antt", "demands/specs/Demands.antt", "demands/specs/TestOrder.antt",
-                              "demands/specs/Closed.antt", "demands/specs/Struck.antt", "demands/specs/Shown.antt")),
+                              "demands/specs/AcceptedAgain.antt", "demands/specs/Struck.antt", "demands/specs/Shown.antt")),
     ("the turned screen", ("demands/specs/TurnedScreen.antt",)),
     ("our own deliberation", ("deliberation/src/lib.rt", "deliberation/specs/Programs.antt", "deliberation/specs/MetaTransitions.antt",
-                              "deliberation/specs/FirstMove.antt", "deliberation/specs/Entries.antt", "deliberation/specs/Deliberate.antt",
+                              "deliberation/specs/FirstMove.antt", "deliberation/specs/Kinds.antt", "deliberation/specs/Entries.antt", "deliberation/specs/Deliberate.antt",
                               "deliberation/specs/Interpreter.antt")),
     ("what is proved of deliberation", ("deliberation/specs/Theorems.antt", "deliberation/specs/Equivalence.antt")),
     ("UTF-8", ("utf8/specs/Grammar.antt", "utf8/specs/Characters.antt", "utf8/specs/Reading.antt")),
@@ -47,6 +48,8 @@ READING = (
     ("the cases", ("paper/specs/Cases.antt", "meaning/specs/Stripe.antt", "meaning/specs/Cases.antt", "notation/specs/Cases.antt",
                    "deliberation/specs/Cases.antt")),
 )
+# Definitions that only contracts of inner functions cite, and that a theorem ties to those above.
+INNER = ("notation/specs/Scanning.antt", "notation/specs/Values.antt", "notation/specs/Making.antt", "deliberation/specs/Stacked.antt")
 READ_CRATES = ("paper", "runs", "meaning", "demands", "notation", "deliberation", "utf8")
 
 
@@ -298,6 +301,18 @@ def check_remarks(folder, tally):
                     tally.hold(line, so, f"not in the documents: {quote}", os.path.relpath(path, TOP))
 
 
+# ---- what is cited
+
+
+def check_cited(tally):
+    """No file of src/ or specs/ cites a definition under proofs/."""
+    for pattern in ("*/src/**/*.rt", "*/specs/**/*.antt"):
+        for path in sorted(glob.glob(os.path.join(TOP, "crates", pattern), recursive=True)):
+            cited = [(number, line) for number, line in enumerate(read(path).split("\n"), 1)
+                     if re.match(r"\s*(?:pub )?(?:ghost )?use \S*\.proofs\.", line)]
+            tally.hold(cited[0][0] if cited else 1, not cited, "a definition under proofs/ is cited", os.path.relpath(path, TOP))
+
+
 # ---- the lines
 
 
@@ -326,7 +341,7 @@ def print_lines():
     for crate in READ_CRATES:
         for file in sorted(os.listdir(os.path.join(TOP, "crates", crate, "specs"))):
             path = f"{crate}/specs/{file}"
-            if path not in listed and file != "Lib.antt":
+            if path not in listed and path not in INNER and file != "Lib.antt":
                 print(f"not in the reading order: {path}")
                 return 1
     return 0
@@ -345,6 +360,7 @@ def main():
     tally = Tally()
     check_names(page, tally)
     check_lines(tally)
+    check_cited(tally)
     if options.documents:
         check_quotes(page, options.documents, tally)
         check_remarks(options.documents, tally)

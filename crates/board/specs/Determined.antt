@@ -13,7 +13,7 @@ use Rattle.meaning.specs.Numbers.{checkedNumber}
 use Rattle.notation.specs.Reading.{Reads}
 use Rattle.notation.specs.Printing.{printAnswer, printCount, printLeaves}
 use Rattle.deliberation.specs.Deliberate.{deliberates}
-use Rattle.names.specs.Naming.{Asked, names}
+use Rattle.names.specs.Naming.{Question, names}
 use Rattle.board.specs.Header.{whole, replied, took, gradedAs, wrote, readAs, ranTo, deliberatedTo, namedAs}
 
 -- ---- the contracts
@@ -72,7 +72,7 @@ Prints card node text n left count =
 
 -- 02, Wish 8: "hands back the part of the shed's sheet that holds its name, or the part of the master sheet": asked of both sheets
 -- for an action.
-abbrev pub Names : Bytes → Asked → ℕ → ℕ → ℕ → ℕ → Type 0
+abbrev pub Names : Bytes → Question → ℕ → ℕ → ℕ → ℕ → Type 0
 Names card asked n sheet start length = namedAs (names card asked) n sheet start length
 
 -- ---- one answer
@@ -106,7 +106,7 @@ pub record DeterminedParts : Type 0 where
       → (n ≡ n′) × (left ≡ left′) × (count ≡ count′) × (place ≡ place′)
   pub print : (card : Bytes) (node : ℕ) (text left left′ : Bytes) (n n′ count count′ : ℕ)
       → Prints card node text n left count → Prints card node text n′ left′ count′ → (n ≡ n′) × (left ≡ left′) × (count ≡ count′)
-  pub name : (card : Bytes) (asked : Asked) (n n′ sheet sheet′ start start′ length length′ : ℕ)
+  pub name : (card : Bytes) (asked : Question) (n n′ sheet sheet′ start start′ length length′ : ℕ)
       → Names card asked n sheet start length → Names card asked n′ sheet′ start′ length′
       → (n ≡ n′) × (sheet ≡ sheet′) × (start ≡ start′) × (length ≡ length′)
   -- the same sentence, "every byte and number in lent buffers": equal configurations are equal in each of the six lent parts.

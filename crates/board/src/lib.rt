@@ -13,11 +13,14 @@ use answers::sheet_number;
 use answers::verdict_number;
 use answers::verdict_offender;
 use answers::verdict_rule;
+use card::check::check;
 use meaning::Checked;
 use meaning::Mind;
+use meaning::Plan;
+use meaning::Set;
 
 // The mind of a configuration that is lent in its parts.
-fn mind(beliefs: &[u8; 16], goals: &[u8; 16], length: u16, phase: u8, finished: u16) -> Mind
+fn mind(beliefs: &Set, goals: &Set, length: u16, phase: u8, finished: u16) -> Mind
     ensures { λ r. ⌜ r ≡ record { beliefs = now (beliefs .entry); goals = now (goals .entry); length = length; phase = phase; finished = finished } ⌝ }
 {
     Mind {
@@ -32,8 +35,8 @@ fn mind(beliefs: &[u8; 16], goals: &[u8; 16], length: u16, phase: u8, finished: 
 // A mind into the lent parts.
 fn put(
     m: Mind,
-    beliefs: &mut [u8; 16],
-    goals: &mut [u8; 16],
+    beliefs: &mut Set,
+    goals: &mut Set,
     length: &mut u16,
     phase: &mut u8,
     finished: &mut u16,
@@ -55,7 +58,7 @@ fn put(
 pub extern "C" fn rigtemple_check_parts(card: &[u8]) -> u16
     ensures { λ r. ⌜ Checks (now (card .entry)) r ⌝ }
 {
-    let v = guide::check(card);
+    let v = check(card);
     match v {
         Checked::Good(_) => 0,
         Checked::Refused(r) => refusal_number(r),
@@ -66,9 +69,9 @@ pub extern "C" fn rigtemple_check_parts(card: &[u8]) -> u16
 #[no_mangle]
 pub extern "C" fn rigtemple_load_parts(
     card: &[u8],
-    beliefs: &mut [u8; 16],
-    goals: &mut [u8; 16],
-    plan: &mut [u8; 1024],
+    beliefs: &mut Set,
+    goals: &mut Set,
+    plan: &mut Plan,
     length: &mut u16,
     phase: &mut u8,
     finished: &mut u16,
@@ -88,9 +91,9 @@ pub extern "C" fn rigtemple_load_parts(
 #[no_mangle]
 pub extern "C" fn rigtemple_take_parts(
     card: &[u8],
-    beliefs: &mut [u8; 16],
-    goals: &mut [u8; 16],
-    plan: &mut [u8; 1024],
+    beliefs: &mut Set,
+    goals: &mut Set,
+    plan: &mut Plan,
     length: &mut u16,
     phase: &mut u8,
     finished: &mut u16,
@@ -121,9 +124,9 @@ pub extern "C" fn rigtemple_take_parts(
 #[no_mangle]
 pub extern "C" fn rigtemple_run_parts(
     card: &[u8],
-    beliefs: &mut [u8; 16],
-    goals: &mut [u8; 16],
-    plan: &mut [u8; 1024],
+    beliefs: &mut Set,
+    goals: &mut Set,
+    plan: &mut Plan,
     length: &mut u16,
     phase: &mut u8,
     finished: &mut u16,
@@ -159,9 +162,9 @@ pub extern "C" fn rigtemple_run_parts(
 pub extern "C" fn rigtemple_deliberate_parts(
     card: &[u8],
     program: &[u8],
-    beliefs: &mut [u8; 16],
-    goals: &mut [u8; 16],
-    plan: &mut [u8; 1024],
+    beliefs: &mut Set,
+    goals: &mut Set,
+    plan: &mut Plan,
     length: &mut u16,
     phase: &mut u8,
     finished: &mut u16,
@@ -201,9 +204,9 @@ pub extern "C" fn rigtemple_deliberate_parts(
 pub extern "C" fn rigtemple_restore_parts(
     card: &[u8],
     place: &[u8],
-    beliefs: &mut [u8; 16],
-    goals: &mut [u8; 16],
-    plan: &mut [u8; 1024],
+    beliefs: &mut Set,
+    goals: &mut Set,
+    plan: &mut Plan,
     length: &mut u16,
     phase: &mut u8,
     finished: &mut u16,
@@ -223,9 +226,9 @@ pub extern "C" fn rigtemple_restore_parts(
 #[no_mangle]
 pub extern "C" fn rigtemple_list_parts(
     card: &[u8],
-    beliefs: &[u8; 16],
-    goals: &[u8; 16],
-    plan: &[u8; 1024],
+    beliefs: &Set,
+    goals: &Set,
+    plan: &Plan,
     length: u16,
     phase: u8,
     finished: u16,
@@ -236,7 +239,7 @@ pub extern "C" fn rigtemple_list_parts(
         (whole (now (beliefs .entry)) (now (goals .entry)) (now (plan .entry)) length phase finished) (now (list .entry)) r
         (now (list .exit)) (now (count .exit)) ⌝ }
 {
-    let listed = moves::list::list(
+    let listed = listing::list::list(
         card,
         mind(beliefs, goals, length, phase, finished),
         plan,
@@ -251,9 +254,9 @@ pub extern "C" fn rigtemple_list_parts(
 #[no_mangle]
 pub extern "C" fn rigtemple_save_parts(
     card: &[u8],
-    beliefs: &[u8; 16],
-    goals: &[u8; 16],
-    plan: &[u8; 1024],
+    beliefs: &Set,
+    goals: &Set,
+    plan: &Plan,
     length: u16,
     phase: u8,
     finished: u16,

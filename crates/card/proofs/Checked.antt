@@ -9,6 +9,7 @@ use Rattle.meaning.specs.declared.Answer.{Answer}
 use Rattle.meaning.specs.declared.Answer.the-variants.{Done, Refused}
 use Rattle.meaning.specs.declared.Layout.{Layout}
 use Rattle.meaning.specs.declared.Checked.{Checked}
+use Rattle.meaning.specs.Sizes.{edition1Set, headerBytes}
 use Rattle.meaning.specs.Card.{Bytes, layout}
 use Rattle.meaning.specs.Refusals.{cardLongEnough, cardTable, cardAnswer}
 use Rattle.meaning.specs.Calls.{checks}
@@ -35,12 +36,12 @@ module _ (b : Bytes) where
     by-row : (t : Bool) → cardLongEnough b ≡ t → v ≡ checkedBy (rowAnswer t Refusal.Short) (layout b)
     by-row t h = told ∙ ap (λ s. checkedBy (rowAnswer s Refusal.Short) (layout b)) h
 
-    pub header-read : (l : Layout) → v ≡ Checked.Good l → (64 ≤ length b) × (l ≡ layout b)
+    pub header-read : (l : Layout) → v ≡ Checked.Good l → (headerBytes edition1Set ≤ length b) × (l ≡ layout b)
     unfolding cardLongEnough
     header-read l e = go (cardLongEnough b) refl
       where
-        go : (t : Bool) → cardLongEnough b ≡ t → (64 ≤ length b) × (l ≡ layout b)
-        go true h = (leb-true 64 (length b) h, good-inj (sym e ∙ by-row true h))
+        go : (t : Bool) → cardLongEnough b ≡ t → (headerBytes edition1Set ≤ length b) × (l ≡ layout b)
+        go true h = (leb-true (headerBytes edition1Set) (length b) h, good-inj (sym e ∙ by-row true h))
         go false h = absurd (good≢refused (sym e ∙ by-row false h))
 
     pub header-refused : (r : Refusal) → v ≡ Checked.Refused r → v ≡ checks b

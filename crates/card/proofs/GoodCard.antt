@@ -58,10 +58,10 @@ module _ (l : Layout) (b : Bytes) where
       let (h4, e4) = both (spanGood l 0 (e .body)) _ e3 in
       record { belief = good-condition 2 (e .node) h1; head = good-span 1 (e .head) h3; body = good-span 0 (e .body) h4 }
 
-  good-weight : weightsGood l b ≡ true → (a : ℕ) → a < l .actions → GoodWeight (weightAt b a)
+  good-weight : weightsGood l b ≡ true → (a : ℕ) → a < l .actions → GoodWeight (weightAt l b a)
   unfolding weightsGood
   good-weight e a h =
-      let w = every-at (λ a. within 1 1024 (weightAt b a)) (l .actions) a e h in
+      let w = every-at (λ a. within 1 1024 (weightAt l b a)) (l .actions) a e h in
       record { least = within-low _ _ _ w; most = within-high _ _ _ w }
 
   pool-action : GoodLayout l b → actionsGood (l .actions) (pool l b) ≡ true → (i : ℕ) → i < l .pool .count → byte b (l .pool .offset + i) < l .actions

@@ -48,7 +48,7 @@ pub record GoodWeight (w : ℕ) : Type 0 where
 -- Everything lies where the layout says; children are lower, kinds right, actions known, plans within the pool.
 pub record GoodCard (l : Layout) (b : Bytes) : Type 0 where
   pub layout : GoodLayout l b
-  pub weights : (a : ℕ) → a < l .actions → GoodWeight (weightAt b a)
+  pub weights : (a : ℕ) → a < l .actions → GoodWeight (weightAt l b a)
   pub nodes : nodesGood l b ≡ true
   pub specifications : (i : ℕ) → i < l .specifications .count → GoodSpecification l b (specificationAt l b i)
   pub selections : (i : ℕ) → i < l .selections .count → GoodSelection l b (selectionAt l b i)

@@ -2,11 +2,12 @@
 use mathlib.Core.Path.{_≡_}
 use mathlib.Core.Bool.{Bool, not}
 use mathlib.Core.List.{List}
-use Prim.Native.Nat.{ℕ, zero, suc, _/_, _%_, _<_}
+use Prim.Native.Nat.{ℕ, _/_, _%_, _<_}
 use lib.Bits.{bitOr}
 use lib.Dec.{eqb}
 use lib.ListN.{getD}
 use Rattle.meaning.specs.declared.Layout.{Layout}
+use Rattle.meaning.specs.Kinds.{NodeKind, True, Believes, HasGoal, Not, And, Or, Unknown}
 use Rattle.meaning.specs.Card.{Bytes}
 use Rattle.meaning.specs.Refusals.{containing, conditionGood}
 
@@ -14,13 +15,15 @@ use Rattle.meaning.specs.Refusals.{containing, conditionGood}
 abbrev pub tells : ℕ → ℕ → Bool
 tells kind mark = eqb (mark / kind % 2) 1
 
--- the mark of a node by its kind and the marks of its children, a first from kind 3 on and a second from kind 4 on
-abbrev pub markOf : ℕ → ℕ → ℕ → ℕ
-markOf zero first second = 0
-markOf (suc zero) first second = 1
-markOf (suc (suc zero)) first second = 2
-markOf (suc (suc (suc zero))) first second = first
-markOf (suc (suc (suc (suc k)))) first second = bitOr first second
+-- the mark of a node by its kind and the marks of its children
+abbrev pub markOf : NodeKind → ℕ → ℕ → ℕ
+markOf True first second = 0
+markOf Believes first second = 1
+markOf HasGoal first second = 2
+markOf Not first second = first
+markOf And first second = bitOr first second
+markOf Or first second = bitOr first second
+markOf Unknown first second = 0
 
 -- Marked are the nodes in whose condition an atom of a kind stands, and the unknown ones: those that no condition of the other
 -- kind may name.

@@ -1,4 +1,4 @@
--- The answer of one row of a table, and of its rows from a number on; and what is checked of a card by it.
+-- The answer of one row of a table, and of its rows from one on, by name; and what is checked of a card by it.
 use mathlib.Core.Bool.{Bool, true, false}
 use mathlib.Core.List.{List}
 use Prim.Native.Nat.{ℕ}
@@ -8,7 +8,8 @@ use Rattle.meaning.specs.declared.Answer.{Answer}
 use Rattle.meaning.specs.declared.Answer.the-variants.{Done, Refused}
 use Rattle.meaning.specs.declared.Layout.{Layout}
 use Rattle.meaning.specs.declared.Checked.{Checked}
-use Rattle.meaning.specs.Refusals.{Row, firstGiven}
+use Rattle.meaning.specs.Card.{Bytes}
+use Rattle.meaning.specs.Refusals.{Row, firstGiven, cardTable, placeTable}
 
 -- the answer of one row, by whether it is passed
 abbrev pub rowAnswer : Bool → Refusal → Answer
@@ -18,6 +19,54 @@ rowAnswer false r = Refused r
 -- the answer of a table without its first n rows
 unfoldable pub rowsFrom : {X : Type 0} → ℕ → List (Row X) → X → Answer
 rowsFrom n rows x = firstGiven (drop n rows) x
+
+-- the rows of a card's table by name, and where each stands in it
+pub data CardRow : Type 0 where
+  short : CardRow
+  mark : CardRow
+  counts : CardRow
+  offsets : CardRow
+  weights : CardRow
+  nodes : CardRow
+  rules : CardRow
+  pool : CardRow
+  sets : CardRow
+
+abbrev pub cardPlace : CardRow → ℕ
+cardPlace CardRow.short = 0
+cardPlace CardRow.mark = 1
+cardPlace CardRow.counts = 2
+cardPlace CardRow.offsets = 3
+cardPlace CardRow.weights = 4
+cardPlace CardRow.nodes = 5
+cardPlace CardRow.rules = 6
+cardPlace CardRow.pool = 7
+cardPlace CardRow.sets = 8
+
+-- the answer of a card's rows from one on
+abbrev pub cardFrom : CardRow → Bytes → Answer
+cardFrom r b = rowsFrom (cardPlace r) cardTable b
+
+-- the rows of a place's table by name, and where each stands in it
+pub data PlaceRow : Type 0 where
+  short : PlaceRow
+  mark : PlaceRow
+  counts : PlaceRow
+  offsets : PlaceRow
+  plan : PlaceRow
+  sets : PlaceRow
+
+abbrev pub placePlace : PlaceRow → ℕ
+placePlace PlaceRow.short = 0
+placePlace PlaceRow.mark = 1
+placePlace PlaceRow.counts = 2
+placePlace PlaceRow.offsets = 3
+placePlace PlaceRow.plan = 4
+placePlace PlaceRow.sets = 5
+
+-- the answer of a place's rows from one on
+abbrev pub placeFrom : PlaceRow → Layout → Bytes → Answer
+placeFrom r l p = rowsFrom (placePlace r) (placeTable l) p
 
 -- what is checked of a card with a layout, by the answer of its rows
 abbrev pub checkedBy : Answer → Layout → Checked

@@ -7,11 +7,12 @@ ghost use lib.ListN.{length};
 ghost use Rattle.meaning.specs.declared.Refusal.{Refusal};
 ghost use Rattle.meaning.specs.declared.Layout.{Layout};
 ghost use Rattle.meaning.specs.declared.Checked.{Checked};
+ghost use Rattle.meaning.specs.Sizes.{edition1Set, headerBytes};
 ghost use Rattle.meaning.specs.Card.{layout};
-ghost use Rattle.meaning.specs.Refusals.{cardLongEnough, countsGood, nodesGood, cardTable, cardAnswer};
+ghost use Rattle.meaning.specs.Refusals.{cardLongEnough, countsGood, nodesGood, cardAnswer};
 ghost use Rattle.meaning.specs.Calls.{checks};
 ghost use Rattle.layout.specs.GoodLayout.{TwoByteLayout, TwoByteSpan, GoodLayout};
-ghost use Rattle.card.specs.Rows.{rowAnswer, rowsFrom, checkedBy, answerOf};
+ghost use Rattle.card.specs.Rows.{rowAnswer, CardRow, cardFrom, checkedBy, answerOf};
 use crate::contents::pool_good;
 use crate::contents::sets_good;
 use crate::contents::weights_good;
@@ -21,6 +22,7 @@ use layout::bytes::mark_good;
 use layout::header::counts_good;
 use layout::header::offsets_good;
 use layout::header::read_layout;
+use layout::sizes::edition_1_header;
 use meaning::Answer;
 use meaning::Checked;
 use meaning::Layout;
@@ -40,7 +42,7 @@ pub fn row(good: bool, refusal: Refusal) -> Answer
 // Row 9.
 fn from_sets(card: &[u8], l: Layout) -> Answer
     requires { ⌜ GoodLayout l (now card) ⌝ }
-    ensures { λ r. ⌜ r ≡ rowsFrom 8 cardTable (now (card .entry)) ⌝ }
+    ensures { λ r. ⌜ r ≡ cardFrom CardRow.sets (now (card .entry)) ⌝ }
 {
     row(sets_good(card, l), Refusal::Atom)
 }
@@ -48,7 +50,7 @@ fn from_sets(card: &[u8], l: Layout) -> Answer
 // Row 8, then 9.
 fn from_pool(card: &[u8], l: Layout) -> Answer
     requires { ⌜ GoodLayout l (now card) ⌝ }
-    ensures { λ r. ⌜ r ≡ rowsFrom 7 cardTable (now (card .entry)) ⌝ }
+    ensures { λ r. ⌜ r ≡ cardFrom CardRow.pool (now (card .entry)) ⌝ }
 {
     let a = row(pool_good(card, l), Refusal::ActionByte);
     let Answer::Done = a else {
@@ -60,7 +62,7 @@ fn from_pool(card: &[u8], l: Layout) -> Answer
 // Row 7, then 8 and 9.
 fn from_rules(card: &[u8], l: Layout) -> Answer
     requires { ⌜ GoodLayout l (now card) × (nodesGood l (now card) ≡ true) × TwoByteSpan (l .initial) ⌝ }
-    ensures { λ r. ⌜ r ≡ rowsFrom 6 cardTable (now (card .entry)) ⌝ }
+    ensures { λ r. ⌜ r ≡ cardFrom CardRow.rules (now (card .entry)) ⌝ }
 {
     let a = row(rules_good(card, l), Refusal::Rule);
     let Answer::Done = a else {
@@ -72,7 +74,7 @@ fn from_rules(card: &[u8], l: Layout) -> Answer
 // Row 6, then 7 to 9.
 fn from_nodes(card: &[u8], l: Layout) -> Answer
     requires { ⌜ GoodLayout l (now card) × TwoByteSpan (l .initial) ⌝ }
-    ensures { λ r. ⌜ r ≡ rowsFrom 5 cardTable (now (card .entry)) ⌝ }
+    ensures { λ r. ⌜ r ≡ cardFrom CardRow.nodes (now (card .entry)) ⌝ }
 {
     let a = row(nodes_good(card, l), Refusal::Node);
     let Answer::Done = a else {
@@ -84,7 +86,7 @@ fn from_nodes(card: &[u8], l: Layout) -> Answer
 // Row 5, then 6 to 9.
 fn from_weights(card: &[u8], l: Layout) -> Answer
     requires { ⌜ GoodLayout l (now card) × TwoByteSpan (l .initial) ⌝ }
-    ensures { λ r. ⌜ r ≡ rowsFrom 4 cardTable (now (card .entry)) ⌝ }
+    ensures { λ r. ⌜ r ≡ cardFrom CardRow.weights (now (card .entry)) ⌝ }
 {
     let a = row(weights_good(card, l), Refusal::Weight);
     let Answer::Done = a else {
@@ -96,7 +98,7 @@ fn from_weights(card: &[u8], l: Layout) -> Answer
 // Row 4, then 5 to 9.
 fn from_offsets(card: &[u8], l: Layout) -> Answer
     requires { ⌜ (l ≡ layout (now card)) × TwoByteLayout l × (countsGood l ≡ true) ⌝ }
-    ensures { λ r. ⌜ r ≡ rowsFrom 3 cardTable (now (card .entry)) ⌝ }
+    ensures { λ r. ⌜ r ≡ cardFrom CardRow.offsets (now (card .entry)) ⌝ }
 {
     let a = row(offsets_good(l, card.len()), Refusal::Offsets);
     let Answer::Done = a else {
@@ -108,7 +110,7 @@ fn from_offsets(card: &[u8], l: Layout) -> Answer
 // Row 3, then 4 to 9.
 fn from_counts(card: &[u8], l: Layout) -> Answer
     requires { ⌜ (l ≡ layout (now card)) × TwoByteLayout l ⌝ }
-    ensures { λ r. ⌜ r ≡ rowsFrom 2 cardTable (now (card .entry)) ⌝ }
+    ensures { λ r. ⌜ r ≡ cardFrom CardRow.counts (now (card .entry)) ⌝ }
 {
     let a = row(counts_good(l), Refusal::Count);
     let Answer::Done = a else {
@@ -119,7 +121,7 @@ fn from_counts(card: &[u8], l: Layout) -> Answer
 
 // The number that a card with a header is answered with. Row 2, then 3 to 9: "bytes 33 41 hex".
 fn judge_card(card: &[u8], l: Layout) -> Answer
-    requires { ⌜ (64 ≤ length (now card)) × (l ≡ layout (now card)) × TwoByteLayout l ⌝ }
+    requires { ⌜ (headerBytes edition1Set ≤ length (now card)) × (l ≡ layout (now card)) × TwoByteLayout l ⌝ }
     ensures { λ r. ⌜ r ≡ cardAnswer (now (card .entry)) ⌝ }
 {
     let a = row(mark_good(card, 0x41), Refusal::Mark);
@@ -134,7 +136,7 @@ fn read_header(card: &[u8]) -> Checked
     ensures { λ r. ⌜ r ≡ checkedBy (rowAnswer (cardLongEnough (now (card .entry))) Refusal.Short) (layout (now (card .entry))) ⌝ }
     ensures { λ r. ⌜ ((l : Layout) → r ≡ Checked.Good l → TwoByteLayout l) ⌝ }
 {
-    if 64 <= card.len() {
+    if edition_1_header() <= card.len() {
         Checked::Good(read_layout(card))
     } else {
         Checked::Refused(Refusal::Short)
@@ -142,7 +144,7 @@ fn read_header(card: &[u8]) -> Checked
 }
 
 // What is checked of a card with a layout, by the answer of its rows.
-fn checked_by(a: Answer, l: Layout) -> Checked
+pub fn checked_by(a: Answer, l: Layout) -> Checked
     ensures { λ r. ⌜ r ≡ checkedBy a l ⌝ }
 {
     match a {

@@ -1,7 +1,7 @@
 // What the sections hold: rows 5, 8 and 9 of the refusal table.
 ghost use mathlib.Core.Path.{_≡_};
 ghost use mathlib.Core.Bool.{true};
-ghost use Prim.Native.Nat.{_+_, _-_, _≤_, _<_, min};
+ghost use Prim.Native.Nat.{_+_, _≤_};
 ghost use lib.ListN.{length};
 ghost use Rattle.meaning.specs.Card.{part};
 ghost use Rattle.meaning.specs.Refusals.{weightsGood, actionsGood, pool, setGood, setsGood};
@@ -13,6 +13,7 @@ use layout::entries::read_weight;
 use layout::header::in_range;
 use layout::limits::heaviest_action;
 use meaning::Layout;
+use meaning::Set;
 
 // Not row 5: every weight is from 1 to 1,024.
 pub fn weights_good(card: &[u8], l: Layout) -> bool
@@ -30,26 +31,12 @@ pub fn weights_good(card: &[u8], l: Layout) -> bool
     good
 }
 
-// The last of so many actions, as far as a byte goes.
-fn last_action(actions: usize) -> u8
-    requires { ⌜ 1 ≤ actions ⌝ }
-    ensures { λ r. ⌜ r ≡ min 255 (actions - 1) ⌝ }
-{
-    if 256 <= actions {
-        return 255;
-    }
-    (actions - 1) as u8
-}
-
-// Whether each of n bytes from one on is an action.
+// Whether each of n bytes from one on is one of 1 to 256 actions.
 pub fn actions_good(bytes: &[u8], from: usize, n: usize, actions: usize) -> bool
-    requires { ⌜ from + n ≤ length (now bytes) ⌝ }
+    requires { ⌜ (from + n ≤ length (now bytes)) × (1 ≤ actions) × (actions ≤ 256) ⌝ }
     ensures { λ r. ⌜ r ≡ actionsGood actions (part (now (bytes .entry)) from n) ⌝ }
 {
-    if actions == 0 {
-        return n == 0;
-    }
-    let last = last_action(actions);
+    let last = (actions - 1) as u8;
     let mut good = true;
     let mut i: usize = 0;
     while i < n {
@@ -59,23 +46,26 @@ pub fn actions_good(bytes: &[u8], from: usize, n: usize, actions: usize) -> bool
     good
 }
 
-// Not row 8: every byte of the pool is an action.
+// Not row 8: every byte of the pool is an action, as any byte is one of 256.
 pub fn pool_good(card: &[u8], l: Layout) -> bool
     requires { ⌜ GoodLayout l (now card) ⌝ }
     ensures { λ r. ⌜ r ≡ actionsGood (l .actions) (pool l (now (card .entry))) ⌝ }
 {
+    if l.actions == 256 {
+        return true;
+    }
     let pool = l.pool;
     actions_good(card, pool.offset, pool.count, l.actions)
 }
 
 // The atoms of all the card's sets: the initial beliefs and goals, and each Add and Del.
-fn all_sets(card: &[u8], l: Layout) -> [u8; 16]
+fn all_sets(card: &[u8], l: Layout) -> Set
     requires { ⌜ GoodLayout l (now card) ⌝ }
     ensures { λ r. ⌜ setGood (l .atoms) r ≡ setsGood l (now (card .entry)) ⌝ }
 {
     let section = l.specifications;
     let n = section.count;
-    let mut all = sets::union(initial_beliefs(card), initial_goals(card));
+    let mut all = sets::union(initial_beliefs(card, l), initial_goals(card, l));
     let mut i: usize = 0;
     while i < n {
         let e = read_specification(card, l, i);

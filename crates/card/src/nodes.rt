@@ -3,6 +3,7 @@ ghost use mathlib.Core.Path.{_≡_};
 ghost use mathlib.Core.Bool.{true, not};
 ghost use Prim.Native.Nat.{_≤_};
 ghost use lib.ListN.{getD, replicate};
+ghost use Rattle.meaning.specs.Kinds.{nodeKind};
 ghost use Rattle.meaning.specs.Refusals.{kindGood, nodesGood};
 ghost use Rattle.layout.specs.GoodLayout.{GoodLayout};
 ghost use Rattle.card.specs.Marks.{tells, markOf, Marks};
@@ -12,7 +13,7 @@ use meaning::Node;
 
 // Whether node i, of a card with some atoms, keeps the rule of its kind.
 fn kind_good(x: Node, atoms: usize, i: usize) -> bool
-    ensures { λ r. ⌜ r ≡ kindGood atoms i (x .kind) (x .a) (x .b) ⌝ }
+    ensures { λ r. ⌜ r ≡ kindGood atoms i (nodeKind (x .kind)) (x .a) (x .b) ⌝ }
 {
     let kind = x.kind;
     match kind {
@@ -46,7 +47,8 @@ pub fn nodes_good(card: &[u8], l: Layout) -> bool
 // The mark of a node by its kind and the marks of its children, which are read whatever the kind is: the machine then chooses
 // without a jump, and in a card's check a wrong guess of the kind would cost more than what is read for nothing.
 fn mark_of(kind: u8, first: u8, second: u8) -> u8
-    ensures { λ r. ⌜ r ≡ markOf kind first second ⌝ }
+    requires { ⌜ kind ≤ 5 ⌝ }
+    ensures { λ r. ⌜ r ≡ markOf (nodeKind kind) first second ⌝ }
 {
     match kind {
         0..=2 => kind,

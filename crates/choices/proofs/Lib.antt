@@ -2,7 +2,4 @@ pub mod Truths
 pub mod Descending
 pub mod OnePass
 pub mod OnePassCases
-pub mod Refusals
-pub mod Asking
-pub mod First
-pub mod Accepting
+pub mod Marked

@@ -5,22 +5,24 @@ use Prim.Native.Nat.{ℕ, zero, suc, _≤_, _<_}
 use native.Mathlib.Nat.{not-suc-le-zero}
 use native.Mathlib.Omega.{arith}
 use lib.ListN.{getD}
+use Rattle.paper.specs.Next.{if}
 use Rattle.paper.specs.Atoms.{Atoms}
 use Rattle.paper.specs.Language.{Letter, ⊤, Config}
 use Rattle.paper.specs.Transitions.{_⊨_}
 use Rattle.meaning.specs.declared.Layout.{Layout}
 use Rattle.meaning.specs.declared.Node.{Node}
+use Rattle.meaning.specs.Kinds.{NodeKind, nodeKind}
 use Rattle.meaning.specs.Card.{Bytes, layout, nodeAt, conditions}
 use Rattle.meaning.specs.Refusals.{nodesGood, containing}
-use Rattle.meaning.specs.Why.{leftIf, settlerOf, settler}
+use Rattle.meaning.specs.Why.{settledBy, settler}
 use Rattle.meaning.proofs.Accepted.{accepted}
+use Rattle.meaning.proofs.NodeKinds.{is-true, is-belief, is-goal, is-not, is-and, is-or, Known, leaf, inner, known-kind, leaf-low, leaf-kind, inner-kind}
 use Rattle.meaning.proofs.Nodes.{node-rule, made-of, contains-at, condition-at}
-use Rattle.meaning.proofs.Settling.{settler-at}
+use Rattle.meaning.proofs.Settling.{settled-leaf, settler-at}
 use Rattle.meaning.proofs.AtomKinds.{first-free, second-free}
 use Rattle.choices.specs.Truth.{other}
 use Rattle.choices.specs.OnePass.{keptOf, kept, valueOf, Settles, itself, of-not, and-left, and-right, or-left, or-right, OnePassLaw}
 use Rattle.choices.proofs.Truths.{node-truth, condition-truth}
-use Rattle.choices.proofs.Descending.{settler-leaf}
 
 -- ---- the node that the definition names is the one that settles the tree
 
@@ -39,17 +41,17 @@ module _ (L : Letter) (l : Layout) (b : Bytes) (good : nodesGood l b ≡ true) (
     abbrev x : Node
     x = nodeAt l b n
 
-    of-kind : (k : ℕ) → x .kind ≡ k → s n ≡ settlerOf n k (x .a) (x .b) v s
-    of-kind k e = settler-at L l b good c n h ∙ ap (λ k. settlerOf n k (x .a) (x .b) v s) e
+    of-kind : (k : ℕ) → x .kind ≡ k → s n ≡ settledBy n (λ j. j) (nodeKind k) (x .a) (x .b) v s
+    of-kind k e = settler-at L l b good c n h ∙ ap (λ k. settledBy n (λ j. j) (nodeKind k) (x .a) (x .b) v s) e
 
     leaf-is : x .kind ≤ 2 → s n ≡ n
-    leaf-is k = settler-at L l b good c n h ∙ settler-leaf n (x .kind) (x .a) (x .b) v s (omega arith)
+    leaf-is k = settler-at L l b good c n h ∙ settled-leaf n (λ j. j) (leaf-kind (x .kind) k) (x .a) (x .b) v s
 
-    and-is : (w : Bool) → x .kind ≡ 4 → v (x .a) ≡ w → s n ≡ leftIf (not w) (s (x .a)) (s (x .b))
-    and-is w e q = of-kind 4 e ∙ ap (λ w. leftIf (not w) (s (x .a)) (s (x .b))) q
+    and-is : (w : Bool) → x .kind ≡ 4 → v (x .a) ≡ w → s n ≡ if (not w) (s (x .a)) (s (x .b))
+    and-is w e q = of-kind 4 e ∙ ap (λ w. if (not w) (s (x .a)) (s (x .b))) q
 
-    or-is : (w : Bool) → x .kind ≡ 5 → v (x .a) ≡ w → s n ≡ leftIf w (s (x .a)) (s (x .b))
-    or-is w e q = of-kind 5 e ∙ ap (λ w. leftIf w (s (x .a)) (s (x .b))) q
+    or-is : (w : Bool) → x .kind ≡ 5 → v (x .a) ≡ w → s n ≡ if w (s (x .a)) (s (x .b))
+    or-is w e q = of-kind 5 e ∙ ap (λ w. if w (s (x .a)) (s (x .b))) q
 
     -- what settles node n settles it under another name
     named : {i : ℕ} → s n ≡ i → At i n → At (s n) n
@@ -63,20 +65,17 @@ module _ (L : Letter) (l : Layout) (b : Bytes) (good : nodesGood l b ≡ true) (
     by-or true e q ra rb = named (or-is true e q) (or-left e q ra)
     by-or false e q ra rb = named (or-is false e q) (or-right e q rb)
 
-    by-kind : (k : ℕ) → x .kind ≡ k → k ≤ 5 → (3 ≤ k → At (s (x .a)) (x .a)) → (4 ≤ k → At (s (x .b)) (x .b)) → At (s n) n
-    by-kind zero e m f g = named (leaf-is (omega arith)) (itself (omega arith))
-    by-kind (suc zero) e m f g = named (leaf-is (omega arith)) (itself (omega arith))
-    by-kind (suc (suc zero)) e m f g = named (leaf-is (omega arith)) (itself (omega arith))
-    by-kind (suc (suc (suc zero))) e m f g = named (of-kind 3 e) (of-not e (f (omega arith)))
-    by-kind (suc (suc (suc (suc zero)))) e m f g = by-and (v (x .a)) e refl (f (omega arith)) (g (omega arith))
-    by-kind (suc (suc (suc (suc (suc zero))))) e m f g = by-or (v (x .a)) e refl (f (omega arith)) (g (omega arith))
-    by-kind (suc (suc (suc (suc (suc (suc k)))))) e m f g = absurd (omega arith)
+    by-kind : {k : ℕ} {κ : NodeKind} → Known k κ → x .kind ≡ k → (3 ≤ k → At (s (x .a)) (x .a)) → (4 ≤ k → At (s (x .b)) (x .b)) → At (s n) n
+    by-kind (leaf l) e f g = let z = leaf-low l in named (leaf-is (omega arith)) (itself (omega arith))
+    by-kind (inner is-not) e f g = named (of-kind 3 e) (of-not e (f (omega arith)))
+    by-kind (inner is-and) e f g = by-and (v (x .a)) e refl (f (omega arith)) (g (omega arith))
+    by-kind (inner is-or) e f g = by-or (v (x .a)) e refl (f (omega arith)) (g (omega arith))
 
   settles-below : (m n : ℕ) → n < m → n < l .nodes .count → At (s n) n
   settles-below zero n h k = absurd (not-suc-le-zero h)
   settles-below (suc m) n h k =
       let r = node-rule l b good n k in
-      by-kind n k (nodeAt l b n .kind) refl (r .kinds)
+      by-kind n k (known-kind (nodeAt l b n .kind) (r .kinds)) refl
       (λ q. (let z = r .first q in settles-below m (nodeAt l b n .a) (omega arith) (omega arith)))
       (λ q. (let z = r .second q in settles-below m (nodeAt l b n .b) (omega arith) (omega arith)))
 
@@ -97,14 +96,13 @@ module _ (L : Letter) (l : Layout) (b : Bytes) (good : nodesGood l b ≡ true) (
 
 -- ---- what is kept of a node
 
-kept-children : (σ γ : Atoms) (i k a b : ℕ) (q q′ : ℕ → Bool × ℕ) → (3 ≤ k → q a ≡ q′ a) → (4 ≤ k → q b ≡ q′ b) → keptOf i k a b σ γ q ≡ keptOf i k a b σ γ q′
-kept-children σ γ i zero a b q q′ f s = refl
-kept-children σ γ i (suc zero) a b q q′ f s = refl
-kept-children σ γ i (suc (suc zero)) a b q q′ f s = refl
-kept-children σ γ i (suc (suc (suc zero))) a b q q′ f s = ap (λ p. (not (p .0), p .1)) (f (omega arith))
-kept-children σ γ i (suc (suc (suc (suc zero)))) a b q q′ f s = ap₂ (λ p r. (p .0 && r .0, leftIf (not (p .0)) (p .1) (r .1))) (f (omega arith)) (s (omega arith))
-kept-children σ γ i (suc (suc (suc (suc (suc zero))))) a b q q′ f s = ap₂ (λ p r. (p .0 || r .0, leftIf (p .0) (p .1) (r .1))) (f (omega arith)) (s (omega arith))
-kept-children σ γ i (suc (suc (suc (suc (suc (suc k)))))) a b q q′ f s = refl
+kept-children : (σ γ : Atoms) (i : ℕ) {k : ℕ} {κ : NodeKind} → Known k κ → (a b : ℕ) (q q′ : ℕ → Bool × ℕ) → (3 ≤ k → q a ≡ q′ a) → (4 ≤ k → q b ≡ q′ b) → keptOf i κ a b σ γ q ≡ keptOf i κ a b σ γ q′
+kept-children σ γ i (leaf is-true) a b q q′ f s = refl
+kept-children σ γ i (leaf is-belief) a b q q′ f s = refl
+kept-children σ γ i (leaf is-goal) a b q q′ f s = refl
+kept-children σ γ i (inner is-not) a b q q′ f s = ap (λ p. (not (p .0), p .1)) (f (omega arith))
+kept-children σ γ i (inner is-and) a b q q′ f s = ap₂ (λ p r. (p .0 && r .0, if (not (p .0)) (p .1) (r .1))) (f (omega arith)) (s (omega arith))
+kept-children σ γ i (inner is-or) a b q q′ f s = ap₂ (λ p r. (p .0 || r .0, if (p .0) (p .1) (r .1))) (f (omega arith)) (s (omega arith))
 
 module _ (L : Letter) (l : Layout) (b : Bytes) (good : nodesGood l b ≡ true) (c : Config) where
   abbrev keeps : ℕ → Bool × ℕ
@@ -117,22 +115,23 @@ module _ (L : Letter) (l : Layout) (b : Bytes) (good : nodesGood l b ≡ true) (
   abbrev contains : ℕ → Bool
   contains n = getD (containing (other L) l b) n false
 
-  kept-at : (n : ℕ) → n < l .nodes .count → keeps n ≡ keptOf n (nodeAt l b n .kind) (nodeAt l b n .a) (nodeAt l b n .b) (c .σ) (c .γ) keeps
+  kept-at : (n : ℕ) → n < l .nodes .count → keeps n ≡ keptOf n (nodeKind (nodeAt l b n .kind)) (nodeAt l b n .a) (nodeAt l b n .b) (c .σ) (c .γ) keeps
   unfolding kept
-  kept-at n h = made-of l b good n h (λ i k a b q. keptOf i k a b (c .σ) (c .γ) q) (false, 0) (kept-children (c .σ) (c .γ))
+  kept-at n h = made-of l b good n h (λ i κ a b q. keptOf i κ a b (c .σ) (c .γ) q) (false, 0) (λ i k κ. kept-children (c .σ) (c .γ) i)
 
   keeps-below : (m n : ℕ) → n < m → n < l .nodes .count → contains n ≡ false → keeps n ≡ due n
   keeps-below zero n h k e = absurd (not-suc-le-zero h)
   keeps-below (suc m) n h k e =
       let x = nodeAt l b n in
       let r = node-rule l b good n k in
+      let known = known-kind (x .kind) (r .kinds) in
       let free = sym (contains-at l b good n k (other L)) ∙ e in
       kept-at n k
-      ∙ kept-children (c .σ) (c .γ) n (x .kind) (x .a) (x .b) keeps due
-      (λ q. (let z = r .first q in keeps-below m (x .a) (omega arith) (omega arith) (first-free (other L) (x .kind) (x .a) (x .b) contains q (r .kinds) free)))
-      (λ q. (let z = r .second q in keeps-below m (x .b) (omega arith) (omega arith) (second-free (other L) (x .kind) (x .a) (x .b) contains q (r .kinds) free)))
+      ∙ kept-children (c .σ) (c .γ) n known (x .a) (x .b) keeps due
+      (λ q. (let z = r .first q in keeps-below m (x .a) (omega arith) (omega arith) (first-free (other L) (inner-kind (x .kind) q (r .kinds)) (x .a) (x .b) contains free)))
+      (λ q. (let z = r .second q in keeps-below m (x .b) (omega arith) (omega arith) (second-free (other L) (inner-kind (x .kind) (omega arith) (r .kinds)) (x .a) (x .b) contains q free)))
       ∙ ap₂ (λ v i. (v, i))
-      (node-truth L c (x .kind) (x .a) (x .b) (r .kinds) (valueOf L l b c) (λ j. getD (conditions L l b) j ⊤) contains free (λ _ _. refl) (λ _ _. refl) ∙ ap (λ φ. c ⊨ φ) (sym (condition-at l b good n k L)))
+      (node-truth L c known (x .a) (x .b) (valueOf L l b c) (λ j. getD (conditions L l b) j ⊤) contains free (λ _ _. refl) (λ _ _. refl) ∙ ap (λ φ. c ⊨ φ) (sym (condition-at l b good n k L)))
       (sym (settler-at L l b good c n k))
 
 pub one-pass : OnePassLaw

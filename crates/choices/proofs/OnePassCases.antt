@@ -11,6 +11,7 @@ use Rattle.runs.specs.Order.{numbers}
 use Rattle.meaning.specs.declared.Answer.the-variants.{Done}
 use Rattle.meaning.specs.declared.Layout.{Layout}
 use Rattle.meaning.specs.declared.Node.{Node}
+use Rattle.meaning.specs.Kinds.{nodeKind}
 use Rattle.meaning.specs.Card.{Bytes, byte, layout, nodeAt, nodes, pass, specificationAt}
 use Rattle.meaning.specs.Refusals.{all, cardLongEnough, cardMarkGood, countsGood, offsetsGood, weightsGood, nodeGood, nodesGood, containsOf, containing, rulesGood, actionsGood, pool, setsGood, cardTable, cardAnswer}
 use Rattle.meaning.specs.Assembled.{assembled}
@@ -38,10 +39,10 @@ keepRule atoms k [] = true
 keepRule atoms k (x ∷ xs) = nodeGood atoms k x && keepRule atoms (suc k) xs
 
 abbrev contained : ℕ → List Node → List Bool
-contained kind ns = pass (λ i x contains. containsOf kind (x .kind) (x .a) (x .b) contains) false ns
+contained kind ns = pass (λ i x contains. containsOf kind (nodeKind (x .kind)) (x .a) (x .b) contains) false ns
 
 abbrev keptAlong : Config → List Node → List (Bool × ℕ)
-keptAlong c ns = pass (λ i n below. keptOf i (n .kind) (n .a) (n .b) (c .σ) (c .γ) below) (false, 0) ns
+keptAlong c ns = pass (λ i n below. keptOf i (nodeKind (n .kind)) (n .a) (n .b) (c .σ) (c .γ) below) (false, 0) ns
 
 module _ (l : Layout) (b : Bytes) where
   node-front : (k : ℕ) → nodeAt l b k ≡ front (drop (l .nodes .offset + 4 * k) b)

@@ -1,6 +1,4 @@
 pub mod Truth
-pub mod Ready
-pub mod Asking
-pub mod InPlace
+pub mod Judged
 pub mod OnePass
 pub mod OnePassCases

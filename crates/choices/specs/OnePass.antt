@@ -10,21 +10,22 @@ use Rattle.paper.specs.Language.{Letter, Config}
 use Rattle.paper.specs.Transitions.{_⊨_}
 use Rattle.meaning.specs.declared.Answer.the-variants.{Done}
 use Rattle.meaning.specs.declared.Layout.{Layout}
+use Rattle.meaning.specs.Kinds.{NodeKind, nodeKind}
 use Rattle.meaning.specs.Card.{Bytes, layout, nodeAt, nodes, pass, conditions, condition}
 use Rattle.meaning.specs.Refusals.{cardAnswer}
-use Rattle.meaning.specs.Why.{settlerOf, settler}
+use Rattle.meaning.specs.Why.{settledBy, settler}
 use Rattle.card.specs.GoodCard.{GoodCondition}
 use Rattle.choices.specs.Truth.{truthOf, truths, other}
 
 -- 02, Wish 3: "keeping one mark and the settling atom for each node": both of node i, by what was kept of the lower nodes and
 -- nothing else.
-abbrev pub keptOf : ℕ → ℕ → ℕ → ℕ → Atoms → Atoms → (ℕ → Bool × ℕ) → Bool × ℕ
-keptOf i kind a b σ γ below =
-    (truthOf kind a b σ γ (λ j. below j .0), settlerOf i kind a b (λ j. below j .0) (λ j. below j .1))
+abbrev pub keptOf : ℕ → NodeKind → ℕ → ℕ → Atoms → Atoms → (ℕ → Bool × ℕ) → Bool × ℕ
+keptOf i κ a b σ γ below =
+    (truthOf κ a b σ γ (λ j. below j .0), settledBy i (λ j. j) κ a b (λ j. below j .0) (λ j. below j .1))
 
 -- 02, Wish 3: "in one pass over its nodes from the lowest upward": what is kept of every node.
 unfoldable pub kept : Layout → Bytes → Atoms → Atoms → List (Bool × ℕ)
-kept l b σ γ = pass (λ i n below. keptOf i (n .kind) (n .a) (n .b) σ γ below) (false, 0) (nodes l b)
+kept l b σ γ = pass (λ i n below. keptOf i (nodeKind (n .kind)) (n .a) (n .b) σ γ below) (false, 0) (nodes l b)
 
 -- The value of the tree of node n's condition, read by a letter (004, Definition 8). Serves Settles and OnePass.
 abbrev pub valueOf : Letter → Layout → Bytes → Config → ℕ → Bool

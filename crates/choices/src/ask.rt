@@ -1,4 +1,4 @@
-// Whether a choice is open, or why it is closed, by the marks of the nodes; and the first open one in the guide's order.
+// Whether a choice is enabled, or why it is closed, by the marks of the nodes; and the first enabled one in the guide's order.
 ghost use mathlib.Core.Path.{_≡_};
 ghost use mathlib.Core.Bool.{false};
 ghost use Prim.Native.Nat.{_<_};
@@ -6,12 +6,13 @@ ghost use lib.ListN.{getD};
 ghost use Rattle.paper.specs.Transitions.{select, act, revise};
 ghost use Rattle.paper.specs.Next.{enabled};
 ghost use Rattle.runs.specs.Order.{guide};
-ghost use Rattle.meaning.specs.Card.{agentFor};
-ghost use Rattle.meaning.specs.Configurations.{stateOf};
+ghost use Rattle.door.specs.Words.{agentFor, stateOf, configured, asked, choiceAt, chosen, firstOfKind};
 ghost use Rattle.layout.specs.Entries.{countOf};
-ghost use Rattle.layout.specs.PlaceParts.{lent};
-ghost use Rattle.choices.specs.Ready.{Judged};
-ghost use Rattle.choices.specs.Asking.{askedBy, asked, choiceAt, chosen, firstOpen};
+ghost use Rattle.choices.specs.Judged.{Judged};
+ghost use Rattle.door.specs.Asking.{askedBy};
+use crate::truth::Marks;
+use door::asked::Asked;
+use door::asked::Chosen;
 use layout::entries::count_of;
 use layout::entries::pool_at;
 use layout::entries::read_revision;
@@ -19,27 +20,10 @@ use layout::entries::read_selection;
 use layout::entries::read_specification;
 use meaning::Layout;
 use meaning::Mind;
-
-// What asking for a choice answers. 02, Wish 1: "Say why a move is closed."
-pub enum Asked {
-    // 01, "A configuration and its transitions": "Enabled if …"
-    Open,
-    // 02, Wish 1: "no such rule or specification"
-    NoRule,
-    // 02, Wish 1: "the plan's front doesn't fit (empty, not empty, other first action, other head)"
-    Front,
-    // 02, Wish 1: "a condition is false"
-    Condition,
-}
-
-// A choice by its kind (0 selection, 1 action, 2 revision) and its number, or none.
-pub enum Chosen {
-    At(u8, usize),
-    Nothing,
-}
+use meaning::Plan;
 
 // The mark of a node.
-fn holds(marks: &[bool; 256], node: u8) -> bool
+fn holds(marks: &Marks, node: u8) -> bool
     ensures { λ r. ⌜ r ≡ getD (now (marks .entry)) node false ⌝ }
 {
     marks[node as usize]
@@ -55,20 +39,13 @@ fn asked_by(front: bool, conditions: bool) -> Asked
     if !conditions {
         return Asked::Condition;
     }
-    Asked::Open
+    Asked::Enabled
 }
 
 // Selection rule i: "Enabled if the plan is empty and both conditions of the rule hold."
-fn ask_selection(
-    card: &[u8],
-    l: Layout,
-    m: Mind,
-    plan: &[u8; 1024],
-    marks: &[bool; 256],
-    i: usize,
-) -> Asked
-    requires { ⌜ Judged l (now card) (lent m (now plan)) (now marks) × (i < l .selections .count) ⌝ }
-    ensures { λ r. ⌜ r ≡ asked (agentFor l (now (card .entry))) (stateOf (lent m (now (plan .entry))) .mental) (select i) ⌝ }
+fn ask_selection(card: &[u8], l: Layout, m: Mind, plan: &Plan, marks: &Marks, i: usize) -> Asked
+    requires { ⌜ Judged l (now card) (configured m (now plan)) (now marks) × (i < l .selections .count) ⌝ }
+    ensures { λ r. ⌜ r ≡ asked (agentFor l (now (card .entry))) (stateOf (configured m (now (plan .entry))) .mental) (select i) ⌝ }
 {
     let e = read_selection(card, l, i);
     let belief = holds(marks, e.belief);
@@ -78,16 +55,9 @@ fn ask_selection(
 
 // Specification i: "Enabled … if the plan is not empty, its first action is that of the specification, and the precondition
 // holds."
-fn ask_specification(
-    card: &[u8],
-    l: Layout,
-    m: Mind,
-    plan: &[u8; 1024],
-    marks: &[bool; 256],
-    i: usize,
-) -> Asked
-    requires { ⌜ Judged l (now card) (lent m (now plan)) (now marks) × (i < l .specifications .count) ⌝ }
-    ensures { λ r. ⌜ r ≡ asked (agentFor l (now (card .entry))) (stateOf (lent m (now (plan .entry))) .mental) (act i) ⌝ }
+fn ask_specification(card: &[u8], l: Layout, m: Mind, plan: &Plan, marks: &Marks, i: usize) -> Asked
+    requires { ⌜ Judged l (now card) (configured m (now plan)) (now marks) × (i < l .specifications .count) ⌝ }
+    ensures { λ r. ⌜ r ≡ asked (agentFor l (now (card .entry))) (stateOf (configured m (now (plan .entry))) .mental) (act i) ⌝ }
 {
     let e = read_specification(card, l, i);
     let first = plan[0];
@@ -96,16 +66,9 @@ fn ask_specification(
 }
 
 // Revision rule i: "Enabled if the head is a prefix of the plan and the condition holds."
-fn ask_revision(
-    card: &[u8],
-    l: Layout,
-    m: Mind,
-    plan: &[u8; 1024],
-    marks: &[bool; 256],
-    i: usize,
-) -> Asked
-    requires { ⌜ Judged l (now card) (lent m (now plan)) (now marks) × (i < l .revisions .count) ⌝ }
-    ensures { λ r. ⌜ r ≡ asked (agentFor l (now (card .entry))) (stateOf (lent m (now (plan .entry))) .mental) (revise i) ⌝ }
+fn ask_revision(card: &[u8], l: Layout, m: Mind, plan: &Plan, marks: &Marks, i: usize) -> Asked
+    requires { ⌜ Judged l (now card) (configured m (now plan)) (now marks) × (i < l .revisions .count) ⌝ }
+    ensures { λ r. ⌜ r ≡ asked (agentFor l (now (card .entry))) (stateOf (configured m (now (plan .entry))) .mental) (revise i) ⌝ }
 {
     let e = read_revision(card, l, i);
     let head = e.head;
@@ -115,18 +78,18 @@ fn ask_revision(
     asked_by(front, belief)
 }
 
-// A choice that the card has, by its kind and number: whether it is open, or why it is closed.
+// A choice that the card has, by its kind and number: whether it is enabled, or why it is closed.
 fn ask_entry(
     card: &[u8],
     l: Layout,
     m: Mind,
-    plan: &[u8; 1024],
-    marks: &[bool; 256],
+    plan: &Plan,
+    marks: &Marks,
     kind: u8,
     i: usize,
 ) -> Asked
-    requires { ⌜ Judged l (now card) (lent m (now plan)) (now marks) × (kind < 3) × (i < countOf l kind) ⌝ }
-    ensures { λ r. ⌜ r ≡ asked (agentFor l (now (card .entry))) (stateOf (lent m (now (plan .entry))) .mental) (choiceAt kind i) ⌝ }
+    requires { ⌜ Judged l (now card) (configured m (now plan)) (now marks) × (kind < 3) × (i < countOf l kind) ⌝ }
+    ensures { λ r. ⌜ r ≡ asked (agentFor l (now (card .entry))) (stateOf (configured m (now (plan .entry))) .mental) (choiceAt kind i) ⌝ }
 {
     match kind {
         0 => ask_selection(card, l, m, plan, marks, i),
@@ -136,17 +99,9 @@ fn ask_entry(
 }
 
 // A choice of any number.
-pub fn ask(
-    card: &[u8],
-    l: Layout,
-    m: Mind,
-    plan: &[u8; 1024],
-    marks: &[bool; 256],
-    kind: u8,
-    i: usize,
-) -> Asked
-    requires { ⌜ Judged l (now card) (lent m (now plan)) (now marks) × (kind < 3) ⌝ }
-    ensures { λ r. ⌜ r ≡ asked (agentFor l (now (card .entry))) (stateOf (lent m (now (plan .entry))) .mental) (choiceAt kind i) ⌝ }
+pub fn ask(card: &[u8], l: Layout, m: Mind, plan: &Plan, marks: &Marks, kind: u8, i: usize) -> Asked
+    requires { ⌜ Judged l (now card) (configured m (now plan)) (now marks) × (kind < 3) ⌝ }
+    ensures { λ r. ⌜ r ≡ asked (agentFor l (now (card .entry))) (stateOf (configured m (now (plan .entry))) .mental) (choiceAt kind i) ⌝ }
 {
     if count_of(l, kind) <= i {
         return Asked::NoRule;
@@ -154,46 +109,46 @@ pub fn ask(
     ask_entry(card, l, m, plan, marks, kind, i)
 }
 
-// Whether a choice that the card has is open.
-pub fn is_open(
+// Whether a choice that the card has is enabled.
+pub fn is_enabled(
     card: &[u8],
     l: Layout,
     m: Mind,
-    plan: &[u8; 1024],
-    marks: &[bool; 256],
+    plan: &Plan,
+    marks: &Marks,
     kind: u8,
     i: usize,
 ) -> bool
-    requires { ⌜ Judged l (now card) (lent m (now plan)) (now marks) × (kind < 3) × (i < countOf l kind) ⌝ }
-    ensures { λ r. ⌜ r ≡ enabled (agentFor l (now (card .entry))) (stateOf (lent m (now (plan .entry))) .mental) (choiceAt kind i) ⌝ }
+    requires { ⌜ Judged l (now card) (configured m (now plan)) (now marks) × (kind < 3) × (i < countOf l kind) ⌝ }
+    ensures { λ r. ⌜ r ≡ enabled (agentFor l (now (card .entry))) (stateOf (configured m (now (plan .entry))) .mental) (choiceAt kind i) ⌝ }
 {
     let answer = ask_entry(card, l, m, plan, marks, kind, i);
     match answer {
-        Asked::Open => true,
+        Asked::Enabled => true,
         Asked::NoRule => false,
         Asked::Front => false,
         Asked::Condition => false,
     }
 }
 
-// The lowest open choice of a kind.
+// The lowest enabled choice of a kind.
 pub fn first_of_kind(
     card: &[u8],
     l: Layout,
     m: Mind,
-    plan: &[u8; 1024],
-    marks: &[bool; 256],
+    plan: &Plan,
+    marks: &Marks,
     kind: u8,
 ) -> Chosen
-    requires { ⌜ Judged l (now card) (lent m (now plan)) (now marks) × (kind < 3) ⌝ }
-    ensures { λ r. ⌜ r ≡ firstOpen l (now (card .entry)) (lent m (now (plan .entry))) kind ⌝ }
+    requires { ⌜ Judged l (now card) (configured m (now plan)) (now marks) × (kind < 3) ⌝ }
+    ensures { λ r. ⌜ r ≡ firstOfKind l (now (card .entry)) (configured m (now (plan .entry))) kind ⌝ }
 {
     let n = count_of(l, kind);
     let mut i: usize = 0;
     while i < n {
         let answer = ask_entry(card, l, m, plan, marks, kind, i);
         match answer {
-            Asked::Open => {
+            Asked::Enabled => {
                 return Chosen::At(kind, i);
             }
             Asked::NoRule => i += 1,
@@ -206,9 +161,9 @@ pub fn first_of_kind(
 
 // "From phase p the kinds p, p+1, p+2 (modulo 3) are tried in turn. In the first kind with an enabled transition, the lowest
 // number is taken."
-pub fn choose(card: &[u8], l: Layout, m: Mind, plan: &[u8; 1024], marks: &[bool; 256]) -> Chosen
-    requires { ⌜ Judged l (now card) (lent m (now plan)) (now marks) ⌝ }
-    ensures { λ r. ⌜ r ≡ chosen (guide (agentFor l (now (card .entry))) (stateOf (lent m (now (plan .entry))))) ⌝ }
+pub fn choose(card: &[u8], l: Layout, m: Mind, plan: &Plan, marks: &Marks) -> Chosen
+    requires { ⌜ Judged l (now card) (configured m (now plan)) (now marks) ⌝ }
+    ensures { λ r. ⌜ r ≡ chosen (guide (agentFor l (now (card .entry))) (stateOf (configured m (now (plan .entry))))) ⌝ }
 {
     let p = m.phase;
     let mut t: u8 = 0;

@@ -3,6 +3,7 @@ ghost use mathlib.Core.Path.{_≡_};
 ghost use mathlib.Core.Bool.{false};
 ghost use Prim.Native.Nat.{_≤_};
 ghost use lib.ListN.{length, getD, replicate};
+ghost use Rattle.meaning.specs.Kinds.{nodeKind};
 ghost use Rattle.card.specs.GoodCard.{GoodCard};
 ghost use Rattle.choices.specs.Truth.{truthOf, Marked};
 use layout::entries::read_node;
@@ -10,10 +11,13 @@ use meaning::Layout;
 use meaning::Mind;
 use meaning::Node;
 
+// One mark a node: whether its condition holds.
+pub type Marks = [bool; 256];
+
 // The truth of a node, by the marks of the lower nodes.
-fn truth(x: Node, m: Mind, marks: &[bool; 256]) -> bool
+fn truth(x: Node, m: Mind, marks: &Marks) -> bool
     requires { ⌜ x .kind ≤ 5 ⌝ }
-    ensures { λ r. ⌜ r ≡ truthOf (x .kind) (x .a) (x .b) (m .beliefs) (m .goals) (λ j. getD (now (marks .entry)) j false) ⌝ }
+    ensures { λ r. ⌜ r ≡ truthOf (nodeKind (x .kind)) (x .a) (x .b) (m .beliefs) (m .goals) (λ j. getD (now (marks .entry)) j false) ⌝ }
 {
     let kind = x.kind;
     let a = x.a;
@@ -31,7 +35,7 @@ fn truth(x: Node, m: Mind, marks: &[bool; 256]) -> bool
 }
 
 // Every node's truth, over marks of whatever was before.
-pub fn judge_nodes(card: &[u8], l: Layout, m: Mind, marks: &mut [bool; 256])
+pub fn judge_nodes(card: &[u8], l: Layout, m: Mind, marks: &mut Marks)
     requires { ⌜ GoodCard l (now card) × (length (now marks) ≡ 256) ⌝ }
     ensures { λ r. ⌜ Marked l (now (card .entry)) m (now (marks .exit)) × (length (now (marks .exit)) ≡ 256) ⌝ }
 {
@@ -46,7 +50,7 @@ pub fn judge_nodes(card: &[u8], l: Layout, m: Mind, marks: &mut [bool; 256])
 }
 
 // No node is marked.
-pub fn no_marks() -> [bool; 256]
+pub fn no_marks() -> Marks
     ensures { λ r. ⌜ r ≡ replicate 256 false ⌝ }
 {
     [false; 256]

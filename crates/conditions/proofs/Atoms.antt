@@ -8,7 +8,7 @@ use borrow.Author.Tests.{le-leb, lt-leb}
 use lib.Dec.{leb}
 use Rattle.meaning.specs.Card.{Bytes}
 use Rattle.notation.specs.Built.{node}
-use Rattle.notation.proofs.Making.{when, addedTo}
+use Rattle.notation.specs.Making.{when, addedTo}
 use Rattle.conditions.specs.Reads.{capped}
 use Rattle.conditions.proofs.Stored.{either}
 

@@ -8,11 +8,12 @@ use Prim.Native.Nat.{ℕ, zero, suc, _+_, _-_, _≤_, _<_}
 use native.Mathlib.Omega.{arith}
 use borrow.Author.Tests.{eq-eqb, eqb-true}
 use lib.ListN.{length, drop, getD, length-drop}
+use Rattle.paper.specs.Next.{if}
 use Rattle.meaning.specs.Card.{Bytes}
 use Rattle.notation.specs.Built.{node}
 use Rattle.notation.specs.Conditions.{Tree, and, or, Condition, joined}
-use Rattle.notation.proofs.Values.{if, Read, nested, got, then, more, several, unitOf, andListOf}
-use Rattle.notation.proofs.Making.{addedTo, withTree, lastNode}
+use Rattle.notation.specs.Values.{Read, nested, got, then, more, several, unitOf, andListOf}
+use Rattle.notation.specs.Making.{addedTo, withTree, lastNode}
 use Rattle.conditions.specs.declared.read.Reading.{Reading}
 use Rattle.conditions.specs.Reads.{nodesOf, joinedNodes, begins, ReadsCondition}
 use Rattle.conditions.proofs.Numbers.{drop-cons, drop-none}
@@ -96,7 +97,7 @@ pub record Before (K : Kind) (t : Bytes) (at k₀ : ℕ) (d₀ : Bytes) (first :
   pub whole : severalOf K (drop at t) ≡ then (K .one (drop n t)) (λ c s. moreOf K (fuel s) (joinedBy K so-far c) s)
 
 -- the members up to n are one condition, whose nodes are the last of the k of d
-pub record Behind (K : Kind) (t : Bytes) (at k₀ : ℕ) (d₀ : Bytes) (n k : ℕ) (d : Bytes) : Type 0 where
+pub record BehindMember (K : Kind) (t : Bytes) (at k₀ : ℕ) (d₀ : Bytes) (n k : ℕ) (d : Bytes) : Type 0 where
   pub cond : Condition
   pub behind : at ≤ n
   pub within : n ≤ length t
@@ -125,7 +126,7 @@ module _ (K : Kind) (t : Bytes) (at k₀ : ℕ) (d₀ : Bytes) where
   -- a member is read
   module _ (first : Bool) (n k : ℕ) (d : Bytes) (b : Before K t at k₀ d₀ first n k d) where
     pub list-joined : (p j m : ℕ) (d′ d″ : Bytes) → Told t n d k (K .one (drop n t)) p j d′
-        → m ≤ 257 → length d″ ≡ 1024 → nodesOf m d″ ≡ joinedNodes first (K .kind) k j d′ → Behind K t at k₀ d₀ p m d″
+        → m ≤ 257 → length d″ ≡ 1024 → nodesOf m d″ ≡ joinedNodes first (K .kind) k j d′ → BehindMember K t at k₀ d₀ p m d″
     list-joined p j m d′ d″ r small room put =
         let far = b .behind in
         let on = r .behind in
@@ -158,7 +159,7 @@ module _ (K : Kind) (t : Bytes) (at k₀ : ℕ) (d₀ : Bytes) where
         (b .whole ∙ ap (λ (R : Read Condition). then R (λ c s. moreOf K (b .fuel s) (joinedBy K (b .so-far) c) s)) e)
         (room ∙ (b .room ∙ sym sized))
 
-  module _ (n k : ℕ) (d : Bytes) (l : Behind K t at k₀ d₀ n k d) where
+  module _ (n k : ℕ) (d : Bytes) (l : BehindMember K t at k₀ d₀ n k d) where
     -- the operator comes, and the next member
     pub list-on : begins (K .byte) (drop n t) ≡ true → Before K t at k₀ d₀ false (n + 1) k d
     list-on e =

@@ -8,9 +8,10 @@ use native.Mathlib.Omega.{arith}
 use borrow.Author.Tests.{leb-true}
 use lib.Dec.{leb}
 use lib.ListN.{length, drop, getD}
+use Rattle.paper.specs.Next.{if}
 use Rattle.meaning.specs.Card.{Bytes}
-use Rattle.notation.proofs.Scanning.{digit}
-use Rattle.notation.proofs.Values.{if, digitsValue, digitsRest, numberValue}
+use Rattle.notation.specs.Scanning.{digit}
+use Rattle.notation.specs.Values.{digitsValue, digitsRest, numberValue}
 use Rattle.conditions.specs.Reads.{capped, ReadsNumber}
 
 -- ---- bytes
@@ -81,15 +82,15 @@ module _ (t : Bytes) (n : ℕ) where
 
 -- ---- a number, read from a place on as far as the digits before n, which have the value v
 
-abbrev pub Digits : Bytes → ℕ → ℕ → ℕ → Type 0
-Digits t at v n =
+abbrev pub DigitsPassed : Bytes → ℕ → ℕ → ℕ → Type 0
+DigitsPassed t at v n =
     (at ≤ n)
     × (n ≤ length t)
     × (v ≤ 65536)
     × (capped (digitsValue v (drop n t)) ≡ capped (numberValue (drop at t)))
     × (digitsRest (drop n t) ≡ digitsRest (drop at t))
 
-module _ (t : Bytes) (at v n : ℕ) (d : Digits t at v n) where
+module _ (t : Bytes) (at v n : ℕ) (d : DigitsPassed t at v n) where
   read-at : digitsValue v (drop n t) ≡ v → digitsRest (drop n t) ≡ drop n t → ReadsNumber t at (record { value = v; next = n })
   read-at e f =
       let small = d .2 in
@@ -106,7 +107,7 @@ module _ (t : Bytes) (at v n : ℕ) (d : Digits t at v n) where
     pub read-stop : digit (getD t n 0) ≡ false → ReadsNumber t at (record { value = v; next = n })
     read-stop e = read-at (digits-stop t n h e v) (rest-stop t n h e)
 
-    pub read-on : (w : ℕ) → digit (getD t n 0) ≡ true → w ≡ capped (10 * v + (getD t n 0 - 48)) → Digits t at w (n + 1)
+    pub read-on : (w : ℕ) → digit (getD t n 0) ≡ true → w ≡ capped (10 * v + (getD t n 0 - 48)) → DigitsPassed t at w (n + 1)
     read-on w e f =
         let a = d .0 in
         (omega arith, omega arith, omega arith, sym (digits-on t n h e v w f) ∙ d .3, sym (rest-on t n h e) ∙ d .4)

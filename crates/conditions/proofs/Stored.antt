@@ -10,10 +10,10 @@ use borrow.Author.Tests.{leb-true, leb-false, le-leb, lt-leb}
 use lib.Dec.{leb}
 use lib.ListN.{length, take, drop, set, length-set, length-append}
 use lib.Seq.{length-take-le, sets, sets-eq, take-at}
+use Rattle.paper.specs.Next.{if}
 use Rattle.meaning.specs.Card.{Bytes}
 use Rattle.notation.specs.Built.{node}
-use Rattle.notation.proofs.Values.{if}
-use Rattle.notation.proofs.Making.{addedTo, lastNode}
+use Rattle.notation.specs.Making.{addedTo, lastNode}
 use Rattle.conditions.specs.Reads.{nodesOf, lastOf}
 
 pub either : (a b : ℕ) → (a ≤ b) ⊎ (b < a)

@@ -5,8 +5,8 @@ use native.Mathlib.Omega.{arith}
 use lib.ListN.{length, drop}
 use Rattle.meaning.specs.Card.{Bytes}
 use Rattle.notation.specs.Conditions.{Condition}
-use Rattle.notation.proofs.Values.{Read, nested, got}
-use Rattle.notation.proofs.Making.{withTree}
+use Rattle.notation.specs.Values.{Read, nested, got}
+use Rattle.notation.specs.Making.{withTree}
 use Rattle.conditions.specs.declared.read.Reading.{Reading}
 use Rattle.conditions.specs.Reads.{nodesOf, ReadsCondition}
 

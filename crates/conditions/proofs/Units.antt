@@ -9,13 +9,14 @@ use native.Mathlib.Omega.{arith}
 use borrow.Author.Tests.{ne-eqb, eqb-true}
 use lib.Dec.{eqb, leb}
 use lib.ListN.{length, drop, getD}
+use Rattle.paper.specs.Next.{if}
 use Rattle.meaning.specs.Card.{Bytes}
 use Rattle.notation.specs.Built.{node}
 use Rattle.notation.specs.Conditions.{true, believes, goal, Condition, plain, negated, bracketed}
-use Rattle.notation.proofs.Values.{if, Read, nested, got, then, numberValue, digitsRest, inNot, inBrackets, orListOf, unitBy, unitOf}
-use Rattle.notation.proofs.Making.{when, addedTo, withTree, lastNode}
+use Rattle.notation.specs.Values.{Read, nested, got, then, numberValue, digitsRest, inNot, inBrackets, orListOf, unitBy, unitOf}
+use Rattle.notation.specs.Making.{when, addedTo, withTree, lastNode}
 use Rattle.conditions.specs.declared.read.Reading.{Reading}
-use Rattle.conditions.specs.Reads.{leaf, nodesOf, lastOf, At, ReadsAtom, ReadsCondition}
+use Rattle.conditions.specs.Reads.{leaf, nodesOf, lastOf, TextAt, ReadsAtom, ReadsCondition}
 use Rattle.conditions.proofs.Numbers.{drop-cons, drop-none}
 use Rattle.conditions.proofs.Stored.{last-of}
 use Rattle.conditions.proofs.Told.{Told, at-told}
@@ -181,7 +182,7 @@ module _ (t : Bytes) (at left : ℕ) (h : at < length t) (some-left : left ≡ 0
     brackets-nested f = unit-brackets t at left h some-left l e ∙ ap (λ (R : Read Condition). then R (λ c r. got (bracketed c) (drop 1 r))) f
 
     pub read-brackets : (d′ : Bytes) (n m n′ : ℕ) → Told t (at + 1) d k (orListOf (left - 1) (drop (at + 1) t)) n m d′
-        → (n ≤ n′) × At t n′ (drop 1 (drop n t)) → ReadsCondition t at d k (unitOf left (drop at t)) (Reading.At n′ m) d′
+        → (n ≤ n′) × TextAt t n′ (drop 1 (drop n t)) → ReadsCondition t at d k (unitOf left (drop at t)) (Reading.At n′ m) d′
     read-brackets d′ n m n′ r b =
         at-told t at d k d′ (unitOf left (drop at t)) n′ m
         (record {

@@ -7,17 +7,18 @@ use Prim.Native.Nat.{ℕ, _-_, _*_, _≤_, min}
 use Prim.Native.Char.{code}
 use lib.Dec.{leb, eqb}
 use lib.ListN.{length, take, drop}
+use Rattle.paper.specs.Next.{if}
 use Rattle.meaning.specs.Card.{Bytes}
 use Rattle.notation.specs.Conditions.{Condition}
 use Rattle.notation.specs.Built.{node}
-use Rattle.notation.proofs.Values.{if, numberValue, digitsRest, Read, nested, got, unitOf}
-use Rattle.notation.proofs.Making.{when, addedTo, withTree}
+use Rattle.notation.specs.Values.{numberValue, digitsRest, Read, nested, got, unitOf}
+use Rattle.notation.specs.Making.{when, addedTo, withTree}
 use Rattle.conditions.specs.declared.number.Numeral.{Numeral}
 use Rattle.conditions.specs.declared.read.Reading.{Reading}
 
 -- a place in a text, and what is left from there on
-abbrev pub At : Bytes → ℕ → Bytes → Type 0
-At t n rest = (n ≤ length t) × (drop n t ≡ rest)
+abbrev pub TextAt : Bytes → ℕ → Bytes → Type 0
+TextAt t n rest = (n ≤ length t) × (drop n t ≡ rest)
 
 -- a number, 65,536 where it is greater
 abbrev pub capped : ℕ → ℕ
@@ -25,7 +26,7 @@ capped n = min n 65536
 
 -- a number was read: its value, and the place behind its digits
 abbrev pub ReadsNumber : Bytes → ℕ → Numeral → Type 0
-ReadsNumber t at r = (r .value ≡ capped (numberValue (drop at t))) × (at ≤ r .next) × At t (r .next) (digitsRest (drop at t))
+ReadsNumber t at r = (r .value ≡ capped (numberValue (drop at t))) × (at ≤ r .next) × TextAt t (r .next) (digitsRest (drop at t))
 
 -- the nodes that a section holds, if k, at most 256, is how many they are; none if k is 257, which tells that something is too
 -- large
@@ -54,7 +55,7 @@ leaf x = (eqb x (code "T") || eqb x (code "B")) || eqb x (code "G")
 abbrev pub ReadsAtom : Bytes → ℕ → ℕ → Bytes → ℕ → Reading → Bytes → Type 0
 ReadsAtom t at kind d k (Reading.At n k′) d′ =
     let a = numberValue (drop at t) in
-    At t n (digitsRest (drop at t))
+    TextAt t n (digitsRest (drop at t))
     × (at ≤ n)
     × (k′ ≤ 257)
     × (length d′ ≡ length d)
@@ -65,7 +66,7 @@ ReadsAtom t at kind d k Reading.Nested d′ = ⊥
 abbrev pub ReadsCondition : Bytes → ℕ → Bytes → ℕ → Read Condition → Reading → Bytes → Type 0
 ReadsCondition t at d k nested r d′ = (r ≡ Reading.Nested) × (length d′ ≡ length d)
 ReadsCondition t at d k (got c rest) (Reading.At n k′) d′ =
-    At t n rest × (at ≤ n) × (k′ ≤ 257) × (length d′ ≡ length d) × (nodesOf k′ d′ ≡ withTree (c .tree) (nodesOf k d))
+    TextAt t n rest × (at ≤ n) × (k′ ≤ 257) × (length d′ ≡ length d) × (nodesOf k′ d′ ≡ withTree (c .tree) (nodesOf k d))
 ReadsCondition t at d k (got c rest) Reading.Nested d′ = ⊥
 
 -- a unit that nothing is nested in was read: whatever may still nest

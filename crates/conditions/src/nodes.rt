@@ -4,7 +4,7 @@ ghost use mathlib.Core.Path.{_≡_};
 ghost use Prim.Native.Nat.{_≤_};
 ghost use lib.ListN.{length};
 ghost use Rattle.notation.specs.Built.{node};
-ghost use Rattle.notation.proofs.Making.{addedTo, when};
+ghost use Rattle.notation.specs.Making.{addedTo, when};
 ghost use lib.Dec.{leb};
 ghost use Rattle.conditions.specs.Reads.{nodesOf, lastOf, joinedNodes};
 
@@ -54,7 +54,7 @@ pub fn put_operator(nodes: &mut [u8], kind: u8, left: usize, right: usize) -> us
 
 // A list's member, where there are so many nodes behind the members before it and so many behind it: the first one stands by
 // itself, each other one is the right side of the list's operator.
-pub fn joined(nodes: &mut [u8], kind: u8, first: bool, left: usize, right: usize) -> usize
+pub fn put_member(nodes: &mut [u8], kind: u8, first: bool, left: usize, right: usize) -> usize
     requires { ⌜ length (now nodes) ≡ 1024 ⌝ }
     requires { ⌜ (left ≤ 257) × (right ≤ 257) ⌝ }
     ensures { λ r. ⌜ r ≤ 257 ⌝ }

@@ -2,7 +2,7 @@
 ghost use mathlib.Core.Path.{_≡_};
 ghost use Prim.Native.Nat.{_+_, _-_, _*_, _≤_};
 ghost use lib.ListN.{length};
-ghost use Rattle.notation.proofs.Scanning.{digit};
+ghost use Rattle.notation.specs.Scanning.{digit};
 ghost use Rattle.conditions.specs.Reads.{capped, ReadsNumber};
 
 // A number's value, 65,536 where it is greater than 65,535, and the place behind it.
@@ -11,7 +11,8 @@ pub struct Numeral {
     pub next: usize,
 }
 
-fn is_digit(x: u8) -> bool
+// Whether a byte is a digit.
+pub fn is_digit(x: u8) -> bool
     ensures { λ r. ⌜ r ≡ digit x ⌝ }
 {
     (48 <= x) & (x <= 57)

@@ -4,10 +4,10 @@ ghost use mathlib.Core.Path.{_≡_};
 ghost use mathlib.Core.Bool.{true};
 ghost use Prim.Native.Nat.{_≤_, _<_};
 ghost use lib.ListN.{length, getD, drop};
-ghost use Rattle.notation.proofs.Values.{unitOf, andListOf, orListOf, conditionOf};
-ghost use Rattle.conditions.specs.Reads.{leaf, begins, At, ReadsAtom, ReadsLeaf, ReadsCondition};
-use crate::nodes::joined;
+ghost use Rattle.notation.specs.Values.{unitOf, andListOf, orListOf, conditionOf};
+ghost use Rattle.conditions.specs.Reads.{leaf, begins, TextAt, ReadsAtom, ReadsLeaf, ReadsCondition};
 use crate::nodes::put_atom;
+use crate::nodes::put_member;
 use crate::nodes::put_node;
 use crate::nodes::put_not;
 use crate::number::read_number;
@@ -54,7 +54,7 @@ fn read_leaf(text: &[u8], at: usize, nodes: &mut [u8], k: usize) -> Reading
 // Behind the next byte, if there is one.
 fn behind_byte(text: &[u8], at: usize) -> usize
     requires { ⌜ at ≤ length (now text) ⌝ }
-    ensures { λ r. ⌜ (at ≤ r) × At (now (text .entry)) r (drop 1 (drop at (now (text .entry)))) ⌝ }
+    ensures { λ r. ⌜ (at ≤ r) × TextAt (now (text .entry)) r (drop 1 (drop at (now (text .entry)))) ⌝ }
 {
     if at == text.len() { at } else { at + 1 }
 }
@@ -114,7 +114,7 @@ fn read_and_list(text: &[u8], at: usize, left: usize, nodes: &mut [u8], k: usize
         let Reading::At(p, j) = next else {
             return Reading::Nested;
         };
-        count = joined(nodes, 4, first, count, j);
+        count = put_member(nodes, 4, first, count, j);
         if comes(text, p, 38) {
             place = p + 1;
             first = false;
@@ -138,7 +138,7 @@ fn read_or_list(text: &[u8], at: usize, left: usize, nodes: &mut [u8], k: usize)
         let Reading::At(p, j) = next else {
             return Reading::Nested;
         };
-        count = joined(nodes, 5, first, count, j);
+        count = put_member(nodes, 5, first, count, j);
         if comes(text, p, 124) {
             place = p + 1;
             first = false;

@@ -23,14 +23,14 @@ use Rattle.plans.proofs.Laws.{drop-replicate}
 use Rattle.card.specs.Rows.{rowAnswer}
 use Rattle.card.proofs.Rows.{row-done}
 use Rattle.deliberation.specs.declared.Deliberated.{Deliberated}
-use Rattle.deliberation.specs.Entries.{entryCount, entries, programGood, programTable, deliberateAnswer}
+use Rattle.deliberation.specs.Entries.{entryCount, entriesOf, programGood, programTable, deliberateAnswer}
 use Rattle.deliberation.specs.Deliberate.{Outcome, deliberate, remainingOf, deliberated, whole, deliberates}
-use Rattle.deliberation.proofs.Room.{Stacked, put, nothing}
+use Rattle.deliberation.specs.Stacked.{Stacked, put, nothing}
 use Rattle.deliberation.proofs.Call.{deliberates-done, deliberates-refused, program-refused, configuration-refused, nothing-refused}
 use Rattle.program.specs.GoodProgram.{GoodProgram}
 use Rattle.program.proofs.GoodProgram.{good-program}
 use Rattle.deliberate.specs.declared.call.DeliberatedInPlace.{DeliberatedInPlace}
-use Rattle.deliberate.specs.declared.run.Ran.{Ran}
+use Rattle.deliberate.specs.declared.run.RanMoves.{RanMoves}
 use Rattle.deliberate.specs.Made.{Remains}
 use Rattle.deliberate.specs.Ran.{RanTo}
 use Rattle.deliberate.specs.InPlace.{remains, refusedWith, deliberatedWith}
@@ -61,7 +61,7 @@ handed-out stack zeros top h s e =
     λ i. record { length = sym n i; numbers = ap₂ _++_ f z i }
 
 -- what the moves came to, as it is answered
-pub ran-so : (o : Outcome) (r : Ran) (plan stack numbers : Bytes) (n : ℕ) → RanTo o r plan stack → remains n numbers ≡ remainingOf (drop (r .top) stack)
+pub ran-so : (o : Outcome) (r : RanMoves) (plan stack numbers : Bytes) (n : ℕ) → RanTo o r plan stack → remains n numbers ≡ remainingOf (drop (r .top) stack)
     → deliberatedWith (record { answer = Done; count = r .count; ending = r .ending; mind = r .mind; length = n }) plan numbers ≡ deliberated o
 ran-so o r plan stack numbers n t e =
     let q = e ∙ ap remainingOf (t .numbers) in
@@ -115,7 +115,7 @@ module _ (b p : Bytes) (c : Configuration) (budget : ℕ) where
           go false g = configuration-refused b p c (good-judged b l e .0) good-there (sym same ∙ g) ∙ sym (h ∙ ap (λ t. rowAnswer t Refusal.Configuration) g)
 
     -- what the moves answer is what the call answers
-    pub done-so : deliberateAnswer b p c ≡ Done → (x : Deliberated) → x ≡ deliberated (deliberate (agentFor l b) (conditions 𝐁 l b) (entries p) budget (whole p) (stateOf c))
+    pub done-so : deliberateAnswer b p c ≡ Done → (x : Deliberated) → x ≡ deliberated (deliberate (agentFor l b) (conditions 𝐁 l b) (entriesOf p) budget (whole p) (stateOf c))
         → x ≡ deliberates b p c budget
     unfolding agent
-    done-so f x g = g ∙ ap (λ (y : Layout). deliberated (deliberate (agentFor y b) (conditions 𝐁 y b) (entries p) budget (whole p) (stateOf c))) says ∙ sym (deliberates-done b p c budget f)
+    done-so f x g = g ∙ ap (λ (y : Layout). deliberated (deliberate (agentFor y b) (conditions 𝐁 y b) (entriesOf p) budget (whole p) (stateOf c))) says ∙ sym (deliberates-done b p c budget f)

@@ -17,20 +17,20 @@ use Rattle.meaning.specs.Card.{Bytes, conditions, agentFor}
 use Rattle.meaning.specs.Refusals.{containing}
 use Rattle.meaning.specs.Configurations.{stateOf, configurationOf}
 use Rattle.meaning.proofs.Configurations.{configuration-laws}
-use Rattle.layout.specs.PlaceParts.{lent}
-use Rattle.choices.specs.Ready.{Ready}
+use Rattle.layout.specs.PlaceParts.{configured}
+use Rattle.door.specs.Ready.{Ready}
 use Rattle.moves.proofs.Running.{ready-back, ready-after}
 use Rattle.deliberation.specs.declared.DeliberationEnding.{DeliberationEnding}
 use Rattle.deliberation.specs.MetaTransitions.{Label, idle, taking}
 use Rattle.deliberation.specs.FirstMove.{Move}
-use Rattle.deliberation.specs.Entries.{entryCount, entries}
-use Rattle.deliberation.specs.Deliberate.{Came, stuck, on, leads, came, Outcome, ended, oneMore, deliberate}
-use Rattle.deliberation.proofs.Room.{Stacked, move-within}
+use Rattle.deliberation.specs.Entries.{entryCount, entriesOf, moveAt}
+use Rattle.deliberation.specs.Deliberate.{MoveResult, stuck, on, leads, moveResult, Outcome, ended, oneMore, deliberate}
+use Rattle.deliberation.specs.Stacked.{Stacked}
+use Rattle.deliberation.proofs.Room.{move-within}
 use Rattle.deliberation.proofs.Run.{leads-nothing, leads-full, leads-to, run-stuck, run-full, run-on}
 use Rattle.program.specs.GoodProgram.{GoodProgram}
-use Rattle.deliberate.specs.declared.made.Made.{Made}
-use Rattle.deliberate.specs.declared.made.Moved.{Moved}
-use Rattle.deliberate.specs.First.{moveAt}
+use Rattle.deliberate.specs.declared.made.MoveMade.{MoveMade}
+use Rattle.deliberate.specs.declared.made.AfterMove.{AfterMove}
 use Rattle.deliberate.specs.Made.{configurationAfter, numbersAfter, Makes, MakesNext, Remains}
 use Rattle.deliberate.specs.Ran.{RanTo}
 use Rattle.deliberate.proofs.Next.{next-first}
@@ -66,7 +66,7 @@ counted n o = record { state = o .state; count = n + o .count; ending = o .endin
 module _ (l : Layout) (b p : Bytes) where
   -- from a budget, numbers and a state
   abbrev pub outcome : ℕ → List ℕ → State → Outcome
-  outcome n ns s = deliberate (agentFor l b) (conditions 𝐁 l b) (entries p) n ns s
+  outcome n ns s = deliberate (agentFor l b) (conditions 𝐁 l b) (entriesOf p) n ns s
 
   -- after `count` moves the deliberation goes on from a configuration and the numbers from top on
   pub record Deliberating (budget : ℕ) (all : Outcome) (c : Configuration) (stack : Bytes) (top count : ℕ) : Type 0 where
@@ -124,15 +124,15 @@ module _ (l : Layout) (b p : Bytes) where
           let n : drop top stack ≡ [] = (let w : length stack ≤ top = (let r = d .remains .room in omega arith) in drop-of-length-le stack w) in
           ends-here DeliberationEnding.Finished (ap₂ (λ m ns. outcome m ns (stateOf c)) one-less n ∙ ap (λ ns. ended DeliberationEnding.Finished ns (stateOf c)) (sym n))
 
-      module _ (h : top < 128) (x : Moved) (plan left : Bytes) (k : MakesNext l b p c stack top x plan left) where
+      module _ (h : top < 128) (x : AfterMove) (plan left : Bytes) (k : MakesNext l b p c stack top x plan left) where
         abbrev n : ℕ
         n = getD stack top 0
 
         abbrev ns : List ℕ
         ns = drop (top + 1) stack
 
-        abbrev comes : Came
-        comes = came (agentFor l b) (stateOf c) (moveAt l b p c n) ns
+        abbrev comes : MoveResult
+        comes = moveResult (agentFor l b) (stateOf c) (moveAt l b p (stateOf c .mental) n) ns
 
         first : drop top stack ≡ n ∷ ns
         first = next-first p stack top (d .remains) h
@@ -141,30 +141,30 @@ module _ (l : Layout) (b p : Bytes) where
         from-here : outcome (budget - count) (drop top stack) (stateOf c) ≡ outcome (suc (budget - (count + 1))) (n ∷ ns) (stateOf c)
         from-here = ap₂ (λ m rs. outcome m rs (stateOf c)) one-less first
 
-        made-so : (o : Came) → comes ≡ o → Makes l b c (drop top stack) o x plan left
+        made-so : (o : MoveResult) → comes ≡ o → Makes l b c (drop top stack) o x plan left
         made-so o e = subst (λ z. Makes l b c (drop top stack) z x plan left) e k
 
-        stopped : (e : DeliberationEnding) (o : Came) → comes ≡ o → numbersAfter o (drop top stack) ≡ drop top stack → configurationAfter o c ≡ c
-            → outcome (suc (budget - (count + 1))) (n ∷ ns) (stateOf c) ≡ ended e (n ∷ ns) (stateOf c) → Answered e (lent (x .mind) plan) (x .top) left
+        stopped : (e : DeliberationEnding) (o : MoveResult) → comes ≡ o → numbersAfter o (drop top stack) ≡ drop top stack → configurationAfter o c ≡ c
+            → outcome (suc (budget - (count + 1))) (n ∷ ns) (stateOf c) ≡ ended e (n ∷ ns) (stateOf c) → Answered e (configured (x .mind) plan) (x .top) left
         stopped e o q f g r =
             let m = made-so o q in
-            ends e (from-here ∙ r ∙ ap (λ rs. ended e rs (stateOf c)) (sym first)) (lent (x .mind) plan) (x .top) left (m .configuration ∙ g) (m .numbers ∙ f) (m .within) (m .room)
+            ends e (from-here ∙ r ∙ ap (λ rs. ended e rs (stateOf c)) (sym first)) (configured (x .mind) plan) (x .top) left (m .configuration ∙ g) (m .numbers ∙ f) (m .within) (m .room)
 
-        pub is-stuck : x .made ≡ Made.Stuck → Answered DeliberationEnding.Stuck (lent (x .mind) plan) (x .top) left
+        pub is-stuck : x .made ≡ MoveMade.Stuck → Answered DeliberationEnding.Stuck (configured (x .mind) plan) (x .top) left
         is-stuck e = by comes refl
           where
-            by : (o : Came) → comes ≡ o → Answered DeliberationEnding.Stuck (lent (x .mind) plan) (x .top) left
-            by stuck q = stopped DeliberationEnding.Stuck stuck q refl refl (run-stuck (agentFor l b) (conditions 𝐁 l b) (entries p) (budget - (count + 1)) n ns (stateOf c) q)
-            by Deliberate.too-long q = absurd (let u = sym (made-so _ q .told) ∙ e in let z : _≡_ {A = ℕ} 0 1 = cc in omega arith)
-            by (on ms t) q = absurd (let u = sym (made-so _ q .told) ∙ e in let z : _≡_ {A = ℕ} 0 1 = cc in omega arith)
+            by : (o : MoveResult) → comes ≡ o → Answered DeliberationEnding.Stuck (configured (x .mind) plan) (x .top) left
+            by stuck q = stopped DeliberationEnding.Stuck stuck q refl refl (run-stuck (agentFor l b) (conditions 𝐁 l b) (entriesOf p) (budget - (count + 1)) n ns (stateOf c) q)
+            by Deliberate.too-long q = absurd (let u = sym (made-so _ q .made) ∙ e in let z : _≡_ {A = ℕ} 0 1 = cc in omega arith)
+            by (on ms t) q = absurd (let u = sym (made-so _ q .made) ∙ e in let z : _≡_ {A = ℕ} 0 1 = cc in omega arith)
 
-        pub is-full : x .made ≡ Made.Full → Answered DeliberationEnding.Full (lent (x .mind) plan) (x .top) left
+        pub is-full : x .made ≡ MoveMade.Full → Answered DeliberationEnding.Full (configured (x .mind) plan) (x .top) left
         is-full e = by comes refl
           where
-            by : (o : Came) → comes ≡ o → Answered DeliberationEnding.Full (lent (x .mind) plan) (x .top) left
-            by stuck q = absurd (let u = sym (made-so _ q .told) ∙ e in let z : _≡_ {A = ℕ} 0 1 = cc in omega arith)
-            by Deliberate.too-long q = stopped DeliberationEnding.Full Deliberate.too-long q refl refl (run-full (agentFor l b) (conditions 𝐁 l b) (entries p) (budget - (count + 1)) n ns (stateOf c) q)
-            by (on ms t) q = absurd (let u = sym (made-so _ q .told) ∙ e in let z : _≡_ {A = ℕ} 0 1 = cc in omega arith)
+            by : (o : MoveResult) → comes ≡ o → Answered DeliberationEnding.Full (configured (x .mind) plan) (x .top) left
+            by stuck q = absurd (let u = sym (made-so _ q .made) ∙ e in let z : _≡_ {A = ℕ} 0 1 = cc in omega arith)
+            by Deliberate.too-long q = stopped DeliberationEnding.Full Deliberate.too-long q refl refl (run-full (agentFor l b) (conditions 𝐁 l b) (entriesOf p) (budget - (count + 1)) n ns (stateOf c) q)
+            by (on ms t) q = absurd (let u = sym (made-so _ q .made) ∙ e in let z : _≡_ {A = ℕ} 0 1 = cc in omega arith)
 
         ready-there : {t : State} → Led (agentFor l b) (stateOf c) t → Ready l b (configurationOf t) × (stateOf (configurationOf t) ≡ t)
         unfolding after
@@ -177,9 +177,9 @@ module _ (l : Layout) (b p : Bytes) where
             (ready-after l b (d .ready .card) t f g, configuration-laws .of-state t f)
 
         stacked-there : (g : GoodProgram l b p) (ms : List ℕ) (t : State) → comes ≡ on ms t → Stacked (entryCount p - 1) ms × Led (agentFor l b) (stateOf c) t
-        stacked-there g ms t = by (moveAt l b p c n) refl
+        stacked-there g ms t = by (moveAt l b p (stateOf c .mental) n) refl
           where
-            by : (o : Option (Move (List ℕ))) → moveAt l b p c n ≡ o → came (agentFor l b) (stateOf c) o ns ≡ on ms t → Stacked (entryCount p - 1) ms × Led (agentFor l b) (stateOf c) t
+            by : (o : Option (Move (List ℕ))) → moveAt l b p (stateOf c .mental) n ≡ o → moveResult (agentFor l b) (stateOf c) o ns ≡ on ms t → Stacked (entryCount p - 1) ms × Led (agentFor l b) (stateOf c) t
             by none q e = absurd (let z : _≡_ {A = ℕ} 0 1 = cc in omega arith)
             by (some m) q e =
                 let (f, w) = led (agentFor l b) (stateOf c) (m .label) (m .remaining ++ ns) ms t e in
@@ -189,12 +189,12 @@ module _ (l : Layout) (b p : Bytes) where
                   w,
                 )
 
-        pub is-on : GoodProgram l b p → x .made ≡ Made.On → Deliberating budget all (lent (x .mind) plan) left (x .top) (count + 1)
+        pub is-on : GoodProgram l b p → x .made ≡ MoveMade.On → Deliberating budget all (configured (x .mind) plan) left (x .top) (count + 1)
         is-on g e = by comes refl
           where
-            by : (o : Came) → comes ≡ o → Deliberating budget all (lent (x .mind) plan) left (x .top) (count + 1)
-            by stuck q = absurd (let u = sym (made-so _ q .told) ∙ e in let z : _≡_ {A = ℕ} 0 1 = cc in omega arith)
-            by Deliberate.too-long q = absurd (let u = sym (made-so _ q .told) ∙ e in let z : _≡_ {A = ℕ} 0 1 = cc in omega arith)
+            by : (o : MoveResult) → comes ≡ o → Deliberating budget all (configured (x .mind) plan) left (x .top) (count + 1)
+            by stuck q = absurd (let u = sym (made-so _ q .made) ∙ e in let z : _≡_ {A = ℕ} 0 1 = cc in omega arith)
+            by Deliberate.too-long q = absurd (let u = sym (made-so _ q .made) ∙ e in let z : _≡_ {A = ℕ} 0 1 = cc in omega arith)
             by (on ms t) q =
                 let m = made-so (on ms t) q in
                 let (w, v) = stacked-there g ms t q in
@@ -202,7 +202,7 @@ module _ (l : Layout) (b p : Bytes) where
                 let o = outcome (budget - (count + 1)) ms t in
                 let u : count + 1 + o .count ≡ count + suc (o .count) = omega arith in
                 let whole : counted count (oneMore o) ≡ all =
-                ap (counted count) (sym (from-here ∙ run-on (agentFor l b) (conditions 𝐁 l b) (entries p) (budget - (count + 1)) n ns (stateOf c) ms t q)) ∙ d .same in
+                ap (counted count) (sym (from-here ∙ run-on (agentFor l b) (conditions 𝐁 l b) (entriesOf p) (budget - (count + 1)) n ns (stateOf c) ms t q)) ∙ d .same in
                 record {
                   within = omega arith;
                   ready = subst (Ready l b) (sym (m .configuration)) r;

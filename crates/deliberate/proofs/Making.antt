@@ -3,7 +3,7 @@ use mathlib.Core.Path.{_≡_, refl, ap, ap₂, _∙_, sym, subst}
 use mathlib.Core.Bool.{Bool, true, false, not}
 use mathlib.Core.List.{List, [], _∷_}
 use mathlib.Core.Option.{Option, none, some}
-use Prim.Native.Nat.{ℕ, zero, suc, _+_, _-_, _≤_, _<_}
+use Prim.Native.Nat.{ℕ, _+_, _-_, _≤_, _<_}
 use native.Mathlib.Omega.{arith}
 use lib.Dec.{eqb}
 use lib.ListN.{length, drop, set, getD, length-set, length-drop}
@@ -14,7 +14,7 @@ use Rattle.paper.specs.Next.{isSome, enabled}
 use Rattle.paper.proofs.Relation.{none≢some, some-inj, false≢true}
 use Rattle.runs.specs.Order.{State, kind, number, first, ofKind}
 use Rattle.runs.specs.Step.{after, Reached, nothing, full, step}
-use Rattle.runs.proofs.Order.{first-yes, first-no}
+use Rattle.runs.proofs.Order.{kind-lt, first-yes, first-no}
 use Rattle.runs.proofs.Step.{StepsTo, none-there, too-long, taken, steps-to}
 use Rattle.meaning.specs.declared.Mind.{Mind}
 use Rattle.meaning.specs.declared.Layout.{Layout}
@@ -23,30 +23,34 @@ use Rattle.meaning.specs.declared.Configuration.{Configuration}
 use Rattle.meaning.specs.Card.{Bytes, condition, conditions, agentFor}
 use Rattle.meaning.specs.Refusals.{containing}
 use Rattle.meaning.specs.Configurations.{stateOf, configurationOf}
-use Rattle.layout.specs.PlaceParts.{lent}
-use Rattle.card.specs.GoodCard.{GoodCondition}
-use Rattle.choices.specs.declared.ask.Chosen.{Chosen}
+use Rattle.layout.specs.PlaceParts.{configured}
+use Rattle.door.specs.declared.asked.Chosen.{Chosen}
 use Rattle.choices.specs.Truth.{truths, Marked}
-use Rattle.choices.specs.Ready.{Ready, Judged}
-use Rattle.choices.specs.Asking.{choiceAt, chosen, firstOpen}
-use Rattle.choices.proofs.Asking.{open-enabled, open-is, marked, empty-exactly}
+use Rattle.door.specs.Ready.{Ready}
+use Rattle.choices.specs.Judged.{Judged}
+use Rattle.door.specs.Asking.{choiceAt, chosen}
+use Rattle.door.proofs.Asking.{asked-enabled, enabled-is, empty-exactly}
+use Rattle.choices.proofs.Marked.{marked}
 use Rattle.moves.specs.declared.step.Transition.{Transition}
 use Rattle.moves.specs.declared.step.Stepped.{Stepped}
-use Rattle.moves.specs.Steps.{Open, StepsBy, transitionOf}
-use Rattle.moves.proofs.Running.{choice-back, kind-below, ready-back, no-action-keeps}
+use Rattle.moves.specs.Steps.{Enabled, StepsBy, transitionOf}
+use Rattle.moves.proofs.Running.{choice-back, ready-back, no-action-keeps}
 use Rattle.deliberation.specs.Programs.{notEmptyPlan, holds, 𝒲}
 use Rattle.deliberation.specs.MetaTransitions.{taking}
-use Rattle.deliberation.specs.FirstMove.{Move, takes, lowestAction, ifEnabled, idles}
-use Rattle.deliberation.specs.Entries.{entryAt, entryCount, moveOf}
-use Rattle.deliberation.specs.Deliberate.{Came, stuck, on, leads, came}
+use Rattle.deliberation.specs.Kinds.{EntryKind, Execute, Apply, Select, WhilePlan, WhileBelief, Then, Or, entryKind}
+use Rattle.deliberation.specs.FirstMove.{Move, byChoice, lowestAction, ifEnabled, idles}
+use Rattle.deliberation.specs.Entries.{entryCount, moveOf, moveAt}
+use Rattle.deliberation.specs.Deliberate.{MoveResult, stuck, on, leads, moveResult}
+use Rattle.deliberation.specs.Theorems.{EntryLaws, while-belief}
+use Rattle.deliberation.proofs.Named.{Named, is-execute, is-apply, is-select, is-while-plan, is-while-belief, is-then, is-or, named, second-lower}
 use Rattle.deliberation.proofs.Good.{move-at}
 use Rattle.deliberation.proofs.Run.{leads-nothing, leads-full, leads-to}
-use Rattle.program.specs.GoodProgram.{GoodProgram}
-use Rattle.deliberate.specs.declared.made.Made.{Made}
-use Rattle.deliberate.specs.declared.made.Moved.{Moved}
-use Rattle.deliberate.specs.First.{moveAt}
-use Rattle.deliberate.specs.Descent.{Stack}
-use Rattle.deliberate.specs.Made.{madeOf, configurationAfter, numbersAfter, Makes, stayed, takenBy, movedBy, madeBy, knownAfter, holdsBy, again}
+use Rattle.program.specs.GoodProgram.{GoodEntry, GoodProgram}
+use Rattle.deliberate.specs.declared.made.MoveMade.{MoveMade}
+use Rattle.deliberate.specs.declared.made.AfterMove.{AfterMove}
+use Rattle.deliberate.specs.declared.descent.Leaf.{Leaf}
+use Rattle.deliberate.specs.Descent.{AtLeaf}
+use Rattle.deliberate.specs.Made.{madeOf, configurationAfter, numbersAfter, Makes, stayed, movedBy, madeBy, knownAfter, HoldsBy, by-plan, by-mark, again}
 use Rattle.deliberate.proofs.Descending.{pushed, stacked-room}
 use Rattle.moves.specs.Steps as Steps
 use Rattle.deliberation.specs.Deliberate as Deliberate
@@ -66,14 +70,14 @@ module _ (l : Layout) (b : Bytes) (c : Configuration) (k : Choice) (x : Stepped)
   ns = drop top stack
 
   -- what a transition that is not taken leaves is what there was
-  not-taken : (o : Reached) → step A s k ≡ o → Steps.configurationAfter o c ≡ c → (y : Came) → leads A s (taking k) ns ≡ y
+  not-taken : (o : Reached) → step A s k ≡ o → Steps.configurationAfter o c ≡ c → (y : MoveResult) → leads A s (taking k) ns ≡ y
       → madeBy (transitionOf o) ≡ madeOf y → configurationAfter y c ≡ c → numbersAfter y ns ≡ ns
       → Makes l b c ns (leads A s (taking k) ns) (movedBy (x .mind) (x .transition) top) p stack
   not-taken o e q y f m u v =
-      let same : lent (x .mind) p ≡ c = told .1 ∙ ap (λ z. Steps.configurationAfter z c) e ∙ q in
+      let same : configured (x .mind) p ≡ c = told .1 ∙ ap (λ z. Steps.configurationAfter z c) e ∙ q in
       subst (λ z. Makes l b c ns z (movedBy (x .mind) (x .transition) top) p stack) (sym f)
       (record {
-        told = ap madeBy (told .0 ∙ ap transitionOf e) ∙ m;
+        made = ap madeBy (told .0 ∙ ap transitionOf e) ∙ m;
         configuration = same ∙ sym u;
         numbers = sym v;
         within = within;
@@ -89,11 +93,11 @@ module _ (l : Layout) (b : Bytes) (c : Configuration) (k : Choice) (x : Stepped)
       go e (none-there h) = not-taken nothing e refl stuck (leads-nothing A s k ns e) refl refl refl
       go e (too-long d t h) = not-taken full e refl Deliberate.too-long (leads-full A s k ns e) refl refl refl
       go e (taken d t h) =
-          let at : lent (x .mind) p ≡ configurationOf (after s k d) = told .1 ∙ ap (λ z. Steps.configurationAfter z c) e in
+          let at : configured (x .mind) p ≡ configurationOf (after s k d) = told .1 ∙ ap (λ z. Steps.configurationAfter z c) e in
           let u : x .transition ≡ Transition.Taken (kind k) (number k) = told .0 ∙ ap transitionOf e in
           subst (λ z. Makes l b c ns z (movedBy (x .mind) (x .transition) top) p stack) (sym (leads-to A s k ns (after s k d) e))
           (record {
-            told = ap madeBy u;
+            made = ap madeBy u;
             configuration = at;
             numbers = refl;
             within = within;
@@ -106,9 +110,9 @@ module _ (l : Layout) (b : Bytes) (c : Configuration) (k : Choice) (x : Stepped)
           })
 
   -- the same of the choice that is taken
-  pub takes-choice : (o : Option Choice) → o ≡ some k → (r : Moved) → r ≡ movedBy (x .mind) (x .transition) top
-      → Makes l b c ns (came A s (takes o []) ns) r p stack
-  takes-choice o e r f = subst (λ y. Makes l b c ns (came A s (takes y []) ns) r p stack) (sym e) (subst (λ y. Makes l b c ns (leads A s (taking k) ns) y p stack) (sym f) takes-so)
+  pub takes-choice : (o : Option Choice) → o ≡ some k → (r : AfterMove) → r ≡ movedBy (x .mind) (x .transition) top
+      → Makes l b c ns (moveResult A s (byChoice o []) ns) r p stack
+  takes-choice o e r f = subst (λ y. Makes l b c ns (moveResult A s (byChoice y []) ns) r p stack) (sym e) (subst (λ y. Makes l b c ns (leads A s (taking k) ns) y p stack) (sym f) takes-so)
 
 -- ---- which choice is taken
 
@@ -120,69 +124,63 @@ first-passes t (y ∷ ys) x e = go (t y) refl (first-passes t ys x)
     go true h ih = ap t (sym (some-inj (sym (first-yes t y ys h) ∙ e))) ∙ h
     go false h ih = ih (sym (first-no t y ys h) ∙ e)
 
+module _ (A : Agent) (s : Config) where
+  if-enabled : (k k′ : Choice) → ifEnabled A s k ≡ some k′ → enabled A s k′ ≡ true
+  unfolding ifEnabled
+  if-enabled k k′ e = go (enabled A s k) refl
+    where
+      go : (t : Bool) → enabled A s k ≡ t → enabled A s k′ ≡ true
+      go true h = let q : ifEnabled A s k ≡ some k = rw (h, ifEnabled) in ap (enabled A s) (some-inj (sym e ∙ q)) ∙ h
+      go false h = let q : ifEnabled A s k ≡ none = rw (h, ifEnabled) in absurd (none≢some (sym q ∙ e))
+
+  -- a rule that is named is taken, where it is enabled
+  pub named-some : (k : Choice) → isSome (ifEnabled A s k) ≡ true → chosen (ifEnabled A s k) ≡ chosen (some k)
+  unfolding ifEnabled
+  named-some k e = go (enabled A s k) refl
+    where
+      go : (t : Bool) → enabled A s k ≡ t → chosen (ifEnabled A s k) ≡ chosen (some k)
+      go true h = rw (h, ifEnabled)
+      go false h = let q : ifEnabled A s k ≡ none = rw (h, ifEnabled) in absurd (false≢true (sym (ap isSome q) ∙ e))
+
+  taken-enabled : (κ : EntryKind) (a : ℕ) (k : Choice) → Made-specs.taken A s κ a ≡ some k → enabled A s k ≡ true
+  unfolding lowestAction
+  taken-enabled Execute a k e = first-passes (enabled A s) (ofKind A 1) k e
+  taken-enabled Apply a k e = if-enabled (Choice.revise a) k e
+  taken-enabled Select a k e = if-enabled (Choice.select a) k e
+  taken-enabled WhilePlan a k e = absurd (none≢some e)
+  taken-enabled WhileBelief a k e = absurd (none≢some e)
+  taken-enabled Then a k e = absurd (none≢some e)
+  taken-enabled Or a k e = absurd (none≢some e)
+
 module _ (l : Layout) (b : Bytes) (c : Configuration) where
   -- a choice of a kind and a number that is open, and is taken
   abbrev pub Takes : Option Choice → ℕ → ℕ → Type 0
-  Takes o n i = (n < 3) × Open l b c (choiceAt n i) × (o ≡ some (choiceAt n i))
+  Takes o n i = (n < 3) × Enabled l b c (choiceAt n i) × (o ≡ some (choiceAt n i))
 
-  opens : (k : Choice) → enabled (agentFor l b) (stateOf c .mental) k ≡ true → Open l b c k
-  opens k e = open-is _ (open-enabled (agentFor l b) (stateOf c .mental) k ∙ e)
+  enables : (k : Choice) → enabled (agentFor l b) (stateOf c .mental) k ≡ true → Enabled l b c k
+  enables k e = enabled-is _ (asked-enabled (agentFor l b) (stateOf c .mental) k ∙ e)
 
-  named : (k : Choice) → isSome (ifEnabled (agentFor l b) (stateOf c .mental) k) ≡ true
-      → Open l b c k × (ifEnabled (agentFor l b) (stateOf c .mental) k ≡ some k)
-  unfolding ifEnabled
-  named k e = go (enabled (agentFor l b) (stateOf c .mental) k) refl
+  pub takes-at : (κ : EntryKind) (a n i : ℕ) → chosen (Made-specs.taken (agentFor l b) (stateOf c .mental) κ a) ≡ Chosen.At n i
+      → Takes (Made-specs.taken (agentFor l b) (stateOf c .mental) κ a) n i
+  takes-at κ a n i = go (Made-specs.taken (agentFor l b) (stateOf c .mental) κ a) refl
     where
-      go : (t : Bool) → enabled (agentFor l b) (stateOf c .mental) k ≡ t → Open l b c k × (ifEnabled (agentFor l b) (stateOf c .mental) k ≡ some k)
-      go true h = (opens k h, rw (h, ifEnabled))
-      go false h =
-          let n : ifEnabled (agentFor l b) (stateOf c .mental) k ≡ none = rw (h, ifEnabled) in
-          absurd (false≢true (sym (ap isSome n) ∙ e))
-
-  lowest : (n i : ℕ) → chosen (lowestAction (agentFor l b) (stateOf c .mental)) ≡ Chosen.At n i → Takes (lowestAction (agentFor l b) (stateOf c .mental)) n i
-  unfolding lowestAction
-  lowest n i = go (lowestAction (agentFor l b) (stateOf c .mental)) refl
-    where
-      go : (o : Option Choice) → lowestAction (agentFor l b) (stateOf c .mental) ≡ o → chosen o ≡ Chosen.At n i → Takes (lowestAction (agentFor l b) (stateOf c .mental)) n i
+      go : (o : Option Choice) → Made-specs.taken (agentFor l b) (stateOf c .mental) κ a ≡ o → chosen o ≡ Chosen.At n i
+          → Takes (Made-specs.taken (agentFor l b) (stateOf c .mental) κ a) n i
       go none e f = absurd (let z : _≡_ {A = ℕ} 0 1 = cc in omega arith)
       go (some k) e f =
           let q = choice-back k n i f in
-          let a : kind k ≡ n = cc in
-          let t = first-passes (enabled (agentFor l b) (stateOf c .mental)) (ofKind (agentFor l b) 1) k e in
-          (subst (λ x. x < 3) a (kind-below k), subst (Open l b c) (sym q) (opens k t), e ∙ ap some (sym q))
+          let m : kind k ≡ n = cc in
+          let t = taken-enabled (agentFor l b) (stateOf c .mental) κ a k e in
+          (subst (λ x. x < 3) m (kind-lt k), subst (Enabled l b c) (sym q) (enables k t), e ∙ ap some (sym q))
 
-  pub takes-at : (k a n i : ℕ) (action : Chosen) → k < 3 → action ≡ firstOpen l b c 1
-      → isSome (Made-specs.taken (agentFor l b) (stateOf c .mental) k a) ≡ true → takenBy k a action ≡ Chosen.At n i
-      → Takes (Made-specs.taken (agentFor l b) (stateOf c .mental) k a) n i
-  unfolding lowestAction
-  takes-at zero a n i action h e t f = lowest n i (sym e ∙ f)
-  takes-at (suc zero) a n i action h e t f =
-      let x : 2 ≡ n = cc in
-      let y : a ≡ i = cc in
-      let (o, q) = named (Choice.revise a) t in
-      rw (← x, ← y) (omega arith, o, q)
-  takes-at (suc (suc zero)) a n i action h e t f =
-      let x : 0 ≡ n = cc in
-      let y : a ≡ i = cc in
-      let (o, q) = named (Choice.select a) t in
-      rw (← x, ← y) (omega arith, o, q)
-  takes-at (suc (suc (suc k))) a n i action h e t f = absurd (omega arith)
-
-  pub takes-none : (k a : ℕ) (action : Chosen) → action ≡ firstOpen l b c 1
-      → isSome (Made-specs.taken (agentFor l b) (stateOf c .mental) k a) ≡ true → takenBy k a action ≡ Chosen.Nothing → ⊥
-  unfolding lowestAction
-  takes-none zero a action e t f = go (lowestAction (agentFor l b) (stateOf c .mental)) refl (sym e ∙ f)
-    where
-      go : (o : Option Choice) → lowestAction (agentFor l b) (stateOf c .mental) ≡ o → chosen o ≡ Chosen.Nothing → ⊥
-      go none q g = false≢true (sym (ap isSome q) ∙ t)
-      go (some k) q g = let z : _≡_ {A = ℕ} 0 1 = cc in omega arith
-  takes-none (suc zero) a action e t f = let z : _≡_ {A = ℕ} 0 1 = cc in omega arith
-  takes-none (suc (suc k)) a action e t f = let z : _≡_ {A = ℕ} 0 1 = cc in omega arith
+pub taken-at-all : (o : Option Choice) → isSome o ≡ true → chosen o ≡ Chosen.Nothing → ⊥
+taken-at-all none e f = false≢true e
+taken-at-all (some k) e f = let z : _≡_ {A = ℕ} 0 1 = cc in omega arith
 
 -- ---- an idle move
 
-pub stayed-top : (r : Moved) (m : Mind) (x : Made) (top : ℕ) → r ≡ stayed m x top → (r .top ≡ top) × (r ≡ stayed m x (r .top))
-stayed-top r m x top e = let f = ap (λ (y : Moved). y .top) e in (f, e ∙ ap (stayed m x) (sym f))
+pub stayed-top : (r : AfterMove) (m : Mind) (x : MoveMade) (top : ℕ) → r ≡ stayed m x top → (r .top ≡ top) × (r ≡ stayed m x (r .top))
+stayed-top r m x top e = let f = ap (λ (y : AfterMove). y .top) e in (f, e ∙ ap (stayed m x) (sym f))
 
 pub pushed-twice : (stack : List ℕ) (top i b : ℕ) → 2 ≤ top → top ≤ length stack
     → drop (top - 2) (set (set stack (top - 1) i) (top - 2) b) ≡ b ∷ i ∷ drop top stack
@@ -194,14 +192,17 @@ pushed-twice stack top i b h k =
     ∙ ap (λ j. b ∷ drop j (set stack (top - 1) i)) e
     ∙ ap (λ ns. b ∷ ns) (pushed stack (top - 1) i (omega arith) ∙ ap (λ j. i ∷ drop j stack) f)
 
+belief-condition : {n m : ℕ} {C : ℕ → Type 0} {i a b : ℕ} → EntryLaws n m C i a b WhileBelief → C a
+belief-condition (while-belief h k) = h
+
 module _ (l : Layout) (b : Bytes) (c : Configuration) where
-  pub idles-so : Ready l b c → (ns ns′ : List ℕ) (r : Moved) (stack : Bytes) → r ≡ stayed (c .mind) Made.On (r .top)
+  pub idles-so : Ready l b c → (ns ns′ : List ℕ) (r : AfterMove) (stack : Bytes) → r ≡ stayed (c .mind) MoveMade.On (r .top)
       → drop (r .top) stack ≡ ns′ → r .top ≤ 128 → length stack ≡ 128 → Makes l b c ns (on ns′ (stateOf c)) r (c .plan) stack
   idles-so ready ns ns′ r stack e f h s =
-      let m : r .mind ≡ c .mind = ap (λ (y : Moved). y .mind) e in
+      let m : r .mind ≡ c .mind = ap (λ (y : AfterMove). y .mind) e in
       record {
-        told = ap (λ (y : Moved). y .made) e;
-        configuration = ap (λ y. lent y (c .plan)) m ∙ sym (ready-back l b c ready);
+        made = ap (λ (y : AfterMove). y .made) e;
+        configuration = ap (λ y. configured y (c .plan)) m ∙ sym (ready-back l b c ready);
         numbers = f;
         within = h;
         room = s;
@@ -213,65 +214,73 @@ module _ (l : Layout) (b : Bytes) (c : Configuration) where
     abbrev A′ : Agent
     A′ = agentFor l b
 
-    idle-on : (t u : Bool) (i body : ℕ) (ns : List ℕ) → t ≡ u → came A′ (stateOf c) (idles t (body ∷ i ∷ []) []) ns ≡ on (again u body i ns) (stateOf c)
+    idle-on : (t u : Bool) (i body : ℕ) (ns : List ℕ) → t ≡ u → moveResult A′ (stateOf c) (idles t (body ∷ i ∷ []) []) ns ≡ on (again u body i ns) (stateOf c)
     unfolding leads
     idle-on true true i body ns e = refl
     idle-on true false i body ns e = absurd (false≢true (sym e))
     idle-on false true i body ns e = absurd (false≢true e)
     idle-on false false i body ns e = refl
 
-    pub while-on : (i k a body : ℕ) (q : ℕ → Option (Move (List ℕ))) (ns : List ℕ) → (k ≡ 4 → GoodCondition l b 2 a) → 3 ≤ k → k ≤ 4
-        → came A′ (stateOf c) (moveOf A′ (conditions 𝐁 l b) (stateOf c .mental) i k a body q) ns
-        ≡ on (again (holdsBy k (c .mind .length) (getD marks a false)) body i ns) (stateOf c)
+    pub while-on : (i : ℕ) (e : Node) (q : ℕ → Option (Move (List ℕ))) (ns : List ℕ) (t : Bool) → GoodEntry l b i e → HoldsBy e (c .mind .length) (getD marks (e .a) false) t
+        → moveResult A′ (stateOf c) (moveOf A′ (conditions 𝐁 l b) (stateOf c .mental) i (entryKind (e .kind)) (e .a) (e .b) q) ns ≡ on (again t (e .b) i ns) (stateOf c)
     unfolding 𝒲 stateOf
-    while-on i zero a body q ns g h m = absurd (omega arith)
-    while-on i (suc zero) a body q ns g h m = absurd (omega arith)
-    while-on i (suc (suc zero)) a body q ns g h m = absurd (omega arith)
-    while-on i (suc (suc (suc zero))) a body q ns g h m =
-        let e = empty-exactly (c .plan) (c .mind .length) (let x = j .ready .fits in let y = j .ready .room in omega arith) in
-        idle-on (𝒲 notEmptyPlan (stateOf c .mental)) (not (eqb (c .mind .length) 0)) i body ns (ap not e)
-    while-on i (suc (suc (suc (suc zero)))) a body q ns g h m =
-        idle-on (𝒲 (holds (condition (conditions 𝐁 l b) a)) (stateOf c .mental)) (getD marks a false) i body ns (sym (marked l b c marks j i 𝐁 a (g refl)))
-    while-on i (suc (suc (suc (suc (suc k))))) a body q ns g h m = absurd (omega arith)
+    while-on i e q ns t g (by-plan h) =
+        let k = empty-exactly (c .plan) (c .mind .length) (let x = j .ready .fits in let y = j .ready .room in omega arith) in
+        rw h (idle-on (𝒲 notEmptyPlan (stateOf c .mental)) (not (eqb (c .mind .length) 0)) i (e .b) ns (ap not k))
+    while-on i e q ns t g (by-mark h) =
+        rw h (idle-on (𝒲 (holds (condition (conditions 𝐁 l b) (e .a))) (stateOf c .mental)) (getD marks (e .a) false) i (e .b) ns
+        (sym (marked l b c marks j i 𝐁 (e .a) (belief-condition (subst (EntryLaws _ _ _ _ _ _) h (g .names))))))
 
 -- ---- an entry without parts
 
-pub leaf-takes : (A : Agent) (βs : List (Query 𝐁)) (s : Config) (i k a b : ℕ) (q : ℕ → Option (Move (List ℕ))) → k < 3
-    → moveOf A βs s i k a b q ≡ takes (Made-specs.taken A s k a) []
-leaf-takes A βs s i zero a b q h = refl
-leaf-takes A βs s i (suc zero) a b q h = refl
-leaf-takes A βs s i (suc (suc zero)) a b q h = refl
-leaf-takes A βs s i (suc (suc (suc k))) a b q h = absurd (omega arith)
+leaf-takes : {k : ℕ} {κ : EntryKind} (A : Agent) (βs : List (Query 𝐁)) (s : Config) (i a b : ℕ) (q : ℕ → Option (Move (List ℕ))) → Named k κ → k < 3
+    → moveOf A βs s i κ a b q ≡ byChoice (Made-specs.taken A s κ a) []
+leaf-takes A βs s i a b q is-execute h = refl
+leaf-takes A βs s i a b q is-apply h = refl
+leaf-takes A βs s i a b q is-select h = refl
+leaf-takes A βs s i a b q is-while-plan h = absurd (omega arith)
+leaf-takes A βs s i a b q is-while-belief h = absurd (omega arith)
+leaf-takes A βs s i a b q is-then h = absurd (omega arith)
+leaf-takes A βs s i a b q is-or h = absurd (omega arith)
 
-module _ (l : Layout) (b p : Bytes) (c : Configuration) (good : GoodProgram l b p) (stack : Bytes) (at top : ℕ) (s : Stack p stack at top) where
-  pub leaf-known : at < entryCount p
-  leaf-known = let h = stacked-room (s .stacked) in let k = good .some in omega arith
-
+module _ (l : Layout) (b p : Bytes) (c : Configuration) (good : GoodProgram l b p) (stack : Bytes) (leaf : Leaf) (a : AtLeaf p stack leaf) where
   abbrev x : Node
-  x = entryAt p at
+  x = leaf .entry
 
-  at-leaf : moveAt l b p c at ≡ moveOf (agentFor l b) (conditions 𝐁 l b) (stateOf c .mental) at (x .kind) (x .a) (x .b) (moveAt l b p c)
-  at-leaf = move-at (containing 2 l b) l p (good .good) at leaf-known (agentFor l b) (conditions 𝐁 l b) (stateOf c .mental)
+  abbrev ns′ : List ℕ
+  ns′ = drop (leaf .top) stack
+
+  leaf-known : leaf .at < entryCount p
+  leaf-known = let h = stacked-room (a .stacked .stacked) in let k = good .some in omega arith
+
+  leaf-good : GoodEntry l b (leaf .at) x
+  leaf-good = subst (GoodEntry l b (leaf .at)) (sym (a .entry)) (good .entries (leaf .at) leaf-known)
+
+  at-leaf : moveAt l b p (stateOf c .mental) (leaf .at)
+      ≡ moveOf (agentFor l b) (conditions 𝐁 l b) (stateOf c .mental) (leaf .at) (entryKind (x .kind)) (x .a) (x .b) (moveAt l b p (stateOf c .mental))
+  at-leaf =
+      move-at (containing 2 l b) l p (good .good) (leaf .at) leaf-known (agentFor l b) (conditions 𝐁 l b) (stateOf c .mental)
+      ∙ ap (λ (y : Node). moveOf (agentFor l b) (conditions 𝐁 l b) (stateOf c .mental) (leaf .at) (entryKind (y .kind)) (y .a) (y .b) (moveAt l b p (stateOf c .mental))) (sym (a .entry))
 
   -- there is room for a while's body and itself
-  pub two-more : 3 ≤ x .kind → (at < 128) × (2 ≤ top)
+  pub two-more : 3 ≤ x .kind → (leaf .at < 128) × (2 ≤ leaf .top)
   two-more k =
-      let low = good .entries at leaf-known .second k in
+      let low = second-lower (named (x .kind) (leaf-good .kinds)) k (leaf-good .names) in
       let most = good .most in
-      let h = stacked-room (s .stacked) in
-      let r = s .room in
-      let w = s .within in
-      let n = length-drop top stack in
+      let h = stacked-room (a .stacked .stacked) in
+      let r = a .stacked .room in
+      let w = a .stacked .within in
+      let n = length-drop (leaf .top) stack in
       (omega arith, omega arith)
 
-  pub leaf-idles : (marks : List Bool) → Judged l b c marks → 3 ≤ x .kind → x .kind ≤ 4 → (r : Moved) (stack′ : Bytes)
-      → r ≡ stayed (c .mind) Made.On (r .top) → r .top ≤ 128 → length stack′ ≡ 128
-      → drop (r .top) stack′ ≡ again (holdsBy (x .kind) (c .mind .length) (getD marks (x .a) false)) (x .b) at (drop top stack)
-      → Makes l b c (drop top stack) (came (agentFor l b) (stateOf c) (moveAt l b p c at) (drop top stack)) r (c .plan) stack′
-  leaf-idles marks j h k r stack′ e w t f =
-      let g = while-on l b c marks j at (x .kind) (x .a) (x .b) (moveAt l b p c) (drop top stack) (good .entries at leaf-known .condition) h k in
-      subst (λ o. Makes l b c (drop top stack) o r (c .plan) stack′) (sym (ap (λ o. came (agentFor l b) (stateOf c) o (drop top stack)) at-leaf ∙ g))
-      (idles-so l b c (j .ready) (drop top stack) _ r stack′ e f w t)
+  pub leaf-idles : (marks : List Bool) → Judged l b c marks → (r : AfterMove) (stack′ : Bytes) → r ≡ stayed (c .mind) MoveMade.On (r .top) → r .top ≤ 128
+      → length stack′ ≡ 128 → (t : Bool) → HoldsBy x (c .mind .length) (getD marks (x .a) false) t → drop (r .top) stack′ ≡ again t (x .b) (leaf .at) ns′
+      → Makes l b c ns′ (moveResult (agentFor l b) (stateOf c) (moveAt l b p (stateOf c .mental) (leaf .at)) ns′) r (c .plan) stack′
+  leaf-idles marks j r stack′ e w n t k f =
+      let g = while-on l b c marks j (leaf .at) x (moveAt l b p (stateOf c .mental)) ns′ t leaf-good k in
+      subst (λ o. Makes l b c ns′ o r (c .plan) stack′) (sym (ap (λ o. moveResult (agentFor l b) (stateOf c) o ns′) at-leaf ∙ g))
+      (idles-so l b c (j .ready) ns′ _ r stack′ e f w n)
 
-  pub leaf-choice : x .kind < 3 → moveAt l b p c at ≡ takes (Made-specs.taken (agentFor l b) (stateOf c .mental) (x .kind) (x .a)) []
-  leaf-choice h = at-leaf ∙ leaf-takes (agentFor l b) (conditions 𝐁 l b) (stateOf c .mental) at (x .kind) (x .a) (x .b) (moveAt l b p c) h
+  pub leaf-choice : x .kind < 3 → moveAt l b p (stateOf c .mental) (leaf .at) ≡ byChoice (Made-specs.taken (agentFor l b) (stateOf c .mental) (entryKind (x .kind)) (x .a)) []
+  leaf-choice h =
+      at-leaf ∙ leaf-takes (agentFor l b) (conditions 𝐁 l b) (stateOf c .mental) (leaf .at) (x .a) (x .b) (moveAt l b p (stateOf c .mental)) (named (x .kind) (leaf-good .kinds)) h

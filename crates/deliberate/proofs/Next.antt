@@ -16,13 +16,12 @@ use Rattle.meaning.specs.Card.{Bytes, agentFor}
 use Rattle.meaning.specs.Configurations.{stateOf}
 use Rattle.choices.specs.Truth.{Marked}
 use Rattle.deliberation.specs.FirstMove.{Move}
-use Rattle.deliberation.specs.Entries.{entryCount}
-use Rattle.deliberation.specs.Deliberate.{Came, stuck, too-long, on, came}
-use Rattle.deliberation.proofs.Room.{Stacked}
+use Rattle.deliberation.specs.Entries.{entryCount, moveAt}
+use Rattle.deliberation.specs.Deliberate.{MoveResult, stuck, too-long, on, moveResult}
+use Rattle.deliberation.specs.Stacked.{Stacked}
 use Rattle.program.specs.GoodProgram.{GoodProgram}
-use Rattle.deliberate.specs.declared.made.Made.{Made}
-use Rattle.deliberate.specs.declared.made.Moved.{Moved}
-use Rattle.deliberate.specs.First.{moveAt}
+use Rattle.deliberate.specs.declared.made.MoveMade.{MoveMade}
+use Rattle.deliberate.specs.declared.made.AfterMove.{AfterMove}
 use Rattle.deliberate.specs.Descent.{Stack}
 use Rattle.deliberate.specs.Made.{madeOf, configurationAfter, numbersAfter, Makes, MakesNext, Remains, stayed, keptAs, keptIn}
 use Rattle.deliberate.proofs.Descending.{pushed, later-kept, stacked-room}
@@ -47,8 +46,8 @@ module _ (l : Layout) (b p : Bytes) (c : Configuration) (stack : Bytes) (top : �
 
   -- the stack and the top after a descent, the move that is made then, and what it leaves
   module _ (down : Bytes) (rest : ℕ) (room : length down ≡ 128) (rising : rest ≤ top + 1) (behind : drop (top + 1) down ≡ drop (top + 1) stack)
-      (x : Moved) (plan left : Bytes) where
-    not-made : (m : Made) (o : Came) → Makes l b c (drop rest down) o x plan left → m ≡ madeOf o → numbersAfter o (drop rest down) ≡ drop rest down
+      (x : AfterMove) (plan left : Bytes) where
+    not-made : (m : MoveMade) (o : MoveResult) → Makes l b c (drop rest down) o x plan left → m ≡ madeOf o → numbersAfter o (drop rest down) ≡ drop rest down
         → numbersAfter o (drop top stack) ≡ drop top stack → configurationAfter o c ≡ c → Makes l b c (drop top stack) o (stayed (x .mind) m top) plan (set left top next)
     not-made m o k e f g u =
         let s = k .room in
@@ -58,7 +57,7 @@ module _ (l : Layout) (b p : Bytes) (c : Configuration) (stack : Bytes) (top : �
         let q : drop rest left ≡ drop rest down = ap (λ n. drop n left) (sym t) ∙ k .numbers ∙ f in
         let z = later-kept rest (top + 1) left down rising q ∙ behind in
         record {
-          told = e;
+          made = e;
           configuration = k .configuration;
           numbers = pushed left top next (omega arith) ∙ ap (λ ns. next ∷ ns) z ∙ sym (next-first p stack top r h) ∙ sym g;
           within = omega arith;
@@ -66,28 +65,28 @@ module _ (l : Layout) (b p : Bytes) (c : Configuration) (stack : Bytes) (top : �
           keeps = λ _ marks v. subst (λ (y : Configuration). Marked l b (y .mind) marks) (sym (k .configuration ∙ u)) v;
         }
 
-    by-made : (o : Came) → Makes l b c (drop rest down) o x plan left
+    by-made : (o : MoveResult) → Makes l b c (drop rest down) o x plan left
         → Makes l b c (drop top stack) o (keptAs (x .made) x top) plan (keptIn (x .made) left top next)
-    by-made stuck k = subst (λ m. Makes l b c (drop top stack) stuck (keptAs m x top) plan (keptIn m left top next)) (sym (k .told)) (not-made Made.Stuck stuck k refl refl refl refl)
-    by-made too-long k = subst (λ m. Makes l b c (drop top stack) too-long (keptAs m x top) plan (keptIn m left top next)) (sym (k .told)) (not-made Made.Full too-long k refl refl refl refl)
+    by-made stuck k = subst (λ m. Makes l b c (drop top stack) stuck (keptAs m x top) plan (keptIn m left top next)) (sym (k .made)) (not-made MoveMade.Stuck stuck k refl refl refl refl)
+    by-made too-long k = subst (λ m. Makes l b c (drop top stack) too-long (keptAs m x top) plan (keptIn m left top next)) (sym (k .made)) (not-made MoveMade.Full too-long k refl refl refl refl)
     by-made (on ns s) k =
-        subst (λ m. Makes l b c (drop top stack) (on ns s) (keptAs m x top) plan (keptIn m left top next)) (sym (k .told))
-        (record { told = k .told; configuration = k .configuration; numbers = k .numbers; within = k .within; room = k .room; keeps = k .keeps })
+        subst (λ m. Makes l b c (drop top stack) (on ns s) (keptAs m x top) plan (keptIn m left top next)) (sym (k .made))
+        (record { made = k .made; configuration = k .configuration; numbers = k .numbers; within = k .within; room = k .room; keeps = k .keeps })
 
-    pub kept-so : (o : Came) → Makes l b c (drop rest down) o x plan left → (y : Moved) (end : Bytes) → y ≡ keptAs (x .made) x top
+    pub kept-so : (o : MoveResult) → Makes l b c (drop rest down) o x plan left → (y : AfterMove) (end : Bytes) → y ≡ keptAs (x .made) x top
         → end ≡ keptIn (x .made) left top next → Makes l b c (drop top stack) o y plan end
     kept-so o k y end e f = subst (λ z. Makes l b c (drop top stack) o z plan end) (sym e) (subst (λ z. Makes l b c (drop top stack) o (keptAs (x .made) x top) plan z) (sym f) (by-made o k))
 
 -- a number that has no first move is stuck, and all stays as it was
 module _ (l : Layout) (b p : Bytes) (c : Configuration) (stack : Bytes) (top : ℕ) (r : Remains p stack top) where
-  came-none : (o : Option (Move (List ℕ))) (ns : List ℕ) → isSome o ≡ false → came (agentFor l b) (stateOf c) o ns ≡ stuck
+  came-none : (o : Option (Move (List ℕ))) (ns : List ℕ) → isSome o ≡ false → moveResult (agentFor l b) (stateOf c) o ns ≡ stuck
   came-none none ns e = refl
   came-none (some m) ns e = absurd (false≢true (sym e))
 
-  pub stuck-so : isSome (moveAt l b p c (getD stack top 0)) ≡ false → (y : Moved) → y ≡ stayed (c .mind) Made.Stuck top
+  pub stuck-so : isSome (moveAt l b p (stateOf c .mental) (getD stack top 0)) ≡ false → (y : AfterMove) → y ≡ stayed (c .mind) MoveMade.Stuck top
       → MakesNext l b p c stack top y (c .plan) stack
   stuck-so e y f =
-      let o = came-none (moveAt l b p c (getD stack top 0)) (drop (top + 1) stack) e in
+      let o = came-none (moveAt l b p (stateOf c .mental) (getD stack top 0)) (drop (top + 1) stack) e in
       subst (λ z. Makes l b c (drop top stack) z y (c .plan) stack) (sym o)
       (subst (λ z. Makes l b c (drop top stack) stuck z (c .plan) stack) (sym f)
-      (record { told = refl; configuration = refl; numbers = refl; within = r .within; room = r .room; keeps = λ _ marks v. v }))
+      (record { made = refl; configuration = refl; numbers = refl; within = r .within; room = r .room; keeps = λ _ marks v. v }))

@@ -1,13 +1,17 @@
 -- From an entry down to the one whose move is made, and the numbers that remain behind it.
 use mathlib.Core.Path.{_≡_}
-use mathlib.Core.Bool.{Bool, false}
+use mathlib.Core.Bool.{Bool}
 use mathlib.Core.List.{List, _∷_}
-use Prim.Native.Nat.{ℕ, zero, suc, _-_, _≤_, _<_}
-use lib.ListN.{length, drop, getD}
+use Prim.Native.Nat.{ℕ, _-_, _≤_, _<_}
+use lib.ListN.{length, drop}
+use Rattle.paper.specs.Atoms.{Atoms, _∈_}
+use Rattle.paper.specs.Next.{if}
+use Rattle.meaning.specs.declared.Node.{Node}
 use Rattle.meaning.specs.Card.{Bytes}
-use Rattle.meaning.specs.Why.{leftIf}
-use Rattle.deliberation.specs.Entries.{entryAt, entryCount}
-use Rattle.deliberation.proofs.Room.{Stacked}
+use Rattle.deliberation.specs.Kinds.{Then, Or, entryKind}
+use Rattle.deliberation.specs.Entries.{entryOf, entryCount}
+use Rattle.deliberation.specs.Stacked.{Stacked}
+use Rattle.deliberate.specs.declared.descent.Leaf.{Leaf}
 
 -- 128 bytes of which those from top on are the numbers behind an entry: they and the entry are stacked
 pub record Stack (p stack : Bytes) (n top : ℕ) : Type 0 where
@@ -15,29 +19,20 @@ pub record Stack (p stack : Bytes) (n top : ℕ) : Type 0 where
   pub within : top ≤ 128
   pub stacked : Stacked (entryCount p - 1) (n ∷ drop top stack)
 
--- the part of a sequence or a choice in which the first move is made, by whether the left has one
-abbrev pub partOf : ℕ → ℕ → ℕ → Bool → ℕ
-partOf zero a b left = a
-partOf (suc zero) a b left = a
-partOf (suc (suc zero)) a b left = a
-partOf (suc (suc (suc zero))) a b left = a
-partOf (suc (suc (suc (suc zero)))) a b left = a
-partOf (suc (suc (suc (suc (suc zero))))) a b left = a
-partOf (suc (suc (suc (suc (suc (suc k)))))) a b left = leftIf left a b
-
--- what then stands behind it: of a sequence its right before the numbers
-abbrev pub behind : ℕ → ℕ → List ℕ → List ℕ
-behind zero b ns = ns
-behind (suc zero) b ns = ns
-behind (suc (suc zero)) b ns = ns
-behind (suc (suc (suc zero))) b ns = ns
-behind (suc (suc (suc (suc zero)))) b ns = ns
-behind (suc (suc (suc (suc (suc zero))))) b ns = b ∷ ns
-behind (suc (suc (suc (suc (suc (suc k)))))) b ns = ns
+-- from an entry, with ns behind it, to the part in which its first move is made, by whether the left has one, and what then stands
+-- behind: of a sequence its right before the numbers
+pub data Into (e : Node) (left : Bool) (ns : List ℕ) : ℕ → List ℕ → Type 0 where
+  first-of : entryKind (e .kind) ≡ Then → Into e left ns (e .a) (e .b ∷ ns)
+  one-of : entryKind (e .kind) ≡ Or → Into e left ns (if left (e .a) (e .b)) ns
 
 -- entry i, with is behind it, is reached from entry n, with ns behind it, each time by the part in which the first move is made
-pub data Down (p : Bytes) (marks : List Bool) (n : ℕ) (ns : List ℕ) : ℕ → List ℕ → Type 0 where
-  here : Down p marks n ns n ns
-  lower : {i : ℕ} {is : List ℕ} → i < entryCount p → Down p marks n ns i is → 5 ≤ entryAt p i .kind
-      → Down p marks n ns (partOf (entryAt p i .kind) (entryAt p i .a) (entryAt p i .b) (getD marks (entryAt p i .a) false))
-      (behind (entryAt p i .kind) (entryAt p i .b) is)
+pub data Down (p : Bytes) (movable : Atoms) (n : ℕ) (ns : List ℕ) : ℕ → List ℕ → Type 0 where
+  here : Down p movable n ns n ns
+  lower : {i j : ℕ} {is js : List ℕ} → i < entryCount p → Down p movable n ns i is → Into (entryOf p i) (entryOf p i .a ∈ movable) is j js
+      → Down p movable n ns j js
+
+-- the entry that a descent ends at, and the stack then
+pub record AtLeaf (p stack : Bytes) (x : Leaf) : Type 0 where
+  pub entry : x .entry ≡ entryOf p (x .at)
+  pub leaf : x .entry .kind < 5
+  pub stacked : Stack p stack (x .at) (x .top)

@@ -3,7 +3,7 @@ use Prim.Native.Nat.{ℕ}
 use Rattle.meaning.specs.declared.Answer.{Answer}
 use Rattle.meaning.specs.declared.Mind.{Mind}
 use Rattle.meaning.specs.Card.{Bytes}
-use Rattle.layout.specs.PlaceParts.{lent}
+use Rattle.layout.specs.PlaceParts.{configured}
 use Rattle.deliberation.specs.declared.DeliberationEnding.{DeliberationEnding}
 use Rattle.deliberation.specs.declared.Remaining.{Remaining}
 use Rattle.deliberation.specs.declared.Deliberated.{Deliberated}
@@ -19,7 +19,7 @@ deliberatedWith r plan numbers = record {
   answer = r .answer;
   count = r .count;
   ending = r .ending;
-  configuration = lent (r .mind) plan;
+  configuration = configured (r .mind) plan;
   remaining = remains (r .length) numbers;
 }
 

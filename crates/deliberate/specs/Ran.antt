@@ -4,14 +4,14 @@ use Prim.Native.Nat.{_≤_}
 use lib.ListN.{length, drop}
 use Rattle.meaning.specs.Card.{Bytes}
 use Rattle.meaning.specs.Configurations.{configurationOf}
-use Rattle.layout.specs.PlaceParts.{lent}
+use Rattle.layout.specs.PlaceParts.{configured}
 use Rattle.deliberation.specs.Deliberate.{Outcome}
-use Rattle.deliberate.specs.declared.run.Ran.{Ran}
+use Rattle.deliberate.specs.declared.run.RanMoves.{RanMoves}
 
-pub record RanTo (o : Outcome) (r : Ran) (plan stack : Bytes) : Type 0 where
+pub record RanTo (o : Outcome) (r : RanMoves) (plan stack : Bytes) : Type 0 where
   pub count : r .count ≡ o .count
   pub ending : r .ending ≡ o .ending
-  pub configuration : lent (r .mind) plan ≡ configurationOf (o .state)
+  pub configuration : configured (r .mind) plan ≡ configurationOf (o .state)
   pub numbers : drop (r .top) stack ≡ o .remaining
   pub within : r .top ≤ 128
   pub room : length stack ≡ 128

@@ -4,27 +4,24 @@ ghost use mathlib.Core.Path.{_≡_};
 ghost use mathlib.Core.List.{[], _∷_};
 ghost use Prim.Native.Nat.{_-_, _≤_};
 ghost use lib.ListN.{length, drop, replicate};
-ghost use Rattle.paper.specs.Language.{𝐁};
+ghost use Rattle.door.specs.Words.{𝐁, conditions, agentFor, stateOf, configured, Ready};
 ghost use Rattle.meaning.specs.declared.Checked.{Checked};
-ghost use Rattle.meaning.specs.Card.{conditions, agentFor};
-ghost use Rattle.meaning.specs.Configurations.{stateOf};
 ghost use Rattle.meaning.specs.Calls.{checks};
-ghost use Rattle.layout.specs.PlaceParts.{lent};
-ghost use Rattle.choices.specs.Ready.{Ready};
-ghost use Rattle.deliberation.specs.Entries.{entries};
+ghost use Rattle.deliberation.specs.Entries.{entriesOf};
 ghost use Rattle.deliberation.specs.Deliberate.{deliberate, remainingOf, deliberated, whole, deliberates};
 ghost use Rattle.program.specs.GoodProgram.{GoodProgram};
 ghost use Rattle.deliberate.specs.InPlace.{remains, refusedWith, deliberatedWith};
 use crate::run::run_moves;
 use card::check::answer_of;
 use card::check::check;
-use choices::configuration::judge_configuration;
 use deliberation::DeliberationEnding;
+use door::configuration::judge_configuration;
 use layout::bytes::copy;
 use meaning::Answer;
 use meaning::Checked;
 use meaning::Layout;
 use meaning::Mind;
+use meaning::Plan;
 use program::judge_program;
 
 // Of `Deliberated`, all but what the lent plan and the lent numbers hold: how many of these remain.
@@ -81,15 +78,15 @@ fn from_moves(
     card: &[u8],
     l: Layout,
     m: Mind,
-    plan: &mut [u8; 1024],
+    plan: &mut Plan,
     program: &[u8],
     budget: u16,
     remaining: &mut [u8; 128],
 ) -> DeliberatedInPlace
-    requires { ⌜ Ready l (now card) (lent m (now plan)) × GoodProgram l (now card) (now program) × (now remaining ≡ replicate 128 0) ⌝ }
+    requires { ⌜ Ready l (now card) (configured m (now plan)) × GoodProgram l (now card) (now program) × (now remaining ≡ replicate 128 0) ⌝ }
     ensures { λ r. ⌜ deliberatedWith r (now (plan .exit)) (now (remaining .exit))
-        ≡ deliberated (deliberate (agentFor l (now (card .entry))) (conditions 𝐁 l (now (card .entry))) (entries (now (program .entry)))
-        budget (whole (now (program .entry))) (stateOf (lent m (now (plan .entry))))) ⌝ }
+        ≡ deliberated (deliberate (agentFor l (now (card .entry))) (conditions 𝐁 l (now (card .entry))) (entriesOf (now (program .entry)))
+        budget (whole (now (program .entry))) (stateOf (configured m (now (plan .entry))))) ⌝ }
 {
     let mut stack = first_number(program.len() / 4);
     let ran = run_moves(card, l, m, plan, program, budget, &mut stack, 127);
@@ -110,14 +107,14 @@ fn from_configuration(
     card: &[u8],
     l: Layout,
     m: Mind,
-    plan: &mut [u8; 1024],
+    plan: &mut Plan,
     program: &[u8],
     budget: u16,
     remaining: &mut [u8; 128],
 ) -> DeliberatedInPlace
     requires { ⌜ (checks (now card) ≡ Checked.Good l) × GoodProgram l (now card) (now program) × (now remaining ≡ replicate 128 0) ⌝ }
     ensures { λ r. ⌜ deliberatedWith r (now (plan .exit)) (now (remaining .exit))
-        ≡ deliberates (now (card .entry)) (now (program .entry)) (lent m (now (plan .entry))) budget ⌝ }
+        ≡ deliberates (now (card .entry)) (now (program .entry)) (configured m (now (plan .entry))) budget ⌝ }
 {
     let judged = judge_configuration(l, m, plan);
     let Answer::Done = judged else {
@@ -131,14 +128,14 @@ fn from_program(
     card: &[u8],
     l: Layout,
     m: Mind,
-    plan: &mut [u8; 1024],
+    plan: &mut Plan,
     program: &[u8],
     budget: u16,
     remaining: &mut [u8; 128],
 ) -> DeliberatedInPlace
     requires { ⌜ (checks (now card) ≡ Checked.Good l) × (now remaining ≡ replicate 128 0) ⌝ }
     ensures { λ r. ⌜ deliberatedWith r (now (plan .exit)) (now (remaining .exit))
-        ≡ deliberates (now (card .entry)) (now (program .entry)) (lent m (now (plan .entry))) budget ⌝ }
+        ≡ deliberates (now (card .entry)) (now (program .entry)) (configured m (now (plan .entry))) budget ⌝ }
 {
     let judged = judge_program(card, l, program);
     let Answer::Done = judged else {
@@ -153,12 +150,12 @@ pub fn deliberate(
     card: &[u8],
     program: &[u8],
     m: Mind,
-    plan: &mut [u8; 1024],
+    plan: &mut Plan,
     budget: u16,
     remaining: &mut [u8; 128],
 ) -> DeliberatedInPlace
     ensures { λ r. ⌜ deliberatedWith r (now (plan .exit)) (now (remaining .exit))
-        ≡ deliberates (now (card .entry)) (now (program .entry)) (lent m (now (plan .entry))) budget ⌝ }
+        ≡ deliberates (now (card .entry)) (now (program .entry)) (configured m (now (plan .entry))) budget ⌝ }
 {
     let none = no_numbers();
     *remaining = none;

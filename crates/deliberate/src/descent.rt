@@ -1,73 +1,83 @@
 // From an entry down to the one whose move is made: an execute, an apply, a select or a while. What is to be done behind it goes to
 // the numbers that remain. They stand at the end of 128 bytes, from `top` on, the next first.
 ghost use mathlib.Core.Path.{_≡_};
-ghost use mathlib.Core.Bool.{false};
 ghost use Prim.Native.Nat.{_≤_, _<_};
-ghost use lib.ListN.{length, drop, getD};
+ghost use lib.ListN.{length, drop};
+ghost use Rattle.paper.specs.Atoms.{_∈_};
 ghost use Rattle.meaning.specs.Card.{Bytes};
 ghost use Rattle.meaning.specs.declared.Layout.{Layout};
-ghost use Rattle.deliberation.specs.Entries.{entryAt};
 ghost use Rattle.program.specs.GoodProgram.{GoodProgram};
-ghost use Rattle.deliberate.specs.Descent.{Stack, partOf, behind, Down};
+ghost use Rattle.deliberate.specs.Descent.{Stack, Into, Down, AtLeaf};
 use meaning::Node;
 use program::read_entry;
+use sets::member;
 
-// Where a descent ends: an entry, and where the numbers behind it begin.
-pub struct Leaf {
+// A part of an entry, and where the numbers behind it begin.
+pub struct Part {
     pub at: usize,
     pub top: usize,
 }
 
-// The part in which the first move is made: a sequence's left; "Choice takes the left if it has a first move, …, else the right."
-fn part(e: Node, movable: &[bool; 128]) -> u8
-    requires { ⌜ (5 ≤ e .kind) × (e .a < 128) ⌝ }
-    ensures { λ r. ⌜ r ≡ partOf (e .kind) (e .a) (e .b) (getD (now (movable .entry)) (e .a) false) ⌝ }
-{
-    let kind = e.kind;
-    let a = e.a;
-    let b = e.b;
-    let left = movable[a as usize];
-    match kind {
-        5 => a,
-        _ => { if left { a } else { b } }
-    }
+// Where a descent ends: an entry, its number, and where the numbers behind it begin.
+pub struct Leaf {
+    pub entry: Node,
+    pub at: usize,
+    pub top: usize,
 }
 
-// A sequence's right goes before the numbers; of a choice nothing does.
-fn push_right(e: Node, stack: &mut [u8; 128], top: usize) -> usize
-    requires { ⌜ (5 ≤ e .kind) × (1 ≤ top) × (top ≤ 128) × (length (now stack) ≡ 128) ⌝ }
-    ensures { λ r. ⌜ drop r (now (stack .exit)) ≡ behind (e .kind) (e .b) (drop top (now (stack .entry))) ⌝ }
-    ensures { λ r. ⌜ (r ≤ top) × (length (now (stack .exit)) ≡ 128) × (drop top (now (stack .exit)) ≡ drop top (now (stack .entry))) ⌝ }
+// The part in which the first move is made: a sequence's left, and its right goes before the numbers; "Choice takes the left if it
+// has a first move, …, else the right."
+fn into_part(e: Node, movable: [u8; 16], stack: &mut [u8; 128], top: usize) -> Part
+    requires { ⌜ (5 ≤ e .kind) × (e .kind < 7) × (1 ≤ top) × (top ≤ 128) × (length (now stack) ≡ 128) ⌝ }
+    ensures { λ r. ⌜ Into e (e .a ∈ movable) (drop top (now (stack .entry))) (r .at) (drop (r .top) (now (stack .exit))) ⌝ }
+    ensures { λ r. ⌜ (r .top ≤ top) × (length (now (stack .exit)) ≡ 128) × (drop top (now (stack .exit)) ≡ drop top (now (stack .entry))) ⌝ }
 {
-    let kind = e.kind;
-    if kind != 5 {
-        return top;
+    let a = e.a;
+    let b = e.b;
+    if e.kind == 5 {
+        stack[top - 1] = b;
+        return Part {
+            at: a as usize,
+            top: top - 1,
+        };
     }
-    stack[top - 1] = e.b;
-    top - 1
+    if member(movable, a) {
+        return Part {
+            at: a as usize,
+            top: top,
+        };
+    }
+    Part {
+        at: b as usize,
+        top: top,
+    }
 }
 
 // Down from an entry that has a first move, behind which the numbers from top on stand: each part has a lower number.
 pub fn descend(
     program: &[u8],
-    movable: &[bool; 128],
+    movable: [u8; 16],
     stack: &mut [u8; 128],
     from: usize,
     top: usize,
 ) -> Leaf
     requires { ⌜ ((l : Layout) × ((b : Bytes) × GoodProgram l b (now program))) × Stack (now program) (now stack) from top ⌝ }
-    ensures { λ r. ⌜ Down (now (program .entry)) (now (movable .entry)) from (drop top (now (stack .entry)))
-        (r .at) (drop (r .top) (now (stack .exit))) ⌝ }
-    ensures { λ r. ⌜ Stack (now (program .entry)) (now (stack .exit)) (r .at) (r .top) × (r .top ≤ top)
-        × (drop top (now (stack .exit)) ≡ drop top (now (stack .entry))) × (entryAt (now (program .entry)) (r .at) .kind < 5) ⌝ }
+    ensures { λ r. ⌜ Down (now (program .entry)) movable from (drop top (now (stack .entry))) (r .at) (drop (r .top) (now (stack .exit))) ⌝ }
+    ensures { λ r. ⌜ AtLeaf (now (program .entry)) (now (stack .exit)) r × (r .top ≤ top)
+        × (drop top (now (stack .exit)) ≡ drop top (now (stack .entry))) ⌝ }
 {
     let mut at = from;
     let mut rest = top;
     let mut e = read_entry(program, at);
     while 5 <= e.kind {
-        rest = push_right(e, stack, rest);
-        at = part(e, movable) as usize;
+        let part = into_part(e, movable, stack, rest);
+        at = part.at;
+        rest = part.top;
         e = read_entry(program, at);
     }
-    Leaf { at: at, top: rest }
+    Leaf {
+        entry: e,
+        at: at,
+        top: rest,
+    }
 }

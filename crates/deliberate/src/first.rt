@@ -1,23 +1,25 @@
-// Which entries of a program have a first move: in one pass from the lowest upward, with one mark an entry, for parts are shared.
+// Which entries of a program have a first move: in one pass from the lowest upward, with one bit an entry, for parts are shared.
 ghost use mathlib.Core.Path.{_≡_};
-ghost use mathlib.Core.Bool.{false};
-ghost use Prim.Native.Nat.{_<_};
-ghost use lib.ListN.{length, getD, replicate};
+ghost use Prim.Native.Nat.{ℕ, _≤_, _<_};
+ghost use lib.ListN.{replicate};
+ghost use Rattle.paper.specs.Atoms.{_∈_};
 ghost use Rattle.paper.specs.Next.{isSome};
-ghost use Rattle.meaning.specs.Card.{agentFor};
-ghost use Rattle.meaning.specs.Configurations.{stateOf};
-ghost use Rattle.layout.specs.PlaceParts.{lent};
-ghost use Rattle.choices.specs.Ready.{Judged};
-ghost use Rattle.choices.specs.Asking.{firstOpen};
+ghost use Rattle.door.specs.Words.{agentFor, stateOf, configured, firstOfKind};
+ghost use Rattle.choices.specs.Judged.{Judged};
+ghost use Rattle.deliberation.specs.Kinds.{entryKind};
 ghost use Rattle.deliberation.specs.FirstMove.{lowestAction};
+ghost use Rattle.deliberation.specs.Entries.{entryCount};
 ghost use Rattle.program.specs.GoodProgram.{GoodEntry, GoodProgram};
 ghost use Rattle.deliberate.specs.First.{isAt, movableOf, Movable};
-use choices::ask::Chosen;
-use choices::ask::is_open;
+use choices::ask::is_enabled;
+use choices::truth::Marks;
+use door::asked::Chosen;
 use meaning::Layout;
 use meaning::Mind;
 use meaning::Node;
+use meaning::Plan;
 use program::read_entry;
+use sets::add_member;
 
 // Whether there is a choice.
 fn is_at(c: Chosen) -> bool
@@ -29,66 +31,76 @@ fn is_at(c: Chosen) -> bool
     }
 }
 
-// Whether entry i has a first move: an execute where an action is enabled, an apply and a select whose rule is enabled, a while
+// No entry.
+fn no_moves() -> [u8; 16]
+    ensures { λ r. ⌜ r ≡ replicate 16 0 ⌝ }
+{
+    [0u8; 16]
+}
+
+// Whether an entry is in a set of entries, read where the set stands.
+fn is_marked(movable: &[u8; 16], n: u8) -> bool
+    requires { ⌜ n < 128 ⌝ }
+    ensures { λ r. ⌜ r ≡ (n ∈ now (movable .entry)) ⌝ }
+{
+    let i = (n / 8) as usize;
+    (movable[i] >> (n % 8)) % 2 == 1
+}
+
+// Whether an entry has a first move: an execute where an action is enabled, an apply and a select whose rule is enabled, a while
 // always, a sequence whose left has one, a choice one of whose parts has one.
 fn has_move(
     card: &[u8],
     l: Layout,
     m: Mind,
-    plan: &[u8; 1024],
-    marks: &[bool; 256],
+    plan: &Plan,
+    marks: &Marks,
     acts: bool,
-    i: usize,
     e: Node,
-    movable: &[bool; 128],
+    movable: &[u8; 16],
 ) -> bool
-    requires { ⌜ Judged l (now card) (lent m (now plan)) (now marks) × GoodEntry l (now card) i e × (i < 128) ⌝ }
-    requires { ⌜ acts ≡ isSome (lowestAction (agentFor l (now card)) (stateOf (lent m (now plan)) .mental)) ⌝ }
-    ensures { λ r. ⌜ r ≡ movableOf (agentFor l (now (card .entry))) (stateOf (lent m (now (plan .entry))) .mental)
-        (e .kind) (e .a) (e .b) (λ j. getD (now (movable .entry)) j false) ⌝ }
+    requires { ⌜ Judged l (now card) (configured m (now plan)) (now marks) × ((i : ℕ) × ((i < 128) × GoodEntry l (now card) i e)) ⌝ }
+    requires { ⌜ acts ≡ isSome (lowestAction (agentFor l (now card)) (stateOf (configured m (now plan)) .mental)) ⌝ }
+    ensures { λ r. ⌜ r ≡ movableOf (agentFor l (now (card .entry))) (stateOf (configured m (now (plan .entry))) .mental)
+        (entryKind (e .kind)) (e .a) (e .b) (λ j. j ∈ now (movable .entry)) ⌝ }
 {
     let kind = e.kind;
-    let a = e.a as usize;
-    let b = e.b as usize;
+    let a = e.a;
+    let b = e.b;
     match kind {
         0 => acts,
-        1 => is_open(card, l, m, plan, marks, 2, a),
-        2 => is_open(card, l, m, plan, marks, 0, a),
+        1 => is_enabled(card, l, m, plan, marks, 2, a as usize),
+        2 => is_enabled(card, l, m, plan, marks, 0, a as usize),
         3..=4 => true,
-        5 => movable[a],
-        _ => movable[a] | movable[b],
+        5 => is_marked(movable, a),
+        _ => is_marked(movable, a) | is_marked(movable, b),
     }
 }
 
-// Every entry's mark, where the lowest enabled action is known.
+// The entries below n that have a first move, where the lowest enabled action is known.
 pub fn mark_moves(
     card: &[u8],
     l: Layout,
     m: Mind,
-    plan: &[u8; 1024],
-    marks: &[bool; 256],
+    plan: &Plan,
+    marks: &Marks,
     program: &[u8],
     action: Chosen,
-    movable: &mut [bool; 128],
-)
-    requires { ⌜ Judged l (now card) (lent m (now plan)) (now marks) × GoodProgram l (now card) (now program) ⌝ }
-    requires { ⌜ (action ≡ firstOpen l (now card) (lent m (now plan)) 1) × (length (now movable) ≡ 128) ⌝ }
-    ensures { λ r. ⌜ Movable l (now (card .entry)) (now (program .entry)) (lent m (now (plan .entry))) (now (movable .exit)) ⌝ }
+    n: usize,
+) -> [u8; 16]
+    requires { ⌜ Judged l (now card) (configured m (now plan)) (now marks) × GoodProgram l (now card) (now program) ⌝ }
+    requires { ⌜ (action ≡ firstOfKind l (now card) (configured m (now plan)) 1) × (n ≤ entryCount (now program)) ⌝ }
+    ensures { λ r. ⌜ Movable l (now (card .entry)) (now (program .entry)) (configured m (now (plan .entry))) n r ⌝ }
 {
     let acts = is_at(action);
-    let n = program.len() / 4;
+    let mut movable = no_moves();
     let mut i: usize = 0;
     while i < n {
         let e = read_entry(program, i);
-        let mark = has_move(card, l, m, plan, marks, acts, i, e, movable);
-        movable[i] = mark;
+        if has_move(card, l, m, plan, marks, acts, e, &movable) {
+            add_member(&mut movable, i);
+        }
         i += 1;
     }
-}
-
-// No entry is marked.
-pub fn no_moves() -> [bool; 128]
-    ensures { λ r. ⌜ r ≡ replicate 128 false ⌝ }
-{
-    [false; 128]
+    movable
 }

@@ -1,26 +1,23 @@
 // A deliberation: moves one after the other, at most as many as the budget says.
 ghost use mathlib.Core.Path.{_≡_};
 ghost use lib.ListN.{drop};
-ghost use Rattle.paper.specs.Language.{𝐁};
-ghost use Rattle.meaning.specs.Card.{conditions, agentFor};
-ghost use Rattle.meaning.specs.Configurations.{stateOf};
-ghost use Rattle.layout.specs.PlaceParts.{lent};
-ghost use Rattle.choices.specs.Ready.{Ready};
-ghost use Rattle.deliberation.specs.Entries.{entries};
+ghost use Rattle.door.specs.Words.{𝐁, conditions, agentFor, stateOf, configured, Ready};
+ghost use Rattle.deliberation.specs.Entries.{entriesOf};
 ghost use Rattle.deliberation.specs.Deliberate.{deliberate};
 ghost use Rattle.program.specs.GoodProgram.{GoodProgram};
 ghost use Rattle.deliberate.specs.Made.{Remains};
 ghost use Rattle.deliberate.specs.Ran.{RanTo};
-use crate::made::Made;
+use crate::made::MoveMade;
 use crate::made::make_move;
 use choices::truth::no_marks;
 use deliberation::DeliberationEnding;
 use meaning::Layout;
 use meaning::Mind;
+use meaning::Plan;
 use moves::run::refresh;
 
 // What a deliberation comes to beside the plan and the numbers that remain: where these begin.
-pub struct Ran {
+pub struct RanMoves {
     pub mind: Mind,
     pub count: u16,
     pub ending: DeliberationEnding,
@@ -28,10 +25,10 @@ pub struct Ran {
 }
 
 // Where a deliberation ends.
-fn ended(m: Mind, count: u16, ending: DeliberationEnding, top: usize) -> Ran
+fn ended(m: Mind, count: u16, ending: DeliberationEnding, top: usize) -> RanMoves
     ensures { λ r. ⌜ r ≡ record { mind = m; count = count; ending = ending; top = top } ⌝ }
 {
-    Ran {
+    RanMoves {
         mind: m,
         count: count,
         ending: ending,
@@ -45,15 +42,15 @@ pub fn run_moves(
     card: &[u8],
     l: Layout,
     m: Mind,
-    plan: &mut [u8; 1024],
+    plan: &mut Plan,
     program: &[u8],
     budget: u16,
     stack: &mut [u8; 128],
     top: usize,
-) -> Ran
-    requires { ⌜ Ready l (now card) (lent m (now plan)) × GoodProgram l (now card) (now program) × Remains (now program) (now stack) top ⌝ }
-    ensures { λ r. ⌜ RanTo (deliberate (agentFor l (now (card .entry))) (conditions 𝐁 l (now (card .entry))) (entries (now (program .entry)))
-        budget (drop top (now (stack .entry))) (stateOf (lent m (now (plan .entry))))) r (now (plan .exit)) (now (stack .exit)) ⌝ }
+) -> RanMoves
+    requires { ⌜ Ready l (now card) (configured m (now plan)) × GoodProgram l (now card) (now program) × Remains (now program) (now stack) top ⌝ }
+    ensures { λ r. ⌜ RanTo (deliberate (agentFor l (now (card .entry))) (conditions 𝐁 l (now (card .entry))) (entriesOf (now (program .entry)))
+        budget (drop top (now (stack .entry))) (stateOf (configured m (now (plan .entry))))) r (now (plan .exit)) (now (stack .exit)) ⌝ }
 {
     let mut cur = m;
     let mut marks = no_marks();
@@ -69,14 +66,14 @@ pub fn run_moves(
         let made = moved.made;
         let after = moved.mind;
         match made {
-            Made::On => {
+            MoveMade::On => {
                 known = moved.known;
                 cur = after;
                 rest = moved.top;
                 count += 1;
             }
-            Made::Stuck => return ended(after, count, DeliberationEnding::Stuck, moved.top),
-            Made::Full => return ended(after, count, DeliberationEnding::Full, moved.top),
+            MoveMade::Stuck => return ended(after, count, DeliberationEnding::Stuck, moved.top),
+            MoveMade::Full => return ended(after, count, DeliberationEnding::Full, moved.top),
         }
     }
     ended(cur, count, DeliberationEnding::Spent, rest)

@@ -21,7 +21,7 @@ use Rattle.meaning.proofs.AgentEntries.{revisionFor, revision-entry}
 use Rattle.meaning.proofs.Parts.{length-part}
 use Rattle.deliberation.specs.Theorems.{EntryLaw}
 use Rattle.deliberation.specs.Equivalence.{NoReactiveLaw, InterpreterLaws}
-use Rattle.deliberation.specs.Entries.{entryAt}
+use Rattle.deliberation.proofs.Named.{entry-laws}
 use Rattle.deliberation.proofs.Good.{entry-rule}
 use Rattle.deliberation.proofs.Equivalence.{proposition-1, lemma-1, theorem-1}
 
@@ -63,14 +63,6 @@ pub entry-law : EntryLaw
 unfolding agent agentFor agentOf
 entry-law b p card good i h =
     let l = layout b in
-    let x = entryAt p i in
-    let r = entry-rule (containing 2 l b) l p good i h in
-    record {
-      first-part = r .first;
-      second-part = r .second;
-      known-revision = λ k. rw (length-entries _ (l .revisions)) (r .revision k);
-      known-selection = λ k. rw (length-entries _ (l .selections)) (r .selection k);
-      belief-condition = λ k. (
-          let e = r .node k in
-          (ltb-true (x .a) (l .nodes .count) (both (ltb (x .a) (l .nodes .count)) _ e .0), no-goal-atom b card (x .a) e));
-    }
+    entry-laws (λ k. rw (length-entries _ (l .revisions)) k) (λ k. rw (length-entries _ (l .selections)) k)
+    (λ n e. (ltb-true n (l .nodes .count) (both (ltb n (l .nodes .count)) _ e .0), no-goal-atom b card n e))
+    (entry-rule (containing 2 l b) l p good i h)

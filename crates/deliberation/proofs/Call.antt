@@ -24,11 +24,12 @@ use Rattle.deliberation.specs.declared.DeliberationEnding.{DeliberationE
 use Rattle.deliberation.specs.declared.Deliberated.{Deliberated}
 use Rattle.deliberation.specs.Programs.{still}
 use Rattle.deliberation.specs.MetaTransitions.{Computation, notIdle}
-use Rattle.deliberation.specs.Entries.{entryCount, entries, programGood, programTable, deliberateAnswer, program}
+use Rattle.deliberation.specs.Entries.{entryCount, entriesOf, programGood, programTable, deliberateAnswer, program}
 use Rattle.deliberation.specs.Deliberate.{Outcome, deliberate, remainingOf, deliberated, whole, deliberates}
 use Rattle.deliberation.specs.Theorems.{partsOf, wholeOf, numbersIn, standFor, Followed, EndsExactly, Tells, TellsLaw, BoundedMovesLaw, RefusalLaw, DeterminedLaw}
 use Rattle.deliberation.proofs.Good.{some-entries, most-entries}
-use Rattle.deliberation.proofs.Room.{nothing, put, stacked-length, stacked-known}
+use Rattle.deliberation.specs.Stacked.{nothing, put}
+use Rattle.deliberation.proofs.Room.{stacked-length, stacked-known}
 use Rattle.deliberation.proofs.Standing.{stood-one}
 use Rattle.deliberation.proofs.Followed.{computation, chain, fits}
 use Rattle.deliberation.proofs.Run.{Walked, walked, ends-exactly}
@@ -37,7 +38,7 @@ use Rattle.deliberation.proofs.Run.{Walked, walked, ends-exactly}
 
 module _ (b p : Bytes) (c : Configuration) (budget : ℕ) where
   abbrev pub outcome : Outcome
-  outcome = deliberate (agent b) (conditions 𝐁 (layout b) b) (entries p) budget (whole p) (stateOf c)
+  outcome = deliberate (agent b) (conditions 𝐁 (layout b) b) (entriesOf p) budget (whole p) (stateOf c)
 
   pub deliberates-done : deliberateAnswer b p c ≡ Done → deliberates b p c budget ≡ deliberated outcome
   unfolding deliberates
@@ -139,7 +140,7 @@ module _ (b p : Bytes) (c : Configuration) (budget : ℕ) (pass : Passed b p c) 
   walk : Walked gs (layout b) p (pass .program-good) (agent b) (conditions 𝐁 (layout b) b) last last-known budget (still (wholeOf b p)) (stateOf c) (outcome b p c budget)
   walk =
       walked gs (layout b) p (pass .program-good) (agent b) (conditions 𝐁 (layout b) b) last last-known budget (still (wholeOf b p)) (whole p) (stateOf c)
-      (sym (stood-one (conditions 𝐁 (layout b) b) (entries p) last)) (put last [] (omega arith) nothing)
+      (sym (stood-one (conditions 𝐁 (layout b) b) (entriesOf p) last)) (put last [] (omega arith) nothing)
 
   state-fits : length (outcome b p c budget .state .mental .π) ≤ 1024
   state-fits = fits (walk .followed) (plan-fits c (good (layout b) c (pass .configuration-good) .fits))

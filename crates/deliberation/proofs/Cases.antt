@@ -7,12 +7,12 @@ use Rattle.meaning.specs.Cases.{loaded}
 use Rattle.meaning.proofs.Computing.{computing}
 use Rattle.deliberation.specs.Programs.{𝒲}
 use Rattle.deliberation.specs.FirstMove.{lowestAction, ifEnabled}
-use Rattle.deliberation.specs.Entries.{entryAt, entries, programGood, programTable, deliberateAnswer, moves}
+use Rattle.deliberation.specs.Entries.{entryOf, entriesOf, programGood, programTable, deliberateAnswer, firstMoveOf}
 use Rattle.deliberation.specs.Deliberate.{leads, deliberate, remainingOf, deliberates, deliberationEndingNumber}
-use Rattle.deliberation.specs.Cases.{entry, told, teaching, doubling, withPlan, long, wrong, DeliberationCases}
+use Rattle.deliberation.specs.Cases.{entry, inNumbers, teaching, doubling, withPlan, long, wrong, DeliberationCases}
 
 pub cases : DeliberationCases
-unfolding computing flatten assembled set specification selection revision stripeWith stripe loaded 𝒲 lowestAction ifEnabled entryAt entries programGood programTable deliberateAnswer moves leads deliberate remainingOf deliberates deliberationEndingNumber entry told teaching doubling withPlan long wrong
+unfolding computing flatten assembled set specification selection revision stripeWith stripe loaded 𝒲 lowestAction ifEnabled entryOf entriesOf programGood programTable deliberateAnswer firstMoveOf leads deliberate remainingOf deliberates deliberationEndingNumber entry inNumbers teaching doubling withPlan long wrong
 cases =
     record {
       finished = refl;

@@ -10,7 +10,7 @@ use lib.Dec.{ltb, eqb}
 use lib.ListN.{length, getD}
 use borrow.Author.Tests.{ltb-true, eqb-true}
 use Rattle.paper.specs.Language.{𝐁, Query, Agent, Config}
-use Rattle.paper.proofs.Relation.{both, false≢true}
+use Rattle.paper.proofs.Relation.{both}
 use Rattle.runs.proofs.Numbers.{length-made, made-at}
 use Rattle.meaning.specs.declared.Layout.{Layout}
 use Rattle.meaning.specs.declared.Node.{Node}
@@ -20,87 +20,24 @@ use Rattle.meaning.proofs.Accepted.{within-low, within-high}
 use Rattle.meaning.proofs.Every.{every-at}
 use Rattle.meaning.proofs.Pass.{pass-at}
 use Rattle.deliberation.specs.Programs.{notEmptyPlan, holds, Prog, execute, while_doing_od, _⨾_, _⊕_}
+use Rattle.deliberation.specs.Kinds.{EntryKind, Execute, Apply, Select, WhilePlan, WhileBelief, Then, Or, entryKind}
 use Rattle.deliberation.specs.FirstMove.{Move, followedBy, leftElseRight}
-use Rattle.deliberation.specs.Entries.{entryAt, entryCount, entries, lengthGood, kindGood, entryGood, programGood, progOf, programs, program, moveOf, moves}
+use Rattle.deliberation.specs.Entries.{entryOf, entryCount, entriesOf, lengthGood, kindGood, entryGood, programGood, progOf, program, moveOf, firstMoveOf}
+use Rattle.deliberation.specs.Theorems.{EntryLaws, executes, applies, selects, while-plan, while-belief, does-both, does-one}
 
--- what row 19 says of an entry's kind and of what it names
-pub record Rule (gs : List Bool) (l : Layout) (i kind a b : ℕ) : Type 0 where
-  pub kinds : kind ≤ 6
-  pub revision : kind ≡ 1 → a < l .revisions .count
-  pub selection : kind ≡ 2 → a < l .selections .count
-  pub node : kind ≡ 4 → conditionGood l gs a ≡ true
-  pub first : 5 ≤ kind → a < i
-  pub second : 3 ≤ kind → b < i
+module _ (gs : List Bool) (l : Layout) where
+  -- what row 19 says of an entry, by its kind
+  abbrev pub Rule : ℕ → ℕ → ℕ → EntryKind → Type 0
+  Rule = EntryLaws (l .revisions .count) (l .selections .count) (λ n. conditionGood l gs n ≡ true)
 
--- one of the two kinds with two parts
-two-parts : (gs : List Bool) (l : Layout) (i kind a b : ℕ) → 5 ≤ kind → kind ≤ 6 → ltb a i && ltb b i ≡ true → Rule gs l i kind a b
-two-parts gs l i kind a b least most e =
-    let (h, k) = both (ltb a i) _ e in
-    let first = ltb-true a i h in
-    let second = ltb-true b i k in
-    record {
-      kinds = most;
-      revision = λ h. absurd (omega arith);
-      selection = λ h. absurd (omega arith);
-      node = λ h. absurd (omega arith);
-      first = λ _. first;
-      second = λ _. second;
-    }
-
-pub rule : (gs : List Bool) (l : Layout) (i kind a b : ℕ) → kindGood gs l i kind a b ≡ true → Rule gs l i kind a b
-rule gs l i zero a b e =
-    record {
-      kinds = omega arith;
-      revision = λ h. absurd (omega arith);
-      selection = λ h. absurd (omega arith);
-      node = λ h. absurd (omega arith);
-      first = λ h. absurd (omega arith);
-      second = λ h. absurd (omega arith);
-    }
-rule gs l i (suc zero) a b e =
-    let known = ltb-true a (l .revisions .count) (both (ltb a (l .revisions .count)) _ e .0) in
-    record {
-      kinds = omega arith;
-      revision = λ _. known;
-      selection = λ h. absurd (omega arith);
-      node = λ h. absurd (omega arith);
-      first = λ h. absurd (omega arith);
-      second = λ h. absurd (omega arith);
-    }
-rule gs l i (suc (suc zero)) a b e =
-    let known = ltb-true a (l .selections .count) (both (ltb a (l .selections .count)) _ e .0) in
-    record {
-      kinds = omega arith;
-      revision = λ h. absurd (omega arith);
-      selection = λ _. known;
-      node = λ h. absurd (omega arith);
-      first = λ h. absurd (omega arith);
-      second = λ h. absurd (omega arith);
-    }
-rule gs l i (suc (suc (suc zero))) a b e =
-    let lower = ltb-true b i (both (eqb a 0) _ e .1) in
-    record {
-      kinds = omega arith;
-      revision = λ h. absurd (omega arith);
-      selection = λ h. absurd (omega arith);
-      node = λ h. absurd (omega arith);
-      first = λ h. absurd (omega arith);
-      second = λ _. lower;
-    }
-rule gs l i (suc (suc (suc (suc zero)))) a b e =
-    let (good, rest) = both (conditionGood l gs a) _ e in
-    let lower = ltb-true b i rest in
-    record {
-      kinds = omega arith;
-      revision = λ h. absurd (omega arith);
-      selection = λ h. absurd (omega arith);
-      node = λ _. good;
-      first = λ h. absurd (omega arith);
-      second = λ _. lower;
-    }
-rule gs l i (suc (suc (suc (suc (suc zero))))) a b e = two-parts gs l i 5 a b (omega arith) (omega arith) e
-rule gs l i (suc (suc (suc (suc (suc (suc zero)))))) a b e = two-parts gs l i 6 a b (omega arith) (omega arith) e
-rule gs l i (suc (suc (suc (suc (suc (suc (suc k))))))) a b e = absurd (false≢true e)
+  rule : (i : ℕ) (κ : EntryKind) (a b : ℕ) → kindGood gs l i κ a b ≡ true → Rule i a b κ
+  rule i Execute a b e = executes
+  rule i Apply a b e = applies (ltb-true a (l .revisions .count) (both (ltb a (l .revisions .count)) _ e .0))
+  rule i Select a b e = selects (ltb-true a (l .selections .count) (both (ltb a (l .selections .count)) _ e .0))
+  rule i WhilePlan a b e = while-plan (ltb-true b i (both (eqb a 0) _ e .1))
+  rule i WhileBelief a b e = let (h, k) = both (conditionGood l gs a) _ e in while-belief h (ltb-true b i k)
+  rule i Then a b e = let (h, k) = both (ltb a i) _ e in does-both (ltb-true a i h) (ltb-true b i k)
+  rule i Or a b e = let (h, k) = both (ltb a i) _ e in does-one (ltb-true a i h) (ltb-true b i k)
 
 -- what is right of a number if it is of all lower ones, is right of every one
 pub from-lower : (Q : ℕ → Type 0) → ((i : ℕ) → ((j : ℕ) → j < i → Q j) → Q i) → (n i : ℕ) → i < n → Q i
@@ -108,37 +45,36 @@ from-lower Q f zero i h = absurd (not-suc-le-zero h)
 from-lower Q f (suc n) i h = f i (λ j l. from-lower Q f n j (omega arith))
 
 module _ (p : Bytes) where
-  pub length-entries : length (entries p) ≡ entryCount p
-  unfolding entries
-  length-entries = length-made (entryAt p) 0 (entryCount p)
+  pub length-entries : length (entriesOf p) ≡ entryCount p
+  unfolding entriesOf
+  length-entries = length-made (entryOf p) 0 (entryCount p)
 
-  pub entry-at : (i : ℕ) (d : Node) → i < entryCount p → getD (entries p) i d ≡ entryAt p i
-  unfolding entries
-  entry-at i d h = made-at (entryAt p) 0 (entryCount p) i d h ∙ ap (entryAt p) (zero-add i)
+  pub entry-at : (i : ℕ) (d : Node) → i < entryCount p → getD (entriesOf p) i d ≡ entryOf p i
+  unfolding entriesOf
+  entry-at i d h = made-at (entryOf p) 0 (entryCount p) i d h ∙ ap (entryOf p) (zero-add i)
 
 -- ---- what is made of an entry looks at the parts that its kind has
 
-pub program-parts : (βs : List (Query 𝐁)) (k a b : ℕ) (q q′ : ℕ → Prog) → (5 ≤ k → q a ≡ q′ a) → (3 ≤ k → q b ≡ q′ b)
-    → progOf βs k a b q ≡ progOf βs k a b q′
-program-parts βs zero a b q q′ f s = refl
-program-parts βs (suc zero) a b q q′ f s = refl
-program-parts βs (suc (suc zero)) a b q q′ f s = refl
-program-parts βs (suc (suc (suc zero))) a b q q′ f s = ap (λ P. while notEmptyPlan doing P od) (s (omega arith))
-program-parts βs (suc (suc (suc (suc zero)))) a b q q′ f s = ap (λ P. while holds (condition βs a) doing P od) (s (omega arith))
-program-parts βs (suc (suc (suc (suc (suc zero))))) a b q q′ f s = ap₂ _⨾_ (f (omega arith)) (s (omega arith))
-program-parts βs (suc (suc (suc (suc (suc (suc zero)))))) a b q q′ f s = ap₂ _⊕_ (f (omega arith)) (s (omega arith))
-program-parts βs (suc (suc (suc (suc (suc (suc (suc k))))))) a b q q′ f s = refl
+module _ {r s : ℕ} {C : ℕ → Type 0} {i a b : ℕ} where
+  program-parts : {κ : EntryKind} (βs : List (Query 𝐁)) (q q′ : ℕ → Prog) → EntryLaws r s C i a b κ → ((j : ℕ) → j < i → q j ≡ q′ j)
+      → progOf βs κ a b q ≡ progOf βs κ a b q′
+  program-parts βs q q′ executes f = refl
+  program-parts βs q q′ (applies h) f = refl
+  program-parts βs q q′ (selects h) f = refl
+  program-parts βs q q′ (while-plan l) f = ap (λ P. while notEmptyPlan doing P od) (f b l)
+  program-parts βs q q′ (while-belief h l) f = ap (λ P. while holds (condition βs a) doing P od) (f b l)
+  program-parts βs q q′ (does-both h l) f = ap₂ _⨾_ (f a h) (f b l)
+  program-parts βs q q′ (does-one h l) f = ap₂ _⊕_ (f a h) (f b l)
 
-pub move-parts : (A : Agent) (βs : List (Query 𝐁)) (c : Config) (i k a b : ℕ) (q q′ : ℕ → Option (Move (List ℕ))) → (5 ≤ k → q a ≡ q′ a) → (3 ≤ k → q b ≡ q′ b)
-    → moveOf A βs c i k a b q ≡ moveOf A βs c i k a b q′
-move-parts A βs c i zero a b q q′ f s = refl
-move-parts A βs c i (suc zero) a b q q′ f s = refl
-move-parts A βs c i (suc (suc zero)) a b q q′ f s = refl
-move-parts A βs c i (suc (suc (suc zero))) a b q q′ f s = refl
-move-parts A βs c i (suc (suc (suc (suc zero)))) a b q q′ f s = refl
-move-parts A βs c i (suc (suc (suc (suc (suc zero))))) a b q q′ f s = ap (followedBy (λ ns. ns ++ (b ∷ []))) (f (omega arith))
-move-parts A βs c i (suc (suc (suc (suc (suc (suc zero)))))) a b q q′ f s = ap₂ leftElseRight (f (omega arith)) (s (omega arith))
-move-parts A βs c i (suc (suc (suc (suc (suc (suc (suc k))))))) a b q q′ f s = refl
+  move-parts : {κ : EntryKind} (A : Agent) (βs : List (Query 𝐁)) (c : Config) (q q′ : ℕ → Option (Move (List ℕ))) → EntryLaws r s C i a b κ
+      → ((j : ℕ) → j < i → q j ≡ q′ j) → moveOf A βs c i κ a b q ≡ moveOf A βs c i κ a b q′
+  move-parts A βs c q q′ executes f = refl
+  move-parts A βs c q q′ (applies h) f = refl
+  move-parts A βs c q q′ (selects h) f = refl
+  move-parts A βs c q q′ (while-plan l) f = refl
+  move-parts A βs c q q′ (while-belief h l) f = refl
+  move-parts A βs c q q′ (does-both h l) f = ap (followedBy (λ ns. ns ++ (b ∷ []))) (f a h)
+  move-parts A βs c q q′ (does-one h l) f = ap₂ leftElseRight (f a h) (f b l)
 
 -- ---- a program that is not refused
 
@@ -158,34 +94,43 @@ module _ (gs : List Bool) (l : Layout) (p : Bytes) (good : programGood gs l p �
 
   module _ (i : ℕ) (h : i < entryCount p) where
     abbrev x : Node
-    x = entryAt p i
+    x = entryOf p i
 
-    pub entry-rule : Rule gs l i (x .kind) (x .a) (x .b)
+    abbrev κ : EntryKind
+    κ = entryKind (x .kind)
+
+    good-entry : entryGood gs l i x ≡ true
     unfolding programGood
-    entry-rule =
-        rule gs l i (x .kind) (x .a) (x .b)
-        (both (kindGood gs l i (x .kind) (x .a) (x .b)) _ (every-at (λ i. entryGood gs l i (entryAt p i)) (entryCount p) i (both (lengthGood (length p)) _ good .1) h) .0)
+    good-entry = every-at (λ i. entryGood gs l i (entryOf p i)) (entryCount p) i (both (lengthGood (length p)) _ good .1) h
 
-    module _ {X : Type 0} (make : ℕ → ℕ → ℕ → ℕ → (ℕ → X) → X) (other : X)
-        (in-parts : (i k a b : ℕ) (q q′ : ℕ → X) → (5 ≤ k → q a ≡ q′ a) → (3 ≤ k → q b ≡ q′ b) → make i k a b q ≡ make i k a b q′) where
+    good-kind : ltb (x .kind) 7 && kindGood gs l i κ (x .a) (x .b) ≡ true
+    good-kind = both (ltb (x .kind) 7 && kindGood gs l i κ (x .a) (x .b)) _ good-entry .0
+
+    pub entry-known : x .kind < 7
+    entry-known = ltb-true (x .kind) 7 (both (ltb (x .kind) 7) _ good-kind .0)
+
+    pub entry-rule : Rule gs l i (x .a) (x .b) κ
+    entry-rule = rule gs l i κ (x .a) (x .b) (both (ltb (x .kind) 7) _ good-kind .1)
+
+    module _ {X : Type 0} (make : ℕ → EntryKind → ℕ → ℕ → (ℕ → X) → X) (other : X)
+        (in-parts : (q q′ : ℕ → X) → Rule gs l i (x .a) (x .b) κ → ((j : ℕ) → j < i → q j ≡ q′ j) → make i κ (x .a) (x .b) q ≡ make i κ (x .a) (x .b) q′) where
       abbrev made : List X
-      made = pass (λ i n q. make i (n .kind) (n .a) (n .b) q) other (entries p)
+      made = pass (λ i n q. make i (entryKind (n .kind)) (n .a) (n .b) q) other (entriesOf p)
 
-      made-of : getD made i other ≡ make i (x .kind) (x .a) (x .b) (λ j. getD made j other)
+      made-of : getD made i other ≡ make i κ (x .a) (x .b) (λ j. getD made j other)
       made-of =
-          let e : getD (entries p) i x ≡ x = entry-at p i x h in
-          let r = entry-rule in
-          let s = pass-at (λ i n q. make i (n .kind) (n .a) (n .b) q) other (entries p) i x (rw (length-entries p) h)
-          (rw e (λ q q′ same. in-parts i (x .kind) (x .a) (x .b) q q′ (λ k. same (x .a) (r .first k)) (λ k. same (x .b) (r .second k)))) in
+          let e : getD (entriesOf p) i x ≡ x = entry-at p i x h in
+          let s = pass-at (λ i n q. make i (entryKind (n .kind)) (n .a) (n .b) q) other (entriesOf p) i x (rw (length-entries p) h)
+          (rw e (λ q q′ same. in-parts q q′ entry-rule same)) in
           rw e at s
 
     -- the program of entry i, from those of its parts
-    pub program-at : (βs : List (Query 𝐁)) → program βs (entries p) i ≡ progOf βs (x .kind) (x .a) (x .b) (program βs (entries p))
-    unfolding programs
-    program-at βs = made-of (λ i. progOf βs) execute (λ i. program-parts βs)
+    pub program-at : (βs : List (Query 𝐁)) → program βs (entriesOf p) i ≡ progOf βs κ (x .a) (x .b) (program βs (entriesOf p))
+    unfolding program
+    program-at βs = made-of (λ i. progOf βs) execute (program-parts βs)
 
     -- the first move of entry i, from those of its parts
     pub move-at : (A : Agent) (βs : List (Query 𝐁)) (c : Config)
-        → getD (moves A βs c (entries p)) i none ≡ moveOf A βs c i (x .kind) (x .a) (x .b) (λ j. getD (moves A βs c (entries p)) j none)
-    unfolding moves
+        → firstMoveOf A βs c (entriesOf p) i ≡ moveOf A βs c i κ (x .a) (x .b) (λ j. firstMoveOf A βs c (entriesOf p) j)
+    unfolding firstMoveOf
     move-at A βs c = made-of (moveOf A βs c) none (move-parts A βs c)

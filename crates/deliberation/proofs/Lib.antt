@@ -1,5 +1,6 @@
 pub mod Cases
 pub mod Moves
+pub mod Named
 pub mod Good
 pub mod Room
 pub mod First

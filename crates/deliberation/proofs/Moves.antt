@@ -5,7 +5,7 @@ use mathlib.Core.Option.{Option, none, some}
 use Rattle.paper.specs.Transitions.{Choice}
 use Rattle.paper.proofs.Relation.{none≢some, some-inj}
 use Rattle.deliberation.specs.MetaTransitions.{idle, taking}
-use Rattle.deliberation.specs.FirstMove.{Move, takes, idles, followedBy, leftElseRight}
+use Rattle.deliberation.specs.FirstMove.{Move, byChoice, idles, followedBy, leftElseRight}
 
 module _ {R : Type 0} where
   -- a while has a move, whatever its condition says
@@ -37,11 +37,11 @@ module _ {R : Type 0} where
   followed-none f none e = refl
   followed-none f (some n) e = absurd (none≢some (sym e))
 
-  pub takes-some : (o : Option Choice) (r : R) (m : Move R) → takes o r ≡ some m
+  pub takes-some : (o : Option Choice) (r : R) (m : Move R) → byChoice o r ≡ some m
       → (k : Choice) × ((o ≡ some k) × (record { label = taking k; remaining = r } ≡ m))
   takes-some none r m e = absurd (none≢some e)
   takes-some (some k) r m e = (k, (refl, some-inj e))
 
-  pub takes-none : (o : Option Choice) (r : R) → takes o r ≡ none → o ≡ none
+  pub takes-none : (o : Option Choice) (r : R) → byChoice o r ≡ none → o ≡ none
   takes-none none r e = refl
   takes-none (some k) r e = absurd (none≢some (sym e))

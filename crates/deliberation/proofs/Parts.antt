@@ -10,7 +10,7 @@ use Rattle.paper.specs.Transitions.{Choice}
 use Rattle.paper.proofs.Relation.{none≢some, some-inj}
 use Rattle.deliberation.specs.Programs.{Prog, execute, apply, select, while_doing_od, _⨾_, _⊕_, Rest, E, still, _⨾′_}
 use Rattle.deliberation.specs.MetaTransitions.{Label, MetaStep, action-execution, rule-application, rule-selection, while-tt, while-ff, in-sequence, choice-left, choice-right}
-use Rattle.deliberation.specs.FirstMove.{Move, takes, idles, followedBy, leftElseRight, firstMove}
+use Rattle.deliberation.specs.FirstMove.{Move, byChoice, idles, followedBy, leftElseRight, firstMove}
 use Rattle.deliberation.proofs.Moves.{idles-holds, idles-fails, either-left}
 use Rattle.deliberation.specs.Theorems.{parts, partsOf, _≈_, NestingLaw}
 
@@ -21,7 +21,7 @@ module _ {R R′ : Type 0} (f : R → R′) where
   mapped none = none
   mapped (some m) = some (record { label = m .label; remaining = f (m .remaining) })
 
-  pub mapped-takes : (o : Option Choice) (r : R) → mapped (takes o r) ≡ takes o (f r)
+  pub mapped-takes : (o : Option Choice) (r : R) → mapped (byChoice o r) ≡ byChoice o (f r)
   mapped-takes none r = refl
   mapped-takes (some k) r = refl
 

@@ -4,24 +4,22 @@ use mathlib.Core.Logic.{⊎-elim}
 use mathlib.Core.Bool.{Bool, true, false}
 use mathlib.Core.List.{List, [], _∷_, _++_, List·Memᴰ, List·Memᴰ·not-nil, List·Memᴰ·cases-cons}
 use mathlib.Core.Option.{Option, none, some}
-use Prim.Native.Nat.{ℕ, zero, suc, _+_, _≤_, _<_}
+use Prim.Native.Nat.{ℕ, suc, _+_, _≤_, _<_}
 use native.Mathlib.Omega.{arith}
-use lib.ListN.{length, getD, length-append}
+use lib.ListN.{length, length-append}
 use Rattle.paper.specs.Language.{𝐁, Query, Agent, Config}
 use Rattle.paper.specs.Transitions.{Choice}
 use Rattle.paper.proofs.Relation.{some-inj}
 use Rattle.meaning.specs.declared.Layout.{Layout}
 use Rattle.meaning.specs.Card.{Bytes, condition}
 use Rattle.deliberation.specs.Programs.{notEmptyPlan, holds, 𝒲}
-use Rattle.deliberation.specs.FirstMove.{Move, takes, lowestAction, ifEnabled, idles, followedBy, leftElseRight}
-use Rattle.deliberation.specs.Entries.{entryCount, entries, programGood, moveOf, moves}
+use Rattle.deliberation.specs.Kinds.{EntryKind}
+use Rattle.deliberation.specs.FirstMove.{Move, byChoice, lowestAction, ifEnabled, idles, followedBy, leftElseRight}
+use Rattle.deliberation.specs.Entries.{entryCount, entriesOf, programGood, moveOf, firstMoveOf}
+use Rattle.deliberation.specs.Theorems.{EntryLaws, executes, applies, selects, while-plan, while-belief, does-both, does-one}
+use Rattle.deliberation.specs.Stacked.{Stacked, nothing, put}
 use Rattle.deliberation.proofs.Moves.{takes-some, idles-holds, idles-fails, followed-some, either-left}
-use Rattle.deliberation.proofs.Good.{Rule, from-lower, entry-rule, move-at}
-
--- each number, and how many stand behind it, come to at most k
-pub data Stacked (k : ℕ) : List ℕ → Type 0 where
-  nothing : Stacked k []
-  put : (n : ℕ) (ns : List ℕ) → n + length ns ≤ k → Stacked k ns → Stacked k (n ∷ ns)
+use Rattle.deliberation.proofs.Good.{from-lower, entry-rule, move-at}
 
 pub stacked-length : {k : ℕ} {ns : List ℕ} → Stacked k ns → length ns ≤ suc k
 stacked-length nothing = omega arith
@@ -41,7 +39,7 @@ stacked-append {rs = rs} (put n ns l s) h t = put n (ns ++ rs) (rw (length-appen
 abbrev Within : ℕ → Option (Move (List ℕ)) → Type 0
 Within k o = (m : Move (List ℕ)) → o ≡ some m → Stacked k (m .remaining)
 
-takes-within : (k : ℕ) (o : Option Choice) → Within k (takes o [])
+takes-within : (k : ℕ) (o : Option Choice) → Within k (byChoice o [])
 takes-within k o m e =
     let (c, (f, q)) = takes-some o [] m e in
     subst (λ (x : Move (List ℕ)). Stacked k (x .remaining)) q nothing
@@ -64,33 +62,25 @@ either-within i j k none u h l v w m e = weaker (omega arith) (w m e)
 either-within i j k (some n) u h l v w m e = weaker (omega arith) (v m (sym (either-left n u) ∙ e))
 
 module _ (A : Agent) (βs : List (Query 𝐁)) (s : Config) where
-  of-kind : {gs : List Bool} {l : Layout} (i k a b : ℕ) (q : ℕ → Option (Move (List ℕ))) → Rule gs l i k a b → ((j : ℕ) → j < i → Within j (q j)) → Within i (moveOf A βs s i k a b q)
-  of-kind i zero a b q r h = takes-within i (lowestAction A s)
-  of-kind i (suc zero) a b q r h = takes-within i (ifEnabled A s (Choice.revise a))
-  of-kind i (suc (suc zero)) a b q r h = takes-within i (ifEnabled A s (Choice.select a))
-  of-kind i (suc (suc (suc zero))) a b q r h =
-      let l = r .second (omega arith) in
-      idles-within i (𝒲 notEmptyPlan s) (b ∷ i ∷ []) (put b (i ∷ []) (omega arith) (put i [] (omega arith) nothing))
-  of-kind i (suc (suc (suc (suc zero)))) a b q r h =
-      let l = r .second (omega arith) in
+  of-kind : {n m : ℕ} {C : ℕ → Type 0} {i a b : ℕ} {κ : EntryKind} (q : ℕ → Option (Move (List ℕ))) → EntryLaws n m C i a b κ
+      → ((j : ℕ) → j < i → Within j (q j)) → Within i (moveOf A βs s i κ a b q)
+  of-kind {i = i} q executes h = takes-within i (lowestAction A s)
+  of-kind {i = i} {a = a} q (applies _) h = takes-within i (ifEnabled A s (Choice.revise a))
+  of-kind {i = i} {a = a} q (selects _) h = takes-within i (ifEnabled A s (Choice.select a))
+  of-kind {i = i} {b = b} q (while-plan l) h = idles-within i (𝒲 notEmptyPlan s) (b ∷ i ∷ []) (put b (i ∷ []) (omega arith) (put i [] (omega arith) nothing))
+  of-kind {i = i} {a = a} {b = b} q (while-belief _ l) h =
       idles-within i (𝒲 (holds (condition βs a)) s) (b ∷ i ∷ []) (put b (i ∷ []) (omega arith) (put i [] (omega arith) nothing))
-  of-kind i (suc (suc (suc (suc (suc zero))))) a b q r h =
-      let j = r .first (omega arith) in
-      followed-within a i b (q a) j (r .second (omega arith)) (h a j)
-  of-kind i (suc (suc (suc (suc (suc (suc zero)))))) a b q r h =
-      let j = r .first (omega arith) in
-      let l = r .second (omega arith) in
-      either-within a b i (q a) (q b) j l (h a j) (h b l)
-  of-kind i (suc (suc (suc (suc (suc (suc (suc k))))))) a b q r h = takes-within i (lowestAction A s)
+  of-kind {i = i} {a = a} {b = b} q (does-both j l) h = followed-within a i b (q a) j l (h a j)
+  of-kind {i = i} {a = a} {b = b} q (does-one j l) h = either-within a b i (q a) (q b) j l (h a j) (h b l)
 
   module _ (gs : List Bool) (l : Layout) (p : Bytes) (good : programGood gs l p ≡ true) where
     -- what remains of entry n, and the numbers behind it, are stacked as it was
-    pub entry-within : (i : ℕ) → i < entryCount p → Within i (getD (moves A βs s (entries p)) i none)
+    pub entry-within : (i : ℕ) → i < entryCount p → Within i (firstMoveOf A βs s (entriesOf p) i)
     entry-within i h =
-        from-lower (λ i. i < entryCount p → Within i (getD (moves A βs s (entries p)) i none))
-        (λ i lower h. rw (move-at gs l p good i h A βs s) (of-kind i _ _ _ _ (entry-rule gs l p good i h) (λ j k. lower j k (omega arith))))
+        from-lower (λ i. i < entryCount p → Within i (firstMoveOf A βs s (entriesOf p) i))
+        (λ i lower h. rw (move-at gs l p good i h A βs s) (of-kind _ (entry-rule gs l p good i h) (λ j k. lower j k (omega arith))))
         (suc i) i (omega arith) h
 
     pub move-within : (k n : ℕ) (ns : List ℕ) (m : Move (List ℕ)) → k < entryCount p → Stacked k (n ∷ ns)
-        → getD (moves A βs s (entries p)) n none ≡ some m → Stacked k (m .remaining ++ ns)
+        → firstMoveOf A βs s (entriesOf p) n ≡ some m → Stacked k (m .remaining ++ ns)
     move-within k n ns m h (put _ _ l t) e = stacked-append (entry-within n (omega arith) m e) l t

@@ -5,7 +5,7 @@ use mathlib.Core.List.{List, [], _∷_, _++_}
 use mathlib.Core.Option.{Option, none, some}
 use Prim.Native.Nat.{ℕ, zero, suc, _<_}
 use native.Mathlib.Omega.{arith}
-use lib.ListN.{length, getD}
+use lib.ListN.{length}
 use Rattle.paper.specs.Language.{𝐁, Query, Agent}
 use Rattle.paper.specs.Transitions.{Choice}
 use Rattle.runs.specs.Order.{State}
@@ -18,11 +18,12 @@ use Rattle.deliberation.specs.declared.DeliberationEnding.{DeliberationE
 use Rattle.deliberation.specs.Programs.{Prog, Rest, E, still}
 use Rattle.deliberation.specs.MetaTransitions.{Label, idle, taking, MetaStep}
 use Rattle.deliberation.specs.FirstMove.{Move, firstMove}
-use Rattle.deliberation.specs.Entries.{entryCount, entries, programGood, program, standing, moves}
-use Rattle.deliberation.specs.Deliberate.{Came, stuck, on, leads, came, Outcome, ended, oneMore, deliberate, deliberationEndingNumber}
+use Rattle.deliberation.specs.Entries.{entryCount, entriesOf, programGood, program, standing, firstMoveOf}
+use Rattle.deliberation.specs.Deliberate.{MoveResult, stuck, on, leads, moveResult, Outcome, ended, oneMore, deliberate, deliberationEndingNumber}
 use Rattle.deliberation.specs.Deliberate as Deliberate
 use Rattle.deliberation.specs.Theorems.{NoTransition, parts, partsOf, Goes, stays, goes, Followed, no-move, one-move, Overflows, EndsExactly}
-use Rattle.deliberation.proofs.Room.{Stacked, put, move-within}
+use Rattle.deliberation.specs.Stacked.{Stacked, put}
+use Rattle.deliberation.proofs.Room.{move-within}
 use Rattle.deliberation.proofs.First.{is-one, none-exactly}
 use Rattle.deliberation.proofs.Parts.{mapped, mapped-none, mapped-some, some-parts, no-parts, still-inj, still≢E}
 use Rattle.deliberation.proofs.Standing.{stood, stood-next, numbers-same}
@@ -44,8 +45,8 @@ module _ (A : Agent) (s : State) (k : Choice) (ns : List ℕ) where
   leads-to s′ e = rw (e, leads)
 
 module _ (A : Agent) (βs : List (Query 𝐁)) (es : List Node) (b n : ℕ) (ns : List ℕ) (s : State) where
-  abbrev what-comes : Came
-  what-comes = came A s (getD (moves A βs (s .mental) es) n none) ns
+  abbrev what-comes : MoveResult
+  what-comes = moveResult A s (firstMoveOf A βs (s .mental) es n) ns
 
   pub run-stuck : what-comes ≡ stuck → deliberate A βs es (suc b) (n ∷ ns) s ≡ ended DeliberationEnding.Stuck (n ∷ ns) s
   unfolding deliberate
@@ -63,13 +64,13 @@ module _ (A : Agent) (βs : List (Query 𝐁)) (es : List Node) (b n : ℕ) (ns 
 
 module _ (gs : List Bool) (l : Layout) (p : Bytes) (good : programGood gs l p ≡ true) (A : Agent) (βs : List (Query 𝐁)) (j : ℕ) (known : j < entryCount p) where
   -- what the first move of a program comes to, where it then goes on with numbers
-  pub data Comes (P : Prog) (s : State) : Came → Type 0 where
+  pub data Comes (P : Prog) (s : State) : MoveResult → Type 0 where
     no-move-there : NoTransition A P (s .mental) → Comes P s stuck
     does-not-fit : Overflows A s P → Comes P s Deliberate.too-long
     goes-on : (m : Move Rest) (ns : List ℕ) (s′ : State) → firstMove A (s .mental) P ≡ some m → Goes A s (m .label) s′
-        → partsOf (m .remaining) ≡ stood βs (entries p) ns → Stacked j ns → Comes P s (on ns s′)
+        → partsOf (m .remaining) ≡ stood βs (entriesOf p) ns → Stacked j ns → Comes P s (on ns s′)
 
-  module _ (P : Prog) (s : State) (m : Move Rest) (f : firstMove A (s .mental) P ≡ some m) (ns : List ℕ) (q : partsOf (m .remaining) ≡ stood βs (entries p) ns)
+  module _ (P : Prog) (s : State) (m : Move Rest) (f : firstMove A (s .mental) P ≡ some m) (ns : List ℕ) (q : partsOf (m .remaining) ≡ stood βs (entriesOf p) ns)
       (room : Stacked j ns) where
     pub by-step : (k : Choice) → m .label ≡ taking k → {r : Reached} → step A s k ≡ r → StepsTo A s k r → Comes P s (leads A s (taking k) ns)
     by-step k x e (none-there h) =
@@ -89,12 +90,12 @@ module _ (gs : List Bool) (l : Layout) (p : Bytes) (good : programGood gs l p �
   first-known : {n : ℕ} {ns : List ℕ} → Stacked j (n ∷ ns) → n < entryCount p
   first-known (put _ _ h t) = omega arith
 
-  comes : (P : Prog) (n : ℕ) (ns : List ℕ) (s : State) → Stacked j (n ∷ ns) → parts P ≡ stood βs (entries p) (n ∷ ns)
-      → Comes P s (came A s (getD (moves A βs (s .mental) (entries p)) n none) ns)
+  comes : (P : Prog) (n : ℕ) (ns : List ℕ) (s : State) → Stacked j (n ∷ ns) → parts P ≡ stood βs (entriesOf p) (n ∷ ns)
+      → Comes P s (moveResult A s (firstMoveOf A βs (s .mental) (entriesOf p) n) ns)
   comes P n ns s t e =
-      go (getD (moves A βs (s .mental) (entries p)) n none) refl (numbers-same gs l p good A βs (s .mental) P n ns (first-known t) e)
+      go (firstMoveOf A βs (s .mental) (entriesOf p) n) refl (numbers-same gs l p good A βs (s .mental) P n ns (first-known t) e)
     where
-      go : (o : Option (Move (List ℕ))) → getD (moves A βs (s .mental) (entries p)) n none ≡ o → mapped partsOf (firstMove A (s .mental) P) ≡ mapped (λ ms. stood βs (entries p) (ms ++ ns)) o → Comes P s (came A s o ns)
+      go : (o : Option (Move (List ℕ))) → firstMoveOf A βs (s .mental) (entriesOf p) n ≡ o → mapped partsOf (firstMove A (s .mental) P) ≡ mapped (λ ms. stood βs (entriesOf p) (ms ++ ns)) o → Comes P s (moveResult A s o ns)
       go none r q = no-move-there (none-exactly A (s .mental) P .0 (mapped-none partsOf (firstMove A (s .mental) P) q))
       go (some m) r q =
           let (m′, (f, (x, w))) = mapped-some partsOf (firstMove A (s .mental) P) _ q in
@@ -161,28 +162,28 @@ module _ (gs : List Bool) (l : Layout) (p : Bytes) (good : programGood gs l p �
     pub labels : List Label
     pub rest : Rest
     pub followed : Followed A R s labels rest (o .state)
-    pub stands : partsOf rest ≡ stood βs (entries p) (o .remaining)
+    pub stands : partsOf rest ≡ stood βs (entriesOf p) (o .remaining)
     pub counted : o .count ≡ length labels
     pub stacked : Stacked k (o .remaining)
     pub because : Because A b (o .count) rest (o .state) (o .ending)
 
-  ends-here : (b : ℕ) (e : DeliberationEnding) (R : Rest) (ns : List ℕ) (s : State) → partsOf R ≡ stood βs (entries p) ns → Stacked k ns
+  ends-here : (b : ℕ) (e : DeliberationEnding) (R : Rest) (ns : List ℕ) (s : State) → partsOf R ≡ stood βs (entriesOf p) ns → Stacked k ns
       → Because A b 0 R s e → Walked b R s (ended e ns s)
   ends-here b e R ns s q t w = record { labels = []; rest = R; followed = no-move; stands = q; counted = refl; stacked = t; because = w }
 
-  some-stood : (n : ℕ) (ns : List ℕ) → [] ≡ stood βs (entries p) (n ∷ ns) → ⊥
+  some-stood : (n : ℕ) (ns : List ℕ) → [] ≡ stood βs (entriesOf p) (n ∷ ns) → ⊥
   some-stood n ns e =
-      let r = some-parts (program βs (entries p) n) in
-      let q : [] ≡ (r .front ∷ r .behind) ++ stood βs (entries p) ns = e ∙ stood-next βs (entries p) n ns ∙ ap (λ Ps. Ps ++ stood βs (entries p) ns) (r .are) in
+      let r = some-parts (program βs (entriesOf p) n) in
+      let q : [] ≡ (r .front ∷ r .behind) ++ stood βs (entriesOf p) ns = e ∙ stood-next βs (entriesOf p) n ns ∙ ap (λ Ps. Ps ++ stood βs (entriesOf p) ns) (r .are) in
       let z : _≡_ {A = ℕ} 0 1 = cc in
       omega arith
 
-  nothing-stood : (P : Prog) → parts P ≡ stood βs (entries p) [] → ⊥
+  nothing-stood : (P : Prog) → parts P ≡ stood βs (entriesOf p) [] → ⊥
   unfolding standing
   nothing-stood P e = still≢E (no-parts (still P) e)
 
-  pub walked : (b : ℕ) (R : Rest) (ns : List ℕ) (s : State) → partsOf R ≡ stood βs (entries p) ns → Stacked k ns
-      → Walked b R s (deliberate A βs (entries p) b ns s)
+  pub walked : (b : ℕ) (R : Rest) (ns : List ℕ) (s : State) → partsOf R ≡ stood βs (entriesOf p) ns → Stacked k ns
+      → Walked b R s (deliberate A βs (entriesOf p) b ns s)
   unfolding deliberate
   walked zero R ns s q t = ends-here zero DeliberationEnding.Spent R ns s q t (is-spent refl)
   walked (suc b) E [] s q t = ends-here (suc b) DeliberationEnding.Finished E [] s q t (is-finished (omega arith))
@@ -190,16 +191,16 @@ module _ (gs : List Bool) (l : Layout) (p : Bytes) (good : programGood gs l p �
   walked (suc b) (still P) [] s q t = absurd (nothing-stood P q)
   walked (suc b) (still P) (n ∷ ns) s q t = go refl (comes gs l p good A βs k known P n ns s t q) (walked b)
     where
-      go : {c : Came} → came A s (getD (moves A βs (s .mental) (entries p)) n none) ns ≡ c → Comes gs l p good A βs k known P s c
-          → ((R : Rest) (ns : List ℕ) (s : State) → partsOf R ≡ stood βs (entries p) ns → Stacked k ns → Walked b R s (deliberate A βs (entries p) b ns s))
-          → Walked (suc b) (still P) s (deliberate A βs (entries p) (suc b) (n ∷ ns) s)
+      go : {c : MoveResult} → moveResult A s (firstMoveOf A βs (s .mental) (entriesOf p) n) ns ≡ c → Comes gs l p good A βs k known P s c
+          → ((R : Rest) (ns : List ℕ) (s : State) → partsOf R ≡ stood βs (entriesOf p) ns → Stacked k ns → Walked b R s (deliberate A βs (entriesOf p) b ns s))
+          → Walked (suc b) (still P) s (deliberate A βs (entriesOf p) (suc b) (n ∷ ns) s)
       go e (no-move-there h) ih =
-          rw (run-stuck A βs (entries p) b n ns s e) (ends-here (suc b) DeliberationEnding.Stuck (still P) (n ∷ ns) s q t (is-stuck (omega arith) h))
+          rw (run-stuck A βs (entriesOf p) b n ns s e) (ends-here (suc b) DeliberationEnding.Stuck (still P) (n ∷ ns) s q t (is-stuck (omega arith) h))
       go e (does-not-fit h) ih =
-          rw (run-full A βs (entries p) b n ns s e) (ends-here (suc b) DeliberationEnding.Full (still P) (n ∷ ns) s q t (is-full (omega arith) h))
+          rw (run-full A βs (entriesOf p) b n ns s e) (ends-here (suc b) DeliberationEnding.Full (still P) (n ∷ ns) s q t (is-full (omega arith) h))
       go e (goes-on m ms s′ f g w room) ih =
           let r = ih (m .remaining) ms s′ w room in
-          rw (run-on A βs (entries p) b n ns s ms s′ e)
+          rw (run-on A βs (entriesOf p) b n ns s ms s′ e)
           (record {
             labels = m .label ∷ r .labels;
             rest = r .rest;

@@ -4,9 +4,8 @@ use mathlib.Core.Logic.{_↔_}
 use mathlib.Core.Bool.{Bool, true}
 use mathlib.Core.List.{List, [], _∷_, _++_, append-nil, append-assoc}
 use mathlib.Core.Option.{Option, none, some}
-use Prim.Native.Nat.{ℕ, zero, suc, _<_}
+use Prim.Native.Nat.{ℕ, suc, _<_}
 use native.Mathlib.Omega.{arith}
-use lib.ListN.{getD}
 use Rattle.paper.specs.Language.{𝐁, Query, Agent, Config}
 use Rattle.paper.specs.Transitions.{Choice}
 use Rattle.meaning.specs.declared.Layout.{Layout}
@@ -15,10 +14,11 @@ use Rattle.meaning.specs.Card.{Bytes, layout, agent, conditions, condition}
 use Rattle.meaning.specs.Refusals.{containing}
 use Rattle.deliberation.specs.Programs.{Bexp, notEmptyPlan, holds, Prog, execute, apply, select, while_doing_od, _⨾_, _⊕_, Rest, E, still, 𝒲}
 use Rattle.deliberation.specs.MetaTransitions.{MetaStep}
-use Rattle.deliberation.specs.FirstMove.{Move, takes, lowestAction, ifEnabled, idles, followedBy, leftElseRight, firstMove}
-use Rattle.deliberation.specs.Entries.{entryAt, entryCount, entries, programGood, progOf, program, standing, moveOf, moves}
-use Rattle.deliberation.specs.Theorems.{NoTransition, parts, partsOf, _≈_, standFor, moveAt, NumbersLaw}
-use Rattle.deliberation.proofs.Good.{Rule, from-lower, entry-rule, program-at, move-at}
+use Rattle.deliberation.specs.Kinds.{EntryKind}
+use Rattle.deliberation.specs.FirstMove.{Move, byChoice, lowestAction, ifEnabled, idles, followedBy, leftElseRight, firstMove}
+use Rattle.deliberation.specs.Entries.{entryCount, entriesOf, programGood, progOf, program, standing, moveOf, firstMoveOf, moveAt}
+use Rattle.deliberation.specs.Theorems.{NoTransition, parts, partsOf, _≈_, standFor, NumbersLaw, EntryLaws, executes, applies, selects, while-plan, while-belief, does-both, does-one}
+use Rattle.deliberation.proofs.Good.{from-lower, entry-rule, program-at, move-at}
 use Rattle.deliberation.proofs.First.{is-one, none-exactly}
 use Rattle.deliberation.proofs.Parts.{mapped, mapped-takes, mapped-idles, mapped-followed, mapped-either, mapped-none, mapped-some, mapped-twice, mapped-same, sequence, first-in}
 
@@ -56,7 +56,7 @@ module _ (βs : List (Query 𝐁)) (es : List Node) where
     abbrev Same : Prog → Option (Move (List ℕ)) → Type 0
     Same P o = mapped partsOf (firstMove A s P) ≡ mapped stood o
 
-    same-takes : (P : Prog) (o : Option Choice) → firstMove A s P ≡ takes o E → Same P (takes o [])
+    same-takes : (P : Prog) (o : Option Choice) → firstMove A s P ≡ byChoice o E → Same P (byChoice o [])
     unfolding standing
     same-takes P o e = ap (mapped partsOf) e ∙ mapped-takes partsOf o E ∙ sym (mapped-takes stood o [])
 
@@ -84,42 +84,40 @@ module _ (βs : List (Query 𝐁)) (es : List Node) where
         mapped-either partsOf (firstMove A s (program βs es a)) (firstMove A s (program βs es b)) ∙ ap₂ leftElseRight h k
         ∙ sym (mapped-either stood o u)
 
-    of-kind : {gs : List Bool} {l : Layout} (i k a b : ℕ) (q : ℕ → Option (Move (List ℕ))) → Rule gs l i k a b → program βs es i ≡ progOf βs k a b (program βs es)
-        → ((j : ℕ) → j < i → Same (program βs es j) (q j)) → Same (progOf βs k a b (program βs es)) (moveOf A βs s i k a b q)
+    of-kind : {n m : ℕ} {C : ℕ → Type 0} {i a b : ℕ} {κ : EntryKind} (q : ℕ → Option (Move (List ℕ))) → EntryLaws n m C i a b κ
+        → program βs es i ≡ progOf βs κ a b (program βs es) → ((j : ℕ) → j < i → Same (program βs es j) (q j))
+        → Same (progOf βs κ a b (program βs es)) (moveOf A βs s i κ a b q)
     unfolding firstMove
-    of-kind i zero a b q r e h = same-takes execute (lowestAction A s) refl
-    of-kind i (suc zero) a b q r e h = same-takes (apply a) (ifEnabled A s (Choice.revise a)) refl
-    of-kind i (suc (suc zero)) a b q r e h = same-takes (select a) (ifEnabled A s (Choice.select a)) refl
-    of-kind i (suc (suc (suc zero))) a b q r e h = same-while i b notEmptyPlan e
-    of-kind i (suc (suc (suc (suc zero)))) a b q r e h = same-while i b (holds (condition βs a)) e
-    of-kind i (suc (suc (suc (suc (suc zero))))) a b q r e h = same-sequence a b (q a) (h a (r .first (omega arith)))
-    of-kind i (suc (suc (suc (suc (suc (suc zero)))))) a b q r e h =
-        same-choice a b (q a) (q b) (h a (r .first (omega arith))) (h b (r .second (omega arith)))
-    of-kind i (suc (suc (suc (suc (suc (suc (suc k))))))) a b q r e h = same-takes execute (lowestAction A s) refl
+    of-kind q executes e h = same-takes execute (lowestAction A s) refl
+    of-kind {a = a} q (applies _) e h = same-takes (apply a) (ifEnabled A s (Choice.revise a)) refl
+    of-kind {a = a} q (selects _) e h = same-takes (select a) (ifEnabled A s (Choice.select a)) refl
+    of-kind {i = i} {b = b} q (while-plan _) e h = same-while i b notEmptyPlan e
+    of-kind {i = i} {a = a} {b = b} q (while-belief _ _) e h = same-while i b (holds (condition βs a)) e
+    of-kind {a = a} {b = b} q (does-both j l) e h = same-sequence a b (q a) (h a j)
+    of-kind {a = a} {b = b} q (does-one j l) e h = same-choice a b (q a) (q b) (h a j) (h b l)
 
 module _ (gs : List Bool) (l : Layout) (p : Bytes) (good : programGood gs l p ≡ true) (A : Agent) (βs : List (Query 𝐁)) (s : Config) where
   -- the first move of an entry is that of its program
-  entry-same : (i : ℕ) → i < entryCount p → Same βs (entries p) A s (program βs (entries p) i) (getD (moves A βs s (entries p)) i none)
+  entry-same : (i : ℕ) → i < entryCount p → Same βs (entriesOf p) A s (program βs (entriesOf p) i) (firstMoveOf A βs s (entriesOf p) i)
   entry-same i h =
-      from-lower (λ i. i < entryCount p → Same βs (entries p) A s (program βs (entries p) i) (getD (moves A βs s (entries p)) i none))
+      from-lower (λ i. i < entryCount p → Same βs (entriesOf p) A s (program βs (entriesOf p) i) (firstMoveOf A βs s (entriesOf p) i))
       (λ i lower h. (
       let e = program-at gs l p good i h βs in
-      let x = entryAt p i in
-      subst (λ P. Same βs (entries p) A s P (getD (moves A βs s (entries p)) i none)) (sym e)
+      subst (λ P. Same βs (entriesOf p) A s P (firstMoveOf A βs s (entriesOf p) i)) (sym e)
       (rw (move-at gs l p good i h A βs s)
-      (of-kind βs (entries p) A s i (x .kind) (x .a) (x .b) (λ j. getD (moves A βs s (entries p)) j none) (entry-rule gs l p good i h) e (λ j k. lower j k (omega arith))))))
+      (of-kind βs (entriesOf p) A s (λ j. firstMoveOf A βs s (entriesOf p) j) (entry-rule gs l p good i h) e (λ j k. lower j k (omega arith))))))
       (suc i) i (omega arith) h
 
   -- the first move of numbers is that of any program which they stand for
-  pub numbers-same : (P : Prog) (n : ℕ) (ns : List ℕ) → n < entryCount p → parts P ≡ stood βs (entries p) (n ∷ ns)
-      → mapped partsOf (firstMove A s P) ≡ mapped (λ ms. stood βs (entries p) (ms ++ ns)) (getD (moves A βs s (entries p)) n none)
+  pub numbers-same : (P : Prog) (n : ℕ) (ns : List ℕ) → n < entryCount p → parts P ≡ stood βs (entriesOf p) (n ∷ ns)
+      → mapped partsOf (firstMove A s P) ≡ mapped (λ ms. stood βs (entriesOf p) (ms ++ ns)) (firstMoveOf A βs s (entriesOf p) n)
   numbers-same P n ns h e =
-      let Q = program βs (entries p) n in
-      let Rs = stood βs (entries p) ns in
-      let o = getD (moves A βs s (entries p)) n none in
-      first-in A s P Q Rs (e ∙ stood-next βs (entries p) n ns) ∙ sym (mapped-twice (λ Ps. Ps ++ Rs) partsOf (firstMove A s Q))
-      ∙ ap (mapped (λ Ps. Ps ++ Rs)) (entry-same n h) ∙ mapped-twice (λ Ps. Ps ++ Rs) (stood βs (entries p)) o
-      ∙ mapped-same _ _ (λ ms. sym (stood-append βs (entries p) ms ns)) o
+      let Q = program βs (entriesOf p) n in
+      let Rs = stood βs (entriesOf p) ns in
+      let o = firstMoveOf A βs s (entriesOf p) n in
+      first-in A s P Q Rs (e ∙ stood-next βs (entriesOf p) n ns) ∙ sym (mapped-twice (λ Ps. Ps ++ Rs) partsOf (firstMove A s Q))
+      ∙ ap (mapped (λ Ps. Ps ++ Rs)) (entry-same n h) ∙ mapped-twice (λ Ps. Ps ++ Rs) (stood βs (entriesOf p)) o
+      ∙ mapped-same _ _ (λ ms. sym (stood-append βs (entriesOf p) ms ns)) o
 
 -- ---- the laws of numbers
 
@@ -128,26 +126,27 @@ module _ (b p : Bytes) (good : programGood (containing 2 (layout b) b) (layout b
   A = agent b
 
   abbrev stands : Prog
-  stands = then (program (conditions 𝐁 (layout b) b) (entries p) n) (standFor b p ns)
+  stands = then (program (conditions 𝐁 (layout b) b) (entriesOf p) n) (standFor b p ns)
 
   pub standing-for : standFor b p (n ∷ ns) ≡ still stands
   unfolding standing
   standing-for = refl
 
-  same : mapped partsOf (firstMove A s stands) ≡ mapped (λ ms. partsOf (standFor b p (ms ++ ns))) (moveAt b p s n)
+  same : mapped partsOf (firstMove A s stands) ≡ mapped (λ ms. partsOf (standFor b p (ms ++ ns))) (moveAt (layout b) b p s n)
+  unfolding agent
   same = numbers-same (containing 2 (layout b) b) (layout b) p good A (conditions 𝐁 (layout b) b) s stands n ns h (sym (ap partsOf standing-for))
 
-  one : (m : Move (List ℕ)) → moveAt b p s n ≡ some m
+  one : (m : Move (List ℕ)) → moveAt (layout b) b p s n ≡ some m
       → (P′ : Rest) × ((s′ : Config) × (MetaStep A stands s (m .label) P′ s′ × (P′ ≈ standFor b p (m .remaining ++ ns))))
   one m e =
       let (m′, (f, (x, l))) = mapped-some partsOf (firstMove A s stands) _ (same ∙ ap (mapped (λ ms. partsOf (standFor b p (ms ++ ns)))) e) in
       let (s′, t) = is-one A s stands m′ f in
       (m′ .remaining, (s′, (subst (λ y. MetaStep A stands s y (m′ .remaining) s′) x t, l)))
 
-  none-there : (moveAt b p s n ≡ none) ↔ NoTransition A stands s
+  none-there : (moveAt (layout b) b p s n ≡ none) ↔ NoTransition A stands s
   none-there = (
     λ e. none-exactly A s stands .0 (mapped-none partsOf (firstMove A s stands) (same ∙ ap (mapped (λ ms. partsOf (standFor b p (ms ++ ns)))) e)),
-    λ none-here. mapped-none (λ ms. partsOf (standFor b p (ms ++ ns))) (moveAt b p s n) (sym same ∙ ap (mapped partsOf) (none-exactly A s stands .1 none-here)),
+    λ none-here. mapped-none (λ ms. partsOf (standFor b p (ms ++ ns))) (moveAt (layout b) b p s n) (sym same ∙ ap (mapped partsOf) (none-exactly A s stands .1 none-here)),
   )
 
 pub numbers-law : NumbersLaw

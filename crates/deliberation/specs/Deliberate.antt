@@ -2,7 +2,7 @@
 use mathlib.Core.List.{List, [], _∷_, _++_}
 use mathlib.Core.Option.{Option, none, some}
 use Prim.Native.Nat.{ℕ, zero, suc, _-_}
-use lib.ListN.{length, getD, replicate}
+use lib.ListN.{length, replicate}
 use Rattle.paper.specs.Language.{𝐁, Query, Agent}
 use Rattle.runs.specs.Order.{State}
 use Rattle.runs.specs.Step.{nothing, full, to, step}
@@ -16,18 +16,18 @@ use Rattle.deliberation.specs.declared.Remaining.{Remaining}
 use Rattle.deliberation.specs.declared.Deliberated.{Deliberated}
 use Rattle.deliberation.specs.MetaTransitions.{Label, idle, taking}
 use Rattle.deliberation.specs.FirstMove.{Move}
-use Rattle.deliberation.specs.Entries.{entryCount, entries, moves, deliberateAnswer}
+use Rattle.deliberation.specs.Entries.{entryCount, entriesOf, deliberateAnswer, firstMoveOf}
 
 -- ---- a move
 
 -- What a move comes to: there is none; the plan that it leaves does not fit; or it leads to a state, with what then remains.
-pub data Came : Type 0 where
-  stuck too-long : Came
-  on : List ℕ → State → Came
+pub data MoveResult : Type 0 where
+  stuck too-long : MoveResult
+  on : List ℕ → State → MoveResult
 
 -- 02, Wish 6: "idle moves, which leave the whole configuration as it is, phase and finished count too"; any other is a
 -- transition as any other: 00, demand 2: "exactly if it is such a transition and its plan fits". ns then remains.
-unfoldable pub leads : Agent → State → Label → List ℕ → Came
+unfoldable pub leads : Agent → State → Label → List ℕ → MoveResult
 leads A s idle ns = on ns s
 leads A s (taking k) ns = elim (step A s k) [
   | nothing ↦ stuck
@@ -36,9 +36,9 @@ leads A s (taking k) ns = elim (step A s k) [
 ]
 
 -- The same of a first move, if there is one; rs stands behind the entry that moves.
-abbrev pub came : Agent → State → Option (Move (List ℕ)) → List ℕ → Came
-came A s none rs = stuck
-came A s (some m) rs = leads A s (m .label) (m .remaining ++ rs)
+abbrev pub moveResult : Agent → State → Option (Move (List ℕ)) → List ℕ → MoveResult
+moveResult A s none rs = stuck
+moveResult A s (some m) rs = leads A s (m .label) (m .remaining ++ rs)
 
 -- ---- a run of moves
 
@@ -64,7 +64,7 @@ oneMore o = record { state = o .state; count = suc (o .count); ending = o .endin
 unfoldable pub deliberate : Agent → List (Query 𝐁) → List Node → ℕ → List ℕ → State → Outcome
 deliberate A βs es zero ns s = ended DeliberationEnding.Spent ns s
 deliberate A βs es (suc budget) [] s = ended DeliberationEnding.Finished [] s
-deliberate A βs es (suc budget) (n ∷ ns) s = elim (came A s (getD (moves A βs (s .mental) es) n none) ns) [
+deliberate A βs es (suc budget) (n ∷ ns) s = elim (moveResult A s (firstMoveOf A βs (s .mental) es n) ns) [
   | stuck ↦ ended DeliberationEnding.Stuck (n ∷ ns) s
   | too-long ↦ ended DeliberationEnding.Full (n ∷ ns) s
   | on ns′ s′ ↦ oneMore (deliberate A βs es budget ns′ s′)
@@ -95,7 +95,7 @@ whole p = (entryCount p - 1) ∷ []
 -- run does (docs/DECISIONS.md, "What a refused run says beside its number").
 unfoldable pub deliberates : Bytes → Bytes → Configuration → ℕ → Deliberated
 deliberates b p c budget = elim (deliberateAnswer b p c) [
-  | Done ↦ deliberated (deliberate (agent b) (conditions 𝐁 (layout b) b) (entries p) budget (whole p) (stateOf c))
+  | Done ↦ deliberated (deliberate (agent b) (conditions 𝐁 (layout b) b) (entriesOf p) budget (whole p) (stateOf c))
   | Refused r ↦
       record { answer = Refused r; count = 0; ending = DeliberationEnding.Spent; configuration = c; remaining = remainingOf [] }
 ]

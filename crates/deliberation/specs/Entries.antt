@@ -1,8 +1,8 @@
 -- A program's bytes: its entries, when they are refused (row 19), the programs that they stand for, and their first moves.
-use mathlib.Core.Bool.{Bool, false, not, _&&_}
+use mathlib.Core.Bool.{Bool, not, _&&_}
 use mathlib.Core.List.{List, [], _∷_, _++_, map}
 use mathlib.Core.Option.{Option, none}
-use Prim.Native.Nat.{ℕ, zero, suc, _+_, _*_, _/_, _%_}
+use Prim.Native.Nat.{ℕ, _*_, _/_, _%_}
 use lib.Dec.{ltb, eqb}
 use lib.ListN.{length, getD}
 use Rattle.paper.specs.Language.{𝐁, Query, Agent, Config}
@@ -13,24 +13,25 @@ use Rattle.meaning.specs.declared.Answer.{Answer}
 use Rattle.meaning.specs.declared.Layout.{Layout}
 use Rattle.meaning.specs.declared.Node.{Node}
 use Rattle.meaning.specs.declared.Configuration.{Configuration}
-use Rattle.meaning.specs.Card.{Bytes, byte, layout, pass, condition}
+use Rattle.meaning.specs.Card.{Bytes, nodeFrom, layout, pass, condition, conditions, agentFor}
 use Rattle.meaning.specs.Refusals.{Row, _given-when_, firstGiven, andThen, every, within, containing, conditionGood, cardAnswer, configurationTable}
 use Rattle.deliberation.specs.Programs.{notEmptyPlan, holds, Prog, execute, apply, select, while_doing_od, _⨾_, _⊕_, Rest, E, still, 𝒲}
-use Rattle.deliberation.specs.FirstMove.{Move, takes, lowestAction, ifEnabled, idles, followedBy, leftElseRight}
+use Rattle.deliberation.specs.Kinds.{EntryKind, Execute, Apply, Select, WhilePlan, WhileBelief, Then, Or, entryKind}
+use Rattle.deliberation.specs.FirstMove.{Move, byChoice, lowestAction, ifEnabled, idles, followedBy, leftElseRight}
 
 -- ---- the entries
 
--- 02, Wish 6: "A program is 1 to 128 entries shaped like nodes": 01, "The card, edition 1": "Node, 4 bytes: kind, a, b, 0."
-unfoldable pub entryAt : Bytes → ℕ → Node
-entryAt p i = record { kind = byte p (4 * i); a = byte p (4 * i + 1); b = byte p (4 * i + 2); zero = byte p (4 * i + 3) }
+-- 02, Wish 6: "A program is 1 to 128 entries shaped like nodes": entry i of a program.
+unfoldable pub entryOf : Bytes → ℕ → Node
+entryOf p i = nodeFrom p (4 * i)
 
 -- How many entries there are.
 abbrev pub entryCount : Bytes → ℕ
 entryCount p = length p / 4
 
 -- The entries in their order.
-unfoldable pub entries : Bytes → List Node
-entries p = map (entryAt p) (numbers 0 (entryCount p))
+unfoldable pub entriesOf : Bytes → List Node
+entriesOf p = map (entryOf p) (numbers 0 (entryCount p))
 
 -- ---- row 19
 
@@ -38,26 +39,24 @@ entries p = map (entryAt p) (numbers 0 (entryCount p))
 abbrev pub lengthGood : ℕ → Bool
 lengthGood n = within 1 128 (n / 4) && eqb (n % 4) 0
 
--- Entry i of a program for a card: 02, Wish 6: "0 execute, 1 apply a, 2 select a, 3 while the plan is not empty do b, 4 while
--- belief condition a holds do b, 5 a then b, 6 a or b; unused bytes are 0, part numbers are lower than their own."; "naming an
--- unknown rule or node". gs tells the nodes that contain a goal atom: such a node is no belief condition.
-abbrev pub kindGood : List Bool → Layout → ℕ → ℕ → ℕ → ℕ → Bool
-kindGood gs l i zero a b = eqb a 0 && eqb b 0
-kindGood gs l i (suc zero) a b = ltb a (l .revisions .count) && eqb b 0
-kindGood gs l i (suc (suc zero)) a b = ltb a (l .selections .count) && eqb b 0
-kindGood gs l i (suc (suc (suc zero))) a b = eqb a 0 && ltb b i
-kindGood gs l i (suc (suc (suc (suc zero)))) a b = conditionGood l gs a && ltb b i
-kindGood gs l i (suc (suc (suc (suc (suc zero))))) a b = ltb a i && ltb b i
-kindGood gs l i (suc (suc (suc (suc (suc (suc zero)))))) a b = ltb a i && ltb b i
-kindGood gs l i (suc (suc (suc (suc (suc (suc (suc k))))))) a b = false
+-- Entry i of a program for a card, by its kind: 02, Wish 6: "unused bytes are 0, part numbers are lower than their own."; "naming
+-- an unknown rule or node". gs tells the nodes that contain a goal atom: such a node is no belief condition.
+abbrev pub kindGood : List Bool → Layout → ℕ → EntryKind → ℕ → ℕ → Bool
+kindGood gs l i Execute a b = eqb a 0 && eqb b 0
+kindGood gs l i Apply a b = ltb a (l .revisions .count) && eqb b 0
+kindGood gs l i Select a b = ltb a (l .selections .count) && eqb b 0
+kindGood gs l i WhilePlan a b = eqb a 0 && ltb b i
+kindGood gs l i WhileBelief a b = conditionGood l gs a && ltb b i
+kindGood gs l i Then a b = ltb a i && ltb b i
+kindGood gs l i Or a b = ltb a i && ltb b i
 
--- The same with the fourth byte: 02, Wish 6: "unused bytes are 0".
+-- The same with its kind, one of the seven, and the fourth byte: 02, Wish 6: "unused bytes are 0".
 abbrev pub entryGood : List Bool → Layout → ℕ → Node → Bool
-entryGood gs l i e = kindGood gs l i (e .kind) (e .a) (e .b) && eqb (e .zero) 0
+entryGood gs l i e = (ltb (e .kind) 7 && kindGood gs l i (entryKind (e .kind)) (e .a) (e .b)) && eqb (e .zero) 0
 
 -- Not 02, Wish 6: "19 a program breaking these rules or naming an unknown rule or node", of every entry, used or not.
 unfoldable pub programGood : List Bool → Layout → Bytes → Bool
-programGood gs l p = lengthGood (length p) && every (entryCount p) (λ i. entryGood gs l i (entryAt p i))
+programGood gs l p = lengthGood (length p) && every (entryCount p) (λ i. entryGood gs l i (entryOf p i))
 
 -- 02, Wish 6: "19 a program breaking these rules"; b is the card.
 unfoldable pub programTable : Bytes → List (Row Bytes)
@@ -69,26 +68,20 @@ deliberateAnswer b p c = andThen (cardAnswer b) (andThen (firstGiven (programTab
 
 -- ---- what the entries stand for
 
--- The program of an entry, from those of its parts: 02, Wish 6: "0 execute, 1 apply a, 2 select a, 3 while the plan is not empty
--- do b, 4 while belief condition a holds do b, 5 a then b, 6 a or b". βs are the conditions of the card's nodes. A kind that there
--- is not is read as execute.
-abbrev pub progOf : List (Query 𝐁) → ℕ → ℕ → ℕ → (ℕ → Prog) → Prog
-progOf βs zero a b prog = execute
-progOf βs (suc zero) a b prog = apply a
-progOf βs (suc (suc zero)) a b prog = select a
-progOf βs (suc (suc (suc zero))) a b prog = while notEmptyPlan doing prog b od
-progOf βs (suc (suc (suc (suc zero)))) a b prog = while holds (condition βs a) doing prog b od
-progOf βs (suc (suc (suc (suc (suc zero))))) a b prog = prog a ⨾ prog b
-progOf βs (suc (suc (suc (suc (suc (suc zero)))))) a b prog = prog a ⊕ prog b
-progOf βs (suc (suc (suc (suc (suc (suc (suc k))))))) a b prog = execute
+-- The program of an entry, from those of its parts: 02, Wish 6: "execute", "apply a", "select a", "while the plan is not empty do
+-- b", "while belief condition a holds do b", "a then b", "a or b". βs are the conditions of the card's nodes.
+abbrev pub progOf : List (Query 𝐁) → EntryKind → ℕ → ℕ → (ℕ → Prog) → Prog
+progOf βs Execute a b prog = execute
+progOf βs Apply a b prog = apply a
+progOf βs Select a b prog = select a
+progOf βs WhilePlan a b prog = while notEmptyPlan doing prog b od
+progOf βs WhileBelief a b prog = while holds (condition βs a) doing prog b od
+progOf βs Then a b prog = prog a ⨾ prog b
+progOf βs Or a b prog = prog a ⊕ prog b
 
--- What each entry stands for, in one pass from the lowest upward: 02, Wish 6: "part numbers are lower than their own".
-unfoldable pub programs : List (Query 𝐁) → List Node → List Prog
-programs βs es = pass (λ i e prog. progOf βs (e .kind) (e .a) (e .b) prog) execute es
-
--- The program that entry n stands for.
-abbrev pub program : List (Query 𝐁) → List Node → ℕ → Prog
-program βs es n = getD (programs βs es) n execute
+-- The program that entry n stands for, by one pass from the lowest upward: 02, Wish 6: "part numbers are lower than their own".
+unfoldable pub program : List (Query 𝐁) → List Node → ℕ → Prog
+program βs es n = getD (pass (λ i e prog. progOf βs (entryKind (e .kind)) (e .a) (e .b) prog) execute es) n execute
 
 -- 02, Wish 6: "the remaining program as entry numbers, the next first": x, y, z stand for x; (y; z), and no number for E.
 unfoldable pub standing : List (Query 𝐁) → List Node → List ℕ → Rest
@@ -100,16 +93,19 @@ standing βs es (n ∷ ns) = still (elim (standing βs es ns) [ E ↦ program β
 -- The first move of entry i, as firstMove has it of a program, with what remains as entry numbers: of execute, apply and select
 -- nothing; of a while that holds its body and itself; of a sequence what remains of its left, then its right: 02, Wish 6: "a
 -- sequence is one number until a move is made in it"; of a choice what remains of the part that is taken.
-abbrev pub moveOf : Agent → List (Query 𝐁) → Config → ℕ → ℕ → ℕ → ℕ → (ℕ → Option (Move (List ℕ))) → Option (Move (List ℕ))
-moveOf A βs s i zero a b move = takes (lowestAction A s) []
-moveOf A βs s i (suc zero) a b move = takes (ifEnabled A s (Choice.revise a)) []
-moveOf A βs s i (suc (suc zero)) a b move = takes (ifEnabled A s (Choice.select a)) []
-moveOf A βs s i (suc (suc (suc zero))) a b move = idles (𝒲 notEmptyPlan s) (b ∷ i ∷ []) []
-moveOf A βs s i (suc (suc (suc (suc zero)))) a b move = idles (𝒲 (holds (condition βs a)) s) (b ∷ i ∷ []) []
-moveOf A βs s i (suc (suc (suc (suc (suc zero))))) a b move = followedBy (λ ns. ns ++ (b ∷ [])) (move a)
-moveOf A βs s i (suc (suc (suc (suc (suc (suc zero)))))) a b move = leftElseRight (move a) (move b)
-moveOf A βs s i (suc (suc (suc (suc (suc (suc (suc k))))))) a b move = takes (lowestAction A s) []
+abbrev pub moveOf : Agent → List (Query 𝐁) → Config → ℕ → EntryKind → ℕ → ℕ → (ℕ → Option (Move (List ℕ))) → Option (Move (List ℕ))
+moveOf A βs s i Execute a b move = byChoice (lowestAction A s) []
+moveOf A βs s i Apply a b move = byChoice (ifEnabled A s (Choice.revise a)) []
+moveOf A βs s i Select a b move = byChoice (ifEnabled A s (Choice.select a)) []
+moveOf A βs s i WhilePlan a b move = idles (𝒲 notEmptyPlan s) (b ∷ i ∷ []) []
+moveOf A βs s i WhileBelief a b move = idles (𝒲 (holds (condition βs a)) s) (b ∷ i ∷ []) []
+moveOf A βs s i Then a b move = followedBy (λ ns. ns ++ (b ∷ [])) (move a)
+moveOf A βs s i Or a b move = leftElseRight (move a) (move b)
 
--- The first move of each entry, in one pass from the lowest upward.
-unfoldable pub moves : Agent → List (Query 𝐁) → Config → List Node → List (Option (Move (List ℕ)))
-moves A βs s es = pass (λ i e move. moveOf A βs s i (e .kind) (e .a) (e .b) move) none es
+-- The first move of entry n, by one pass from the lowest upward.
+unfoldable pub firstMoveOf : Agent → List (Query 𝐁) → Config → List Node → ℕ → Option (Move (List ℕ))
+firstMoveOf A βs s es n = getD (pass (λ i e move. moveOf A βs s i (entryKind (e .kind)) (e .a) (e .b) move) none es) n none
+
+-- The same of a program's bytes under a card.
+abbrev pub moveAt : Layout → Bytes → Bytes → Config → ℕ → Option (Move (List ℕ))
+moveAt l b p s n = firstMoveOf (agentFor l b) (conditions 𝐁 l b) s (entriesOf p) n

@@ -14,9 +14,9 @@ pub record Move (R : Type 0) : Type 0 where
   pub remaining : R
 
 -- A move that takes a choice, if there is one, after which r remains. Serves firstMove and moveOf.
-abbrev pub takes : {R : Type 0} → Option Choice → R → Option (Move R)
-takes none r = none
-takes (some k) r = some (record { label = taking k; remaining = r })
+abbrev pub byChoice : {R : Type 0} → Option Choice → R → Option (Move R)
+byChoice none r = none
+byChoice (some k) r = some (record { label = taking k; remaining = r })
 
 -- 02, Wish 6: "Execute takes the lowest enabled specification."
 unfoldable pub lowestAction : Agent → Config → Option Choice
@@ -44,9 +44,9 @@ leftElseRight (some m) right = some m
 
 -- 02, Wish 6: "a first move" of a program in a configuration, or none. Whether the plan that it leaves fits is not asked.
 unfoldable pub firstMove : Agent → Config → Prog → Option (Move Rest)
-firstMove A s execute = takes (lowestAction A s) E
-firstMove A s (apply ρ) = takes (ifEnabled A s (Choice.revise ρ)) E
-firstMove A s (select ρ) = takes (ifEnabled A s (Choice.select ρ)) E
+firstMove A s execute = byChoice (lowestAction A s) E
+firstMove A s (apply ρ) = byChoice (ifEnabled A s (Choice.revise ρ)) E
+firstMove A s (select ρ) = byChoice (ifEnabled A s (Choice.select ρ)) E
 firstMove A s (while b doing P od) = idles (𝒲 b s) (still (P ⨾ while b doing P od)) E
 firstMove A s (P₁ ⨾ P₂) = followedBy (λ P₁′. still (P₁′ ⨾′ P₂)) (firstMove A s P₁)
 firstMove A s (P₁ ⊕ P₂) = leftElseRight (firstMove A s P₁) (firstMove A s P₂)

@@ -1,8 +1,10 @@
 pub mod Programs
 pub mod MetaTransitions
 pub mod FirstMove
+pub mod Kinds
 pub mod Entries
 pub mod Deliberate
+pub mod Stacked
 pub mod Interpreter
 pub mod Theorems
 pub mod Equivalence

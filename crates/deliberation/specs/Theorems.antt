@@ -3,9 +3,9 @@ use mathlib.Core.Path.{_≡_}
 use mathlib.Core.Logic.{_↔_}
 use mathlib.Core.Bool.{true, false}
 use mathlib.Core.List.{List, [], _∷_, _++_, List·Memᴰ}
-use mathlib.Core.Option.{Option, none, some}
+use mathlib.Core.Option.{none, some}
 use Prim.Native.Nat.{ℕ, _+_, _*_, _-_, _≤_, _<_}
-use lib.ListN.{length, take, getD}
+use lib.ListN.{length, take}
 use Rattle.paper.specs.Language.{𝐁, Agent, Config}
 use Rattle.paper.specs.Transitions.{Choice, Step}
 use Rattle.runs.specs.Limits.{longestPlan, heaviestPlan}
@@ -26,8 +26,9 @@ use Rattle.deliberation.specs.declared.Remaining.{Remaining}
 use Rattle.deliberation.specs.declared.Deliberated.{Deliberated}
 use Rattle.deliberation.specs.Programs.{Prog, execute, apply, select, while_doing_od, _⨾_, _⊕_, Rest, E, still}
 use Rattle.deliberation.specs.MetaTransitions.{Label, idle, taking, MetaStep, Computation, notIdle}
+use Rattle.deliberation.specs.Kinds.{EntryKind, Execute, Apply, Select, WhilePlan, WhileBelief, Then, Or, entryKind}
 use Rattle.deliberation.specs.FirstMove.{Move, firstMove}
-use Rattle.deliberation.specs.Entries.{entryAt, entryCount, entries, programGood, deliberateAnswer, program, standing, moves}
+use Rattle.deliberation.specs.Entries.{entryOf, entryCount, entriesOf, programGood, deliberateAnswer, program, standing, moveAt}
 use Rattle.deliberation.specs.Deliberate.{deliberates}
 
 -- ---- the first move
@@ -63,22 +64,23 @@ WayOutLaw = (A : Agent) (s : Config) → WayOut A s
 
 -- ---- an entry
 
--- What holds of entry i of a program that is not refused.
-pub record EntryLaws (b p : Bytes) (i : ℕ) : Type 0 where
-  -- 02, Wish 6: "part numbers are lower than their own"
-  pub first-part : 5 ≤ entryAt p i .kind → entryAt p i .a < i
-  pub second-part : 3 ≤ entryAt p i .kind → entryAt p i .b < i
-  -- 02, Wish 6: "1 apply a, 2 select a", none of them "naming an unknown rule"
-  pub known-revision : entryAt p i .kind ≡ 1 → entryAt p i .a < length (agent b .PR)
-  pub known-selection : entryAt p i .kind ≡ 2 → entryAt p i .a < length (agent b .PS)
-  -- 02, Wish 6: "4 while belief condition a holds do b": 01, "A configuration and its transitions": "A belief condition contains no
-  -- goal atom"
-  pub belief-condition : entryAt p i .kind ≡ 4 → (entryAt p i .a < layout b .nodes .count) × Without b 2 (entryAt p i .a)
+-- What holds of entry i of a program that is not refused, by its kind: 02, Wish 6: "part numbers are lower than their own", none of
+-- them "naming an unknown rule or node", where there are so many revision and selection rules, and a condition is as it says.
+pub data EntryLaws (revisions selections : ℕ) (Condition : ℕ → Type 0) (i a b : ℕ) : EntryKind → Type 0 where
+  executes : EntryLaws revisions selections Condition i a b Execute
+  applies : a < revisions → EntryLaws revisions selections Condition i a b Apply
+  selects : a < selections → EntryLaws revisions selections Condition i a b Select
+  while-plan : b < i → EntryLaws revisions selections Condition i a b WhilePlan
+  while-belief : Condition a → b < i → EntryLaws revisions selections Condition i a b WhileBelief
+  does-both : a < i → b < i → EntryLaws revisions selections Condition i a b Then
+  does-one : a < i → b < i → EntryLaws revisions selections Condition i a b Or
 
--- The same of every accepted card and every entry.
+-- The same of every accepted card and every entry: 01, "A configuration and its transitions": "A belief condition contains no goal
+-- atom"
 abbrev pub EntryLaw : Type 0
 EntryLaw = (b p : Bytes) → cardAnswer b ≡ Done → programGood (containing 2 (layout b) b) (layout b) p ≡ true → (i : ℕ) → i < entryCount p
-    → EntryLaws b p i
+    → EntryLaws (length (agent b .PR)) (length (agent b .PS)) (λ n. (n < layout b .nodes .count) × Without b 2 n) i
+    (entryOf p i .a) (entryOf p i .b) (entryKind (entryOf p i .kind))
 
 -- ---- what entry numbers stand for
 
@@ -112,11 +114,7 @@ NestingLaw = (A : Agent) → NestingLaws A
 
 -- 02, Wish 6: "the remaining program as entry numbers": what entry numbers of a program stand for under a card.
 abbrev pub standFor : Bytes → Bytes → List ℕ → Rest
-standFor b p ns = standing (conditions 𝐁 (layout b) b) (entries p) ns
-
--- The first move of an entry of a program under a card, in a configuration.
-abbrev pub moveAt : Bytes → Bytes → Config → ℕ → Option (Move (List ℕ))
-moveAt b p s n = getD (moves (agent b) (conditions 𝐁 (layout b) b) s (entries p)) n none
+standFor b p ns = standing (conditions 𝐁 (layout b) b) (entriesOf p) ns
 
 -- What the numbers n, ns stand for, and their first move, which is that of n.
 pub record NumbersLaws (b p : Bytes) (s : Config) (n : ℕ) (ns : List ℕ) : Type 0 where
@@ -124,10 +122,10 @@ pub record NumbersLaws (b p : Bytes) (s : Config) (n : ℕ) (ns : List ℕ) : Ty
   pub stands : Prog
   pub standing-for : standFor b p (n ∷ ns) ≡ still stands
   -- their first move is one of the relation's transitions from it, to what the numbers then stand for
-  pub is-one : (m : Move (List ℕ)) → moveAt b p s n ≡ some m
+  pub is-one : (m : Move (List ℕ)) → moveAt (layout b) b p s n ≡ some m
       → (P′ : Rest) × ((s′ : Config) × (MetaStep (agent b) stands s (m .label) P′ s′ × (P′ ≈ standFor b p (m .remaining ++ ns))))
   -- and they have none exactly if the relation has none
-  pub none-exactly : (moveAt b p s n ≡ none) ↔ NoTransition (agent b) stands s
+  pub none-exactly : (moveAt (layout b) b p s n ≡ none) ↔ NoTransition (agent b) stands s
 
 -- The same of a program that is not refused, and its entries.
 abbrev pub NumbersLaw : Type 0
@@ -173,7 +171,7 @@ pub record EndsExactly (A : Agent) (budget n : ℕ) (R : Rest) (s : State) (e : 
 
 -- 02, Wish 6: "the last one the whole": the program that a program's bytes stand for under a card.
 abbrev pub wholeOf : Bytes → Bytes → Prog
-wholeOf b p = program (conditions 𝐁 (layout b) b) (entries p) (entryCount p - 1)
+wholeOf b p = program (conditions 𝐁 (layout b) b) (entriesOf p) (entryCount p - 1)
 
 -- The numbers that remain, as they are answered.
 abbrev pub numbersIn : Remaining → List ℕ

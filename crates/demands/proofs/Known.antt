@@ -185,9 +185,9 @@ module _ (b : Bytes) (card : cardAnswer b ≡ Done) where
   abbrev sets : ℕ → Bool
   sets i = bothGood (l .atoms) (specificationAt l b i .add) (specificationAt l b i .del)
 
-  initial-sets : (bothGood (l .atoms) (initialBeliefs b) (initialGoals b) ≡ true) × (every (l .specifications .count) sets ≡ true)
+  initial-sets : (bothGood (l .atoms) (initialBeliefs l b) (initialGoals l b) ≡ true) × (every (l .specifications .count) sets ≡ true)
   unfolding setsGood
-  initial-sets = both (bothGood (l .atoms) (initialBeliefs b) (initialGoals b)) _ (a .sets)
+  initial-sets = both (bothGood (l .atoms) (initialBeliefs l b) (initialGoals l b)) _ (a .sets)
 
   pub known-agent : KnownAgent l (agent b)
   unfolding agent agentFor agentOf selectionOf revisionOf specificationOf
@@ -207,13 +207,13 @@ module _ (b : Bytes) (card : cardAnswer b ≡ Done) where
   pub known-start : Known l (start b)
   unfolding start initialPlan plan
   known-start =
-      let s = both (setGood (l .atoms) (initialBeliefs b)) _ (initial-sets .0) in
+      let s = both (setGood (l .atoms) (initialBeliefs l b)) _ (initial-sets .0) in
       let inside = span-inside l 0 (l .initial) (g .initial) in
       let most = span-fits l 0 (l .initial) (g .initial) in
       let ends = pool-inside in
       record {
         beliefs = s .0;
-        goals = known-∖ (l .atoms) (initialGoals b) (initialBeliefs b) (s .1);
+        goals = known-∖ (l .atoms) (initialGoals l b) (initialBeliefs l b) (s .1);
         actions = known-plan (l .initial) inside;
         fits = rw (length-part b (l .pool .offset + l .initial .start) (l .initial .length) (omega arith)) most;
         phase = omega arith;

@@ -12,7 +12,7 @@ pub mod Restoring
 pub mod Bounding
 pub mod Testing
 pub mod Showing
-pub mod Closing
+pub mod AcceptedAgain
 pub mod Striking
 pub mod Keeping
 pub mod Demands

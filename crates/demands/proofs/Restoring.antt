@@ -25,14 +25,14 @@ use Rattle.demands.proofs.Ways.{Writing, Replying, refused, no-room, do
 
 -- ---- what is restored is accepted, and saved again
 
-plan-fits : (l : Layout) (p : Bytes) → GoodPlace l p → length (placed p .mental .π) ≤ 1024
+plan-fits : (l : Layout) (p : Bytes) → GoodPlace l p → length (placed l p .mental .π) ≤ 1024
 unfolding placed
 plan-fits l p g =
     let f = g .fits in
     let e = g .ends in
     rw (length-drop 44 p) (omega arith)
 
-pub restored-known : (l : Layout) (p : Bytes) → GoodPlace l p → Known l (placed p)
+pub restored-known : (l : Layout) (p : Bytes) → GoodPlace l p → Known l (placed l p)
 unfolding placed
 restored-known l p g = record {
   beliefs = g .beliefs;
@@ -53,15 +53,15 @@ pub restored-good : (b p : Bytes) → placeAnswer b p ≡ Done → (cardAnswer b
 unfolding placeAnswer
 restored-good b p e = and-then-done (cardAnswer b) (firstGiven (placeTable (layout b)) p) e
 
-pub restored-saved : (b p : Bytes) → AreBytes p → (r : Reply) → Replying (placeAnswer b p) (placed p) r → r .answer ≡ Done
+pub restored-saved : (b p : Bytes) → AreBytes p → (r : Reply) → Replying (placeAnswer b p) (placed (layout b) p) r → r .answer ≡ Done
     → (out left : Bytes) → length p ≤ length out → (r′ : Written) → Saves b (r .configuration) out r′ left
     → (r′ .answer ≡ Done) × ((r′ .count ≡ length p) × ((take (length p) left ≡ p) × (drop (length p) left ≡ drop (length p) out)))
 restored-saved b p bytes r (refused h) e out left room r′ w = absurd (done≢refused (sym e))
 restored-saved b p bytes r (done h) e out left room r′ w =
     let (card, table) = restored-good b p h in
-    let c = configurationOf (placed p) in
+    let c = configurationOf (placed (layout b) p) in
     let k = good-place (layout b) p table in
-    let on : OnAccepted b c = configuration-good b c card (known-good (layout b) (placed p) (restored-known (layout b) p k)) in
-    let s : stateOf c ≡ placed p = configuration-laws .of-state (placed p) (plan-fits (layout b) p k) in
-    let q : place (stateOf c) ≡ p = ap place s ∙ place-laws .restored-saved (layout b) p bytes table in
+    let on : OnAccepted b c = configuration-good b c card (known-good (layout b) (placed (layout b) p) (restored-known (layout b) p k)) in
+    let s : stateOf c ≡ placed (layout b) p = configuration-laws .of-state (placed (layout b) p) (plan-fits (layout b) p k) in
+    let q : place (layout b) (stateOf c) ≡ p = ap (place (layout b)) s ∙ place-laws .restored-saved (layout b) p bytes table in
     resaved b c p out left r′ on room (subst (λ (x : Bytes). Writing b c x out r′ left) q (saving b c out left r′ w))

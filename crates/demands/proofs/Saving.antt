@@ -15,6 +15,7 @@ use Rattle.meaning.specs.declared.Layout.{Layout}
 use Rattle.meaning.specs.declared.Configuration.{Configuration}
 use Rattle.meaning.specs.declared.Reply.{Reply}
 use Rattle.meaning.specs.declared.Written.{Written}
+use Rattle.meaning.specs.Sizes.{setBytes, placeGoalsAt, planAt}
 use Rattle.meaning.specs.Card.{Bytes, byte, numberAt, part, layout}
 use Rattle.meaning.specs.Configurations.{stateOf, configurationOf}
 use Rattle.meaning.specs.Place.{placeHeader, place, placed}
@@ -46,16 +47,16 @@ module _ {X : Type 0} where
 
 -- a state whose place is accepted under a card's layout
 pub record Kept (l : Layout) (s : State) : Type 0 where
-  pub beliefs : length (s .mental .σ) ≡ 16
-  pub goals : length (s .mental .γ) ≡ 16
+  pub beliefs : length (s .mental .σ) ≡ setBytes l
+  pub goals : length (s .mental .γ) ≡ setBytes l
   pub finished : s .finished ≤ mostFinished
   pub known : Known l s
 
 module _ (l : Layout) (s : State) (k : Kept l s) where
-  same : placed (place s) ≡ s
-  same = place-laws .saved-restored s (k .beliefs) (k .goals) (k .known .phase) (k .finished)
+  same : placed l (place l s) ≡ s
+  same = place-laws .saved-restored l s (k .beliefs) (k .goals) (k .known .phase) (k .finished)
 
-  length-place : length (place s) ≡ 44 + length (s .mental .π)
+  length-place : length (place l s) ≡ planAt (setBytes l) + length (s .mental .π)
   unfolding place placeHeader
   length-place =
       let σ = s .mental .σ in
@@ -67,7 +68,7 @@ module _ (l : Layout) (s : State) (k : Kept l s) where
       let n = k .goals in
       omega arith
 
-  length-at : numberAt (place s) 4 ≡ length (s .mental .π)
+  length-at : numberAt (place l s) 4 ≡ length (s .mental .π)
   unfolding place placeHeader
   length-at =
       let f = k .known .fits in
@@ -75,95 +76,95 @@ module _ (l : Layout) (s : State) (k : Kept l s) where
       let z : n % 256 + 256 * (n / 256 % 256) ≡ n = omega arith in
       z
 
-  phase-at : numberAt (place s) 8 ≡ s .phase
+  phase-at : numberAt (place l s) 8 ≡ s .phase
   unfolding placed
   phase-at = ap (λ (x : State). x .phase) same
 
-  plan-at : drop 44 (place s) ≡ s .mental .π
+  plan-at : drop (planAt (setBytes l)) (place l s) ≡ s .mental .π
   unfolding placed
   plan-at = ap (λ (x : State). x .mental .π) same
 
-  beliefs-at : part (place s) 12 16 ≡ s .mental .σ
+  beliefs-at : part (place l s) 12 (setBytes l) ≡ s .mental .σ
   unfolding placed
   beliefs-at = ap (λ (x : State). x .mental .σ) same
 
-  goals-at : part (place s) 28 16 ≡ s .mental .γ
+  goals-at : part (place l s) (placeGoalsAt (setBytes l)) (setBytes l) ≡ s .mental .γ
   unfolding placed
   goals-at = ap (λ (x : State). x .mental .γ) same
 
-  marked : (eqb (byte (place s) 0) 0x33 && (eqb (byte (place s) 1) 0x50 && eqb (numberAt (place s) 2) 1)) ≡ true
+  marked : (eqb (byte (place l s) 0) 0x33 && (eqb (byte (place l s) 1) 0x50 && eqb (numberAt (place l s) 2) 1)) ≡ true
   unfolding place placeHeader
   marked = refl
 
-  offset : eqb (numberAt (place s) 6) 44 ≡ true
+  offset : eqb (numberAt (place l s) 6) (planAt (setBytes l)) ≡ true
   unfolding place placeHeader
   offset = refl
 
-  counted : (leb (numberAt (place s) 4) 1024 && leb (numberAt (place s) 8) 2) ≡ true
+  counted : (leb (numberAt (place l s) 4) 1024 && leb (numberAt (place l s) 8) 2) ≡ true
   counted =
-      let a : leb (numberAt (place s) 4) 1024 ≡ true = rw length-at (le-leb _ _ (k .known .fits)) in
-      let b : leb (numberAt (place s) 8) 2 ≡ true = rw phase-at (le-leb _ _ (k .known .phase)) in
+      let a : leb (numberAt (place l s) 4) 1024 ≡ true = rw length-at (le-leb _ _ (k .known .fits)) in
+      let b : leb (numberAt (place l s) 8) 2 ≡ true = rw phase-at (le-leb _ _ (k .known .phase)) in
       both-true _ _ a b
 
-  laid-out : (eqb (numberAt (place s) 6) 44 && eqb (length (place s)) (44 + numberAt (place s) 4)) ≡ true
-  laid-out = both-true _ _ offset (eq-eqb _ _ (length-place ∙ ap (λ n. 44 + n) (sym length-at)))
+  laid-out : (eqb (numberAt (place l s) 6) (planAt (setBytes l)) && eqb (length (place l s)) (planAt (setBytes l) + numberAt (place l s) 4)) ≡ true
+  laid-out = both-true _ _ offset (eq-eqb _ _ (length-place ∙ ap (λ n. planAt (setBytes l) + n) (sym length-at)))
 
-  long-enough : leb 44 (length (place s)) ≡ true
-  long-enough = let e = length-place in le-leb 44 (length (place s)) (omega arith)
+  long-enough : leb (planAt (setBytes l)) (length (place l s)) ≡ true
+  long-enough = let e = length-place in le-leb (planAt (setBytes l)) (length (place l s)) (omega arith)
 
-  plan-good : actionsGood (l .actions) (drop 44 (place s)) ≡ true
+  plan-good : actionsGood (l .actions) (drop (planAt (setBytes l)) (place l s)) ≡ true
   plan-good = rw plan-at (k .known .actions)
 
-  beliefs-good : setGood (l .atoms) (part (place s) 12 16) ≡ true
+  beliefs-good : setGood (l .atoms) (part (place l s) 12 (setBytes l)) ≡ true
   beliefs-good = rw beliefs-at (k .known .beliefs)
 
-  goals-good : setGood (l .atoms) (part (place s) 28 16) ≡ true
+  goals-good : setGood (l .atoms) (part (place l s) (placeGoalsAt (setBytes l)) (setBytes l)) ≡ true
   goals-good = rw goals-at (k .known .goals)
 
-  pub place-done : firstGiven (placeTable l) (place s) ≡ Done
+  pub place-done : firstGiven (placeTable l) (place l s) ≡ Done
   unfolding placeTable
   place-done =
-      row-passed _ _ (place s) (ap not long-enough)
-      (row-passed _ _ (place s) (ap not marked)
-      (row-passed _ _ (place s) (ap not counted)
-      (row-passed _ _ (place s) (ap not laid-out)
-      (row-passed _ _ (place s) (ap not plan-good)
-      (row-passed _ _ (place s) (ap not (both-true _ _ beliefs-good goals-good))
-      (no-row (place s)))))))
+      row-passed _ _ (place l s) (ap not long-enough)
+      (row-passed _ _ (place l s) (ap not marked)
+      (row-passed _ _ (place l s) (ap not counted)
+      (row-passed _ _ (place l s) (ap not laid-out)
+      (row-passed _ _ (place l s) (ap not plan-good)
+      (row-passed _ _ (place l s) (ap not (both-true _ _ beliefs-good goals-good))
+      (no-row (place l s)))))))
 
-place-accepted : (b : Bytes) (s : State) → cardAnswer b ≡ Done → Kept (layout b) s → placeAnswer b (place s) ≡ Done
+place-accepted : (b : Bytes) (s : State) → cardAnswer b ≡ Done → Kept (layout b) s → placeAnswer b (place (layout b) s) ≡ Done
 unfolding placeAnswer
-place-accepted b s e k = ap (λ a. andThen a (firstGiven (placeTable (layout b)) (place s))) e ∙ place-done (layout b) s k
+place-accepted b s e k = ap (λ a. andThen a (firstGiven (placeTable (layout b)) (place (layout b) s))) e ∙ place-done (layout b) s k
 
 pub kept : (b : Bytes) (c : Configuration) → OnAccepted b c → Shaped c → Kept (layout b) (stateOf c)
 unfolding stateOf
 kept b c on h = record { beliefs = h .beliefs; goals = h .goals; finished = h .finished; known = known-of (layout b) c (passed-good b c on) }
 
-pub saved-restored : (b : Bytes) (c : Configuration) → Shaped c → (out left : Bytes) (r : Written) → Writing b c (place (stateOf c)) out r left
+pub saved-restored : (b : Bytes) (c : Configuration) → Shaped c → (out left : Bytes) (r : Written) → Writing b c (place (layout b) (stateOf c)) out r left
     → r .answer ≡ Done → (r′ : Reply) → Restores b (take (r .count) left) r′ → (r′ .answer ≡ Done) × (r′ .configuration ≡ c)
 saved-restored b c h out left r (refused w) e r′ f = absurd (done≢refused (sym e))
 saved-restored b c h out left r (no-room w l) e r′ f = absurd (done≢refused (sym e))
 saved-restored b c h out left r (done on l) e r′ f =
-    let p = place (stateOf c) in
+    let p = place (layout b) (stateOf c) in
     let k = kept b c on h in
     let t : take (length p) (over p out) ≡ p = take-append-seam p (drop (length p) out) in
     let a : placeAnswer b p ≡ Done = place-accepted b (stateOf c) (card-accepted b c on) k in
-    let z : r′ ≡ reply Done (configurationOf (placed p)) = f ∙ ap (restores b) t ∙ restores-good b p a in
-    let y : configurationOf (placed p) ≡ c = ap configurationOf (same (layout b) (stateOf c) k) ∙ configuration-laws .of-configuration (layout b) c (h .plan) (passed-good b c on) in
+    let z : r′ ≡ reply Done (configurationOf (placed (layout b) p)) = f ∙ ap (restores b) t ∙ restores-good b p a in
+    let y : configurationOf (placed (layout b) p) ≡ c = ap configurationOf (same (layout b) (stateOf c) k) ∙ configuration-laws .of-configuration (layout b) c (h .plan) (passed-good b c on) in
     (ap (λ (x : Reply). x .answer) z, ap (λ (x : Reply). x .configuration) z ∙ y)
 
--- ---- 44 + L bytes, and no others
+-- ---- planAt (setBytes (layout b)) + L bytes, and no others
 
-pub saved-length : (b : Bytes) (c : Configuration) → Shaped c → OnAccepted b c → length (place (stateOf c)) ≡ 44 + c .mind .length
+pub saved-length : (b : Bytes) (c : Configuration) → Shaped c → OnAccepted b c → length (place (layout b) (stateOf c)) ≡ planAt (setBytes (layout b)) + c .mind .length
 unfolding stateOf
 saved-length b c h on =
     let f : c .mind .length ≤ 1024 = good (layout b) c (passed-good b c on) .fits in
     let p : length (c .plan) ≡ 1024 = h .plan in
     let n : length (take (c .mind .length) (c .plan)) ≡ c .mind .length = length-take-le (c .mind .length) (c .plan) (omega arith) in
-    length-place (layout b) (stateOf c) (kept b c on h) ∙ ap (λ k. 44 + k) n
+    length-place (layout b) (stateOf c) (kept b c on h) ∙ ap (λ k. planAt (setBytes (layout b)) + k) n
 
-pub saved : (b : Bytes) (c : Configuration) → Shaped c → (out left : Bytes) (r : Written) → Writing b c (place (stateOf c)) out r left → r .answer ≡ Done
-    → (r .count ≡ 44 + c .mind .length) × (drop (r .count) left ≡ drop (r .count) out)
+pub saved : (b : Bytes) (c : Configuration) → Shaped c → (out left : Bytes) (r : Written) → Writing b c (place (layout b) (stateOf c)) out r left → r .answer ≡ Done
+    → (r .count ≡ planAt (setBytes (layout b)) + c .mind .length) × (drop (r .count) left ≡ drop (r .count) out)
 saved b c h out left r (refused w) e = absurd (done≢refused (sym e))
 saved b c h out left r (no-room w l) e = absurd (done≢refused (sym e))
-saved b c h out left r (done on l) e = (saved-length b c h on, drop-append-seam (place (stateOf c)) (drop (length (place (stateOf c))) out))
+saved b c h out left r (done on l) e = (saved-length b c h on, drop-append-seam (place (layout b) (stateOf c)) (drop (length (place (layout b) (stateOf c))) out))

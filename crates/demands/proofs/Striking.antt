@@ -12,7 +12,7 @@ use Rattle.meaning.specs.declared.Answer.the-variants.{Done}
 use Rattle.meaning.specs.declared.Configuration.{Configuration}
 use Rattle.meaning.specs.declared.Reply.{Reply}
 use Rattle.meaning.specs.declared.Ran.{Ran}
-use Rattle.meaning.specs.Card.{Bytes, part, agent, start}
+use Rattle.meaning.specs.Card.{Bytes, layout, agent, start}
 use Rattle.meaning.specs.Configurations.{stateOf, configurationOf}
 use Rattle.meaning.specs.Place.{placed}
 use Rattle.meaning.specs.Refusals.{cardAnswer, placeAnswer}
@@ -30,7 +30,7 @@ module _ (b : Bytes) where
   loaded r (done e) h = start-law b
   loaded r (refused e) h = absurd (done≢refused (sym h))
 
-  restored : (p : Bytes) (r : Reply) → Replying (placeAnswer b p) (placed p) r → r .answer ≡ Done → r .configuration .mind .goals ≡ part p 28 16
+  restored : (p : Bytes) (r : Reply) → Replying (placeAnswer b p) (placed (layout b) p) r → r .answer ≡ Done → r .configuration .mind .goals ≡ placed (layout b) p .mental .γ
   unfolding configurationOf placed
   restored p r (done e) h = refl
   restored p r (refused e) h = absurd (done≢refused (sym h))

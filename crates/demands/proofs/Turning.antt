@@ -24,7 +24,7 @@ use Rattle.meaning.proofs.Configurations.{configuration-laws}
 use Rattle.demands.specs.Contracts.{Runs, Shaped}
 use Rattle.demands.specs.Demands.{OnAccepted}
 use Rattle.demands.specs.TurnedScreen.{Turn, held, TurnDone, TurnRefused, TurnedRuns, last-run, run-turned, Each, AsOneRun, refusedRun, Together, sum, TurnedScreen}
-use Rattle.demands.proofs.Closing.{closed}
+use Rattle.demands.proofs.AcceptedAgain.{again}
 use Rattle.demands.proofs.Demands.{demand-2}
 use Rattle.demands.proofs.Keeping.{ran-kept, ran-shaped}
 use Rattle.demands.proofs.Ways.{running}
@@ -87,7 +87,7 @@ module _ (b : Bytes) (c : Configuration) (j : ℕ) (r : Ran) (w : Runs b c j r) 
   run-done on = ap (λ (x : Ran). x .answer) (w ∙ runs-good b c on j)
 
   run-accepted : OnAccepted b c → OnAccepted b (r .configuration)
-  run-accepted on = closed .run b c j r w (run-done on)
+  run-accepted on = again .run b c j r w (run-done on)
 
   run-refused : (q : Refusal) → configurationAnswer b c ≡ Refused q → r ≡ refusedRun q c
   run-refused q e = w ∙ runs-refused b c j q e

@@ -66,10 +66,10 @@ loading b r e = go (cardAnswer b) refl
     go Done h = rw (e ∙ loads-good b h) (done h)
     go (Refused q) h = rw (e ∙ loads-refused b q h) (refused h)
 
-pub restoring : (b p : Bytes) (r : Reply) → Restores b p r → Replying (placeAnswer b p) (placed p) r
+pub restoring : (b p : Bytes) (r : Reply) → Restores b p r → Replying (placeAnswer b p) (placed (layout b) p) r
 restoring b p r e = go (placeAnswer b p) refl
   where
-    go : (a : Answer) → placeAnswer b p ≡ a → Replying (placeAnswer b p) (placed p) r
+    go : (a : Answer) → placeAnswer b p ≡ a → Replying (placeAnswer b p) (placed (layout b) p) r
     go Done h = rw (e ∙ restores-good b p h) (done h)
     go (Refused q) h = rw (e ∙ restores-refused b p q h) (refused h)
 
@@ -106,9 +106,9 @@ pub listing : (b : Bytes) (c : Configuration) (out left : List ℕ) (r : Written
 unfolding lists listLeaves
 listing b c out left r (e, f) = writing b c (enabledCodes (agent b) (stateOf c .mental)) out left r e f
 
-pub saving : (b : Bytes) (c : Configuration) (out left : Bytes) (r : Written) → Saves b c out r left → Writing b c (place (stateOf c)) out r left
+pub saving : (b : Bytes) (c : Configuration) (out left : Bytes) (r : Written) → Saves b c out r left → Writing b c (place (layout b) (stateOf c)) out r left
 unfolding saves saveLeaves
-saving b c out left r (e, f) = writing b c (place (stateOf c)) out left r e f
+saving b c out left r (e, f) = writing b c (place (layout b) (stateOf c)) out left r e f
 
 -- ---- take
 

@@ -11,6 +11,7 @@ use Rattle.meaning.specs.declared.Reply.{Reply}
 use Rattle.meaning.specs.declared.Graded.{Graded}
 use Rattle.meaning.specs.declared.Written.{Written}
 use Rattle.meaning.specs.declared.Ran.{Ran}
+use Rattle.meaning.specs.Sizes.{edition1Set}
 use Rattle.meaning.specs.Card.{Bytes}
 use Rattle.meaning.specs.Calls.{checks, loads, grades, lists, listLeaves, takes, runs, saves, saveLeaves, restores}
 
@@ -50,9 +51,9 @@ Restores b p r = r ≡ restores b p
 -- bytes. Load, take, run and restore ensure it of what they answer, and save of what it is handed.
 pub record Shaped (c : Configuration) : Type 0 where
   -- 01, "The card, edition 1": "A set of atoms is 16 bytes"
-  pub beliefs : length (c .mind .beliefs) ≡ 16
+  pub beliefs : length (c .mind .beliefs) ≡ edition1Set
   -- 01, "The card, edition 1": "A set of atoms is 16 bytes"
-  pub goals : length (c .mind .goals) ≡ 16
+  pub goals : length (c .mind .goals) ≡ edition1Set
   -- 00, the machine: "A plan holds up to 1,024 actions."
   pub plan : length (c .plan) ≡ longestPlan
   -- 02, Wish 4: "stopping at 65,535"

@@ -27,7 +27,8 @@ use Rattle.meaning.specs.declared.Reply.{Reply}
 use Rattle.meaning.specs.declared.Graded.{Graded}
 use Rattle.meaning.specs.declared.Written.{Written}
 use Rattle.meaning.specs.declared.Ran.{Ran}
-use Rattle.meaning.specs.Card.{Bytes, weight, agent, initialPlan}
+use Rattle.meaning.specs.Sizes.{setBytes, planAt}
+use Rattle.meaning.specs.Card.{Bytes, layout, weight, agent, initialPlan}
 use Rattle.meaning.specs.Configurations.{stateOf, configurationOf, empty}
 use Rattle.meaning.specs.Numbers.{checkedNumber}
 use Rattle.meaning.specs.Refusals.{answerNumber, cardAnswer, configurationAnswer}
@@ -185,10 +186,10 @@ pub record Demand2 : Type 0 where
       → r .count < budget → (r .ending ≡ Ending.Rest) ↔ AtRest (agent b) (stateOf (r .configuration) .mental)
   -- 00, demand 2: "with room to save": 01, "The place": "Exactly 44 + L bytes."
   pub saved-room : (b : Bytes) (c : Configuration) → Shaped c → OnAccepted b c → (out left : Bytes) (r : Written) → Saves b c out r left
-      → RoomFor (44 + c .mind .length) out (r .answer)
+      → RoomFor (planAt (setBytes (layout b)) + c .mind .length) out (r .answer)
   -- 01, "Numbers the guide may answer": "Saving writes 44 + L bytes and no others."
   pub saved : (b : Bytes) (c : Configuration) → Shaped c → (out left : Bytes) (r : Written) → Saves b c out r left → r .answer ≡ Done
-      → (r .count ≡ 44 + c .mind .length) × (drop (r .count) left ≡ drop (r .count) out)
+      → (r .count ≡ planAt (setBytes (layout b)) + c .mind .length) × (drop (r .count) left ≡ drop (r .count) out)
   -- 00, demand 2: "A place saved and restored is the same configuration", "under one card and with room to save".
   pub saved-restored : (b : Bytes) (c : Configuration) → Shaped c → (out left : Bytes) (r : Written) → Saves b c out r left
       → r .answer ≡ Done → (r′ : Reply) → Restores b (take (r .count) left) r′

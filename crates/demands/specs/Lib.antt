@@ -1,6 +1,6 @@
 pub mod Contracts
 pub mod Demands
-pub mod Closed
+pub mod AcceptedAgain
 pub mod Struck
 pub mod Shown
 pub mod TestOrder

@@ -8,7 +8,8 @@ use Rattle.meaning.specs.declared.Answer.the-variants.{Done}
 use Rattle.meaning.specs.declared.Configuration.{Configuration}
 use Rattle.meaning.specs.declared.Reply.{Reply}
 use Rattle.meaning.specs.declared.Ran.{Ran}
-use Rattle.meaning.specs.Card.{Bytes, part}
+use Rattle.meaning.specs.Card.{Bytes, layout}
+use Rattle.meaning.specs.Place.{placed}
 use Rattle.meaning.specs.Configurations.{stateOf}
 use Rattle.meaning.specs.Calls.{choice}
 use Rattle.demands.specs.Contracts.{Loads, Takes, Runs, Restores}
@@ -27,4 +28,4 @@ pub record Struck : Type 0 where
   pub take : (b : Bytes) (c : Configuration) (n : ℕ) (r : Reply) → Takes b c n r → Unbelieved c → Unbelieved (r .configuration)
   pub run : (b : Bytes) (c : Configuration) (budget : ℕ) (r : Ran) → Runs b c budget r → Unbelieved c → Unbelieved (r .configuration)
   -- 02, Wish 5: "Restore strikes nothing.": the goals are those of the place.
-  pub restore : (b p : Bytes) (r : Reply) → Restores b p r → r .answer ≡ Done → r .configuration .mind .goals ≡ part p 28 16
+  pub restore : (b p : Bytes) (r : Reply) → Restores b p r → r .answer ≡ Done → r .configuration .mind .goals ≡ placed (layout b) p .mental .γ

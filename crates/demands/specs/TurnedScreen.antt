@@ -11,7 +11,8 @@ use Rattle.meaning.specs.declared.Configuration.{Configuration}
 use Rattle.meaning.specs.declared.Reply.{Reply}
 use Rattle.meaning.specs.declared.Written.{Written}
 use Rattle.meaning.specs.declared.Ran.{Ran}
-use Rattle.meaning.specs.Card.{Bytes}
+use Rattle.meaning.specs.Sizes.{setBytes, planAt}
+use Rattle.meaning.specs.Card.{Bytes, layout}
 use Rattle.meaning.specs.Configurations.{empty}
 use Rattle.meaning.specs.Refusals.{andThen, cardAnswer, configurationAnswer}
 use Rattle.meaning.specs.Calls.{reply, written}
@@ -26,7 +27,7 @@ pub record Turn (b : Bytes) (c : Configuration) : Type 0 where
   -- the lent buffer
   pub out : Bytes
   -- 02, Wish 7: "given room to save": 01, "The place": "Exactly 44 + L bytes."
-  pub room : 44 + c .mind .length ≤ length out
+  pub room : planAt (setBytes (layout b)) + c .mind .length ≤ length out
   -- 02, Wish 7: "save": its answer, and what it leaves in the buffer
   pub saved : Written
   pub left : Bytes

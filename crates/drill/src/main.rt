@@ -18,6 +18,7 @@ use meaning::Answer;
 use meaning::Checked;
 use meaning::Configuration;
 use meaning::Mind;
+use meaning::Plan;
 
 // A byte of the input, unless it has ended.
 enum Byte {
@@ -38,7 +39,7 @@ enum Length {
 }
 
 // A configuration, and whether its image was whole.
-struct Asked {
+struct Request {
     whole: bool,
     configuration: Configuration,
 }
@@ -93,7 +94,7 @@ fn fill(bytes: &mut [u8]) -> bool {
 }
 
 // A plan's array with nothing in it.
-fn no_plan() -> [u8; 1024]
+fn no_plan() -> Plan
     ensures { λ r. ⌜ 1024 ≡ length r ⌝ }
 {
     [0u8; 1024]
@@ -101,7 +102,7 @@ fn no_plan() -> [u8; 1024]
 
 // "An image of a configuration: beliefs, goals (16 bytes each …), plan length (2), phase (1), … the finished count (2), m (2, at
 // most 1,024), and the first m bytes of the plan's array; the rest of the array is zero."
-fn next_image() -> Asked {
+fn next_image() -> Request {
     let mut head = [0u8; 39];
     let mut plan = no_plan();
     let mut whole = false;
@@ -113,7 +114,7 @@ fn next_image() -> Asked {
     }
     let beliefs = set_at(&head, 0);
     let goals = set_at(&head, 16);
-    Asked {
+    Request {
         whole: whole,
         configuration: Configuration {
             mind: Mind {
@@ -147,7 +148,7 @@ fn tell(n: u16) {
 }
 
 // "In an answer m is the least that serves": how many bytes there are up to the last that is not zero.
-fn least(plan: &[u8; 1024]) -> usize
+fn least(plan: &Plan) -> usize
     ensures { λ r. ⌜ r ≤ 1024 ⌝ }
 {
     let mut m: usize = 1024;
@@ -168,7 +169,7 @@ fn tell_first(bytes: &[u8], m: usize) {
 }
 
 // The plan of an image is told.
-fn tell_plan(plan: &[u8; 1024]) {
+fn tell_plan(plan: &Plan) {
     tell_first(plan, least(plan));
 }
 

@@ -5,17 +5,18 @@ ghost use Prim.Native.Nat.{_+_, _≤_};
 ghost use Rattle.paper.specs.Theorems.{AreBytes};
 ghost use Rattle.demands.specs.Contracts.{Checks, Loads, Grades, Lists, Takes, Runs, Saves, Restores, Shaped};
 ghost use Rattle.deliberation.specs.Theorems.{Deliberates};
-ghost use Rattle.choices.specs.InPlace.{replyWith, ranWith};
+ghost use Rattle.door.specs.InPlace.{replyWith, ranWith};
 ghost use Rattle.deliberate.specs.InPlace.{deliberatedWith};
 ghost use Rattle.names.specs.Naming.{asked, names, nameOf, placeOf};
-use choices::in_place::RanInPlace;
-use choices::in_place::ReplyInPlace;
 use deliberate::call::DeliberatedInPlace;
 use deliberation::Deliberated;
 use deliberation::Remaining;
+use door::in_place::RanInPlace;
+use door::in_place::ReplyInPlace;
 use meaning::Checked;
 use meaning::Configuration;
 use meaning::Graded;
+use meaning::Plan;
 use meaning::Ran;
 use meaning::Reply;
 use meaning::Written;
@@ -29,7 +30,7 @@ pub fn check(card: &[u8]) -> Checked
 }
 
 // What was answered in place, with the plan.
-fn reply_with(r: ReplyInPlace, plan: [u8; 1024]) -> Reply
+fn reply_with(r: ReplyInPlace, plan: Plan) -> Reply
     ensures { λ x. ⌜ x ≡ replyWith r plan ⌝ }
     ensures { λ x. ⌜ Shaped (x .configuration) ⌝ }
 {
@@ -78,7 +79,7 @@ pub fn list(card: &[u8], c: Configuration, out: &mut [u16]) -> Written
     ensures { λ r. ⌜ Lists (now (card .entry)) c (now (out .entry)) r (now (out .exit)) ⌝ }
 {
     let m = c.mind;
-    let r = moves::list::list(card, m, &c.plan, out);
+    let r = listing::list::list(card, m, &c.plan, out);
     let a = r.answer;
     Written {
         answer: a,
@@ -99,7 +100,7 @@ pub fn take(card: &[u8], c: Configuration, choice: u16) -> Reply
 }
 
 // What a run answered in place, with the plan.
-fn ran_with(r: RanInPlace, plan: [u8; 1024]) -> Ran
+fn ran_with(r: RanInPlace, plan: Plan) -> Ran
     ensures { λ x. ⌜ x ≡ ranWith r plan ⌝ }
     ensures { λ x. ⌜ Shaped (x .configuration) ⌝ }
 {
@@ -129,7 +130,7 @@ pub fn run(card: &[u8], c: Configuration, budget: u16) -> Ran
 }
 
 // What a deliberation answered in place, with the plan and the numbers that remain.
-fn deliberated_with(r: DeliberatedInPlace, plan: [u8; 1024], numbers: [u8; 128]) -> Deliberated
+fn deliberated_with(r: DeliberatedInPlace, plan: Plan, numbers: [u8; 128]) -> Deliberated
     ensures { λ x. ⌜ x ≡ deliberatedWith r plan numbers ⌝ }
     ensures { λ x. ⌜ Shaped (x .configuration) ⌝ }
 {

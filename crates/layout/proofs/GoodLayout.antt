@@ -7,7 +7,7 @@ use Rattle.meaning.specs.declared.Layout.{Layout}
 use Rattle.meaning.specs.Card.{Bytes, layout}
 use Rattle.meaning.specs.Refusals.{countsGood, offsetsGood}
 use Rattle.meaning.proofs.Accepted.{counts, offsets}
-use Rattle.layout.specs.GoodLayout.{GoodLayout}
+use Rattle.layout.specs.GoodLayout.{Counted, GoodLayout}
 use Rattle.layout.specs.Entries.{countOf}
 
 pub good-layout : (l : Layout) (b : Bytes) → l ≡ layout b → countsGood l ≡ true → offsetsGood l (length b) ≡ true → GoodLayout l b
@@ -38,3 +38,6 @@ pub at-most-256 : (l : Layout) (b : Bytes) → GoodLayout l b → (k : ℕ) → 
 at-most-256 l b d zero = d .selections
 at-most-256 l b d (suc zero) = d .specifications
 at-most-256 l b d (suc (suc k)) = d .revisions
+
+pub counted : (l : Layout) (b : Bytes) → GoodLayout l b → Counted l
+counted l b g = record { atoms = g .atoms; some-actions = g .some-actions; actions = g .actions }

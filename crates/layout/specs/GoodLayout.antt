@@ -5,6 +5,7 @@ use lib.ListN.{length}
 use Rattle.meaning.specs.declared.Section.{Section}
 use Rattle.meaning.specs.declared.Span.{Span}
 use Rattle.meaning.specs.declared.Layout.{Layout}
+use Rattle.meaning.specs.Sizes.{setBytes, mostAtoms, headerBytes, specificationBytes}
 use Rattle.meaning.specs.Card.{Bytes, layout}
 
 -- a section whose count and offset are numbers of two bytes
@@ -28,11 +29,17 @@ pub record TwoByteLayout (l : Layout) : Type 0 where
   pub pool : TwoByteSection (l .pool)
   pub initial : TwoByteSpan (l .initial)
 
+-- The numbers of atoms and of actions are in range.
+pub record Counted (l : Layout) : Type 0 where
+  pub atoms : l .atoms ≤ mostAtoms (setBytes l)
+  pub some-actions : 1 ≤ l .actions
+  pub actions : l .actions ≤ 256
+
 -- The counts are in range, the sections follow each other, and the card ends with the pool.
 pub record GoodLayout (l : Layout) (b : Bytes) : Type 0 where
   pub says : l ≡ layout b
   pub some-atoms : 1 ≤ l .atoms
-  pub atoms : l .atoms ≤ 128
+  pub atoms : l .atoms ≤ mostAtoms (setBytes l)
   pub some-actions : 1 ≤ l .actions
   pub actions : l .actions ≤ 256
   pub nodes : l .nodes .count ≤ 256
@@ -40,9 +47,9 @@ pub record GoodLayout (l : Layout) (b : Bytes) : Type 0 where
   pub selections : l .selections .count ≤ 256
   pub revisions : l .revisions .count ≤ 256
   pub pool : l .pool .count ≤ 8192
-  pub nodes-at : l .nodes .offset ≡ 64 + 2 * l .actions
+  pub nodes-at : l .nodes .offset ≡ headerBytes (setBytes l) + 2 * l .actions
   pub specifications-at : l .specifications .offset ≡ l .nodes .offset + 4 * l .nodes .count
-  pub selections-at : l .selections .offset ≡ l .specifications .offset + 36 * l .specifications .count
+  pub selections-at : l .selections .offset ≡ l .specifications .offset + specificationBytes (setBytes l) * l .specifications .count
   pub revisions-at : l .revisions .offset ≡ l .selections .offset + 8 * l .selections .count
   pub pool-at : l .pool .offset ≡ l .revisions .offset + 12 * l .revisions .count
   pub ends : length b ≡ l .pool .offset + l .pool .count

@@ -1,11 +1,12 @@
-// Bytes, a card's or a place's: a number or a set from an offset on, the mark, and bytes copied.
+// Bytes, a card's or a place's: a number or a set from an offset on, a number's two bytes, the mark, and bytes copied.
 ghost use mathlib.Core.Path.{_≡_};
-ghost use Prim.Native.Nat.{_+_, _*_, _≤_};
+ghost use Prim.Native.Nat.{_+_, _*_, _/_, _%_, _≤_};
 ghost use lib.Dec.{ltb};
 ghost use lib.ListN.{length, drop};
 ghost use lib.Seq.{paste};
 ghost use Rattle.meaning.specs.Card.{numberAt, part};
 ghost use Rattle.meaning.specs.Refusals.{marked};
+use meaning::Set;
 
 // Two bytes, low byte first.
 fn joined(low: u8, high: u8) -> usize
@@ -20,6 +21,20 @@ pub fn number_at(bytes: &[u8], at: usize) -> usize
     ensures { λ r. ⌜ (r ≡ numberAt (now (bytes .entry)) at) × (r ≤ 65535) ⌝ }
 {
     joined(bytes[at], bytes[at + 1])
+}
+
+// A number's low byte.
+pub fn low_byte(n: usize) -> u8
+    ensures { λ r. ⌜ r ≡ n % 256 ⌝ }
+{
+    (n % 256) as u8
+}
+
+// A number's high byte.
+pub fn high_byte(n: usize) -> u8
+    ensures { λ r. ⌜ r ≡ n / 256 % 256 ⌝ }
+{
+    (n / 256 % 256) as u8
 }
 
 // Whether a byte is below a number.
@@ -50,8 +65,20 @@ pub fn copy(dst: &mut [u8], to: usize, src: &[u8], from: usize, n: usize)
     }
 }
 
+// n bytes move down in place.
+pub fn down(s: &mut [u8], to: usize, from: usize, n: usize)
+    requires { ⌜ (to ≤ from) × (from + n ≤ length (now s)) ⌝ }
+    ensures { λ r. ⌜ now (s .exit) ≡ paste (now (s .entry)) to (drop from (now (s .entry))) n ⌝ }
+{
+    let mut k: usize = 0;
+    while k < n {
+        s[to + k] = s[from + k];
+        k += 1;
+    }
+}
+
 // The set at an offset.
-pub fn set_at(bytes: &[u8], at: usize) -> [u8; 16]
+pub fn set_at(bytes: &[u8], at: usize) -> Set
     requires { ⌜ at + 16 ≤ length (now bytes) ⌝ }
     ensures { λ r. ⌜ r ≡ part (now (bytes .entry)) at 16 ⌝ }
 {

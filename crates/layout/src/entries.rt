@@ -1,19 +1,25 @@
 // The entries of a card's sections, by their numbers; its weights and its initial sets.
 ghost use mathlib.Core.Path.{_≡_};
 ghost use Prim.Native.Nat.{_+_, _≤_, _<_};
-ghost use lib.ListN.{length};
+ghost use Rattle.runs.specs.Order.{byKind};
 ghost use Rattle.meaning.specs.Card.{entryAt, weightAt, nodeAt, specificationAt, selectionAt, revisionAt, initialBeliefs, initialGoals};
+ghost use Rattle.meaning.specs.Sizes.{setBytes, specificationBytes};
 ghost use Rattle.meaning.specs.Refusals.{endOf};
 ghost use Rattle.layout.specs.GoodLayout.{TwoByteSpan, GoodLayout};
-ghost use Rattle.layout.specs.Entries.{byKind, countOf};
+ghost use Rattle.layout.specs.Entries.{countOf};
 use crate::bytes::number_at;
 use crate::bytes::set_at;
 use crate::header::read_span;
+use crate::sizes::del_at;
+use crate::sizes::goals_at;
+use crate::sizes::header_bytes;
+use crate::sizes::specification_bytes;
 use meaning::Layout;
 use meaning::Node;
 use meaning::RevisionEntry;
 use meaning::Section;
 use meaning::SelectionEntry;
+use meaning::Set;
 use meaning::SpecificationEntry;
 
 // Where entry i of a section stands, whose entries have a size: it ends within the section.
@@ -50,9 +56,9 @@ pub fn count_of(l: Layout, kind: u8) -> usize
 // "weights, one for each action": that of an action.
 pub fn read_weight(card: &[u8], l: Layout, action: usize) -> usize
     requires { ⌜ GoodLayout l (now card) × (action < l .actions) ⌝ }
-    ensures { λ r. ⌜ (r ≡ weightAt (now (card .entry)) action) × (r ≤ 65535) ⌝ }
+    ensures { λ r. ⌜ (r ≡ weightAt l (now (card .entry)) action) × (r ≤ 65535) ⌝ }
 {
-    number_at(card, 64 + 2 * action)
+    number_at(card, header_bytes(l) + 2 * action)
 }
 
 // "Node, 4 bytes: kind, a, b, 0."
@@ -69,14 +75,23 @@ pub fn read_node(card: &[u8], l: Layout, i: usize) -> Node
     }
 }
 
+// Where specification i stands.
+fn specification_at(l: Layout, i: usize) -> usize
+    requires { ⌜ (i < l .specifications .count) × (endOf (specificationBytes (setBytes l)) (l .specifications) ≤ 65535) ⌝ }
+    ensures { λ r. ⌜ r ≡ entryAt (specificationBytes (setBytes l)) (l .specifications) i ⌝ }
+    ensures { λ r. ⌜ r + specificationBytes (setBytes l) ≤ endOf (specificationBytes (setBytes l)) (l .specifications) ⌝ }
+{
+    entry_at(l.specifications, specification_bytes(l), i)
+}
+
 // "Specification, 36 bytes: action, node, 0, 0, Add, Del."
 pub fn read_specification(card: &[u8], l: Layout, i: usize) -> SpecificationEntry
     requires { ⌜ GoodLayout l (now card) × (i < l .specifications .count) ⌝ }
     ensures { λ r. ⌜ r ≡ specificationAt l (now (card .entry)) i ⌝ }
 {
-    let at = entry_at(l.specifications, 36, i);
+    let at = specification_at(l, i);
     let add = set_at(card, at + 4);
-    let del = set_at(card, at + 20);
+    let del = set_at(card, at + del_at(l));
     SpecificationEntry {
         action: card[at],
         node: card[at + 1],
@@ -125,17 +140,17 @@ pub fn pool_at(l: Layout, i: usize) -> usize
 }
 
 // "initial beliefs"
-pub fn initial_beliefs(card: &[u8]) -> [u8; 16]
-    requires { ⌜ 64 ≤ length (now card) ⌝ }
-    ensures { λ r. ⌜ r ≡ initialBeliefs (now (card .entry)) ⌝ }
+pub fn initial_beliefs(card: &[u8], l: Layout) -> Set
+    requires { ⌜ GoodLayout l (now card) ⌝ }
+    ensures { λ r. ⌜ r ≡ initialBeliefs l (now (card .entry)) ⌝ }
 {
     set_at(card, 32)
 }
 
 // "initial goals"
-pub fn initial_goals(card: &[u8]) -> [u8; 16]
-    requires { ⌜ 64 ≤ length (now card) ⌝ }
-    ensures { λ r. ⌜ r ≡ initialGoals (now (card .entry)) ⌝ }
+pub fn initial_goals(card: &[u8], l: Layout) -> Set
+    requires { ⌜ GoodLayout l (now card) ⌝ }
+    ensures { λ r. ⌜ r ≡ initialGoals l (now (card .entry)) ⌝ }
 {
-    set_at(card, 48)
+    set_at(card, goals_at(l))
 }

@@ -3,9 +3,13 @@ ghost use mathlib.Core.Path.{_≡_};
 ghost use Prim.Native.Nat.{_+_, _*_, _≤_};
 ghost use lib.ListN.{length};
 ghost use Rattle.meaning.specs.Card.{section, span, layout};
-ghost use Rattle.meaning.specs.Refusals.{within, countsGood, offsetsGood};
+ghost use Rattle.meaning.specs.Sizes.{edition1Set, headerBytes};
+ghost use Rattle.meaning.specs.Refusals.{within, countsGood, endOf, offsetsGood};
 ghost use Rattle.layout.specs.GoodLayout.{TwoByteSection, TwoByteSpan, TwoByteLayout};
 use crate::bytes::number_at;
+use crate::sizes::header_bytes;
+use crate::sizes::most_atoms;
+use crate::sizes::specification_bytes;
 use meaning::Layout;
 use meaning::Section;
 use meaning::Span;
@@ -34,7 +38,7 @@ pub fn read_span(card: &[u8], at: usize) -> Span
 
 // What the header says.
 pub fn read_layout(card: &[u8]) -> Layout
-    requires { ⌜ 64 ≤ length (now card) ⌝ }
+    requires { ⌜ headerBytes edition1Set ≤ length (now card) ⌝ }
     ensures { λ r. ⌜ (r ≡ layout (now (card .entry))) × TwoByteLayout r ⌝ }
 {
     Layout {
@@ -65,12 +69,20 @@ pub fn counts_good(l: Layout) -> bool
     let selections = l.selections;
     let revisions = l.revisions;
     let pool = l.pool;
-    in_range(1, 128, l.atoms)
+    in_range(1, most_atoms(l), l.atoms)
         & (in_range(1, 256, l.actions)
             & (in_range(1, 256, nodes.count)
                 & ((specifications.count <= 256)
                     & ((selections.count <= 256)
                         & ((revisions.count <= 256) & (pool.count <= 8192))))))
+}
+
+// Where a section ends, whose entries have a size.
+fn end_of(s: Section, size: usize) -> usize
+    requires { ⌜ TwoByteSection s × (size ≤ 256) ⌝ }
+    ensures { λ r. ⌜ r ≡ endOf size s ⌝ }
+{
+    s.offset + size * s.count
 }
 
 // Not row 4: every offset, and the length n of the whole, is the required one.
@@ -83,10 +95,9 @@ pub fn offsets_good(l: Layout, n: usize) -> bool
     let selections = l.selections;
     let revisions = l.revisions;
     let pool = l.pool;
-    (nodes.offset == 64 + 2 * l.actions)
-        & ((specifications.offset == nodes.offset + 4 * nodes.count)
-            & ((selections.offset == specifications.offset + 36 * specifications.count)
-                & ((revisions.offset == selections.offset + 8 * selections.count)
-                    & ((pool.offset == revisions.offset + 12 * revisions.count)
-                        & (n == pool.offset + pool.count)))))
+    (nodes.offset == header_bytes(l) + 2 * l.actions)
+        & ((specifications.offset == end_of(nodes, 4))
+            & ((selections.offset == end_of(specifications, specification_bytes(l)))
+                & ((revisions.offset == end_of(selections, 8))
+                    & ((pool.offset == end_of(revisions, 12)) & (n == end_of(pool, 1))))))
 }

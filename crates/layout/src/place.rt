@@ -3,13 +3,23 @@ ghost use mathlib.Core.Path.{_≡_};
 ghost use mathlib.Core.List.{_++_};
 ghost use Prim.Native.Nat.{_+_, _≤_};
 ghost use lib.ListN.{length, drop};
+ghost use lib.Seq.{paste};
+ghost use Rattle.meaning.specs.Sizes.{setBytes, placeGoalsAt, planAt};
 ghost use Rattle.meaning.specs.Configurations.{stateOf};
 ghost use Rattle.meaning.specs.Place.{placeHeader, place};
-ghost use Rattle.layout.specs.PlaceParts.{placeParts, lent};
+ghost use Rattle.layout.specs.PlaceParts.{placeParts, configured};
 use crate::bytes::copy;
+use crate::bytes::high_byte;
+use crate::bytes::low_byte;
 use crate::bytes::number_at;
 use crate::bytes::set_at;
+use crate::sizes::place_goals_at;
+use crate::sizes::plan_at;
+use crate::sizes::set_bytes;
+use meaning::Layout;
 use meaning::Mind;
+use meaning::Plan;
+use meaning::Set;
 
 // "plan length L at 4; plan offset 44 at 6; phase at 8"; the finished count "in bytes 10 and 11"; "beliefs at 12; goals at 28".
 pub struct PlaceParts {
@@ -17,32 +27,25 @@ pub struct PlaceParts {
     pub offset: usize,
     pub phase: usize,
     pub finished: usize,
-    pub beliefs: [u8; 16],
-    pub goals: [u8; 16],
-}
-
-// "the plan's L bytes at 44": where they begin, and where all before them has ended.
-pub fn plan_at() -> usize
-    ensures { λ r. ⌜ r ≡ 44 ⌝ }
-{
-    44
+    pub beliefs: Set,
+    pub goals: Set,
 }
 
 // "Exactly 44 + L bytes."
-pub fn place_size(length: usize) -> usize
+pub fn place_size(l: Layout, length: usize) -> usize
     requires { ⌜ length ≤ 65535 ⌝ }
-    ensures { λ r. ⌜ r ≡ 44 + length ⌝ }
+    ensures { λ r. ⌜ r ≡ planAt (setBytes l) + length ⌝ }
 {
-    plan_at() + length
+    plan_at(l) + length
 }
 
 // All of a place but its mark and its plan.
-pub fn read_parts(p: &[u8]) -> PlaceParts
-    requires { ⌜ 44 ≤ length (now p) ⌝ }
-    ensures { λ r. ⌜ (r ≡ placeParts (now (p .entry))) × (r .length ≤ 65535) × (r .finished ≤ 65535) ⌝ }
+pub fn read_parts(l: Layout, p: &[u8]) -> PlaceParts
+    requires { ⌜ planAt (setBytes l) ≤ length (now p) ⌝ }
+    ensures { λ r. ⌜ (r ≡ placeParts l (now (p .entry))) × (r .length ≤ 65535) × (r .finished ≤ 65535) ⌝ }
 {
     let beliefs = set_at(p, 12);
-    let goals = set_at(p, 28);
+    let goals = set_at(p, place_goals_at(l));
     PlaceParts {
         length: number_at(p, 4),
         offset: number_at(p, 6),
@@ -55,35 +58,47 @@ pub fn read_parts(p: &[u8]) -> PlaceParts
 
 // "Bytes 33 50 hex; edition 1 at 2; plan length L at 4; plan offset 44 at 6; phase at 8", and the finished count "in bytes 10 and
 // 11".
-fn header_of(n: u16, phase: u8, finished: u16) -> [u8; 12]
-    ensures { λ r. ⌜ r ≡ placeHeader n phase finished ⌝ }
+fn header_of(l: Layout, n: usize, phase: usize, finished: usize) -> [u8; 12]
+    ensures { λ r. ⌜ r ≡ placeHeader l n phase finished ⌝ }
 {
+    let at = plan_at(l);
     [
         0x33,
         0x50,
         1,
         0,
-        (n % 256) as u8,
-        (n / 256) as u8,
-        44,
-        0,
-        phase,
-        0,
-        (finished % 256) as u8,
-        (finished / 256) as u8,
+        low_byte(n),
+        high_byte(n),
+        low_byte(at),
+        high_byte(at),
+        low_byte(phase),
+        high_byte(phase),
+        low_byte(finished),
+        high_byte(finished),
     ]
 }
 
-// The whole place, where there is room: the header, "beliefs at 12; goals at 28; the plan's L bytes at 44".
-pub fn write_place(m: Mind, plan: &[u8; 1024], out: &mut [u8])
-    requires { ⌜ (m .length ≤ 1024) × (44 + m .length ≤ length (now out)) × (length (now plan) ≡ 1024) ⌝ }
-    ensures { λ r. ⌜ now (out .exit) ≡ place (stateOf (lent m (now (plan .entry)))) ++ drop (44 + m .length) (now (out .entry)) ⌝ }
+// "beliefs at 12; goals at 28"
+fn write_sets(l: Layout, beliefs: Set, goals: Set, out: &mut [u8])
+    requires { ⌜ planAt (setBytes l) ≤ length (now out) ⌝ }
+    ensures { λ r. ⌜ now (out .exit)
+        ≡ paste (paste (now (out .entry)) 12 beliefs (setBytes l)) (placeGoalsAt (setBytes l)) goals (setBytes l) ⌝ }
+{
+    let s = set_bytes(l);
+    copy(out, 12, &beliefs, 0, s);
+    copy(out, place_goals_at(l), &goals, 0, s);
+}
+
+// The whole place, where there is room: the header, the sets, and "the plan's L bytes at 44".
+pub fn write_place(l: Layout, m: Mind, plan: &Plan, out: &mut [u8])
+    requires { ⌜ (m .length ≤ 1024) × (planAt (setBytes l) + m .length ≤ length (now out)) × (length (now plan) ≡ 1024) ⌝ }
+    ensures { λ r. ⌜ now (out .exit) ≡ place l (stateOf (configured m (now (plan .entry))))
+        ++ drop (planAt (setBytes l) + m .length) (now (out .entry)) ⌝ }
 {
     let b = m.beliefs;
     let g = m.goals;
-    let h = header_of(m.length, m.phase, m.finished);
+    let h = header_of(l, m.length as usize, m.phase as usize, m.finished as usize);
     copy(out, 0, &h, 0, 12);
-    copy(out, 12, &b, 0, 16);
-    copy(out, 28, &g, 0, 16);
-    copy(out, 44, plan, 0, m.length as usize);
+    write_sets(l, b, g, out);
+    copy(out, plan_at(l), plan, 0, m.length as usize);
 }

@@ -13,13 +13,14 @@ use lib.Pow.{pow-lt}
 use lib.Dec.{leb}
 use lib.ListN.{length, take, drop, getD, set, replicate, length-append, length-replicate, length-set}
 use lib.Seq.{take-suc-set, length-take-le}
+use Rattle.paper.specs.Next.{if}
 use Rattle.paper.specs.Atoms.{Atoms, bit, _∈_, _∪_}
 use Rattle.paper.specs.Theorems.{AreBytes}
 use Rattle.paper.proofs.Sets.{at-∪, length-∪, ∈-∪, by-members}
 use Rattle.meaning.specs.Card.{Bytes}
 use Rattle.notation.specs.Built.{single, setOf}
-use Rattle.notation.proofs.Values.{if, numberValue, digitsRest, listGoesOn, listOf, behindList}
-use Rattle.notation.proofs.Making.{when, addedTo, setFits, withPlan}
+use Rattle.notation.specs.Values.{numberValue, digitsRest, listGoesOn, listOf, behindList}
+use Rattle.notation.specs.Making.{when, addedTo, setFits, withPlan}
 use Rattle.conditions.specs.Reads.{ReadsNumber}
 use Rattle.conditions.specs.declared.number.Numeral.{Numeral}
 use Rattle.lines.specs.Lines.{WithAtom, ReadsSet, poolOf, WithAction, ReadsPlan}

@@ -10,10 +10,11 @@ use lib.Dec.{eqb, leb}
 use lib.ListN.{length, drop, getD, length-drop, drop-of-length-le}
 use native.Mathlib.Decide.{decLe}
 use lib.Seq.{drop-drop, drop-length}
+use Rattle.paper.specs.Next.{if}
 use Rattle.meaning.specs.Card.{Bytes}
-use Rattle.notation.proofs.Scanning.{digit}
-use Rattle.notation.proofs.Values.{if, numberValue, digitsRest, listGoesOn, listValues, listRest, listOf, behindList, behindLine, secondByte}
-use Rattle.notation.proofs.Making.{when}
+use Rattle.notation.specs.Scanning.{digit}
+use Rattle.notation.specs.Values.{numberValue, digitsRest, listGoesOn, listValues, listRest, listOf, behindList, behindLine, secondByte}
+use Rattle.notation.specs.Making.{when}
 use Rattle.conditions.specs.Reads.{capped}
 use Rattle.conditions.proofs.Numbers.{drop-cons, drop-none}
 use Rattle.lines.specs.Lines.{Skips}

@@ -10,12 +10,12 @@ use borrow.Author.Tests.{le-leb, lt-leb}
 use lib.Dec.{leb}
 use lib.ListN.{length, take, drop}
 use lib.Seq.{paste, length-paste, take-all, take-take, drop-drop}
+use Rattle.paper.specs.Next.{if}
 use Rattle.meaning.specs.Card.{Bytes, part}
 use Rattle.notation.specs.Conditions.{Tree, true, believes, goal, not, and, or}
 use Rattle.notation.specs.Conditions as Conditions
 use Rattle.notation.specs.Built.{node}
-use Rattle.notation.proofs.Values.{if}
-use Rattle.notation.proofs.Making.{bind, when, addedTo, lastNode, withTree, withPlan, treeIn, planIn, putNodes, putPool}
+use Rattle.notation.specs.Making.{bind, when, addedTo, lastNode, withTree, withPlan, treeIn, planIn, putNodes, putPool}
 use Rattle.conditions.specs.Reads.{nodesOf}
 use Rattle.lines.specs.declared.made.Made.{Made}
 use Rattle.lines.specs.InPlace.{sectionsIn, madeIn}

@@ -13,19 +13,19 @@ use Rattle.meaning.specs.Card.{Bytes}
 use Rattle.meaning.specs.Place.{twoBytes}
 use Rattle.notation.specs.Conditions.{Condition}
 use Rattle.notation.specs.Built.{setOf}
-use Rattle.notation.proofs.Values.{Read, nested, got, then, numberValue, digitsRest, listOf, behindList, behindLine, conditionOf, doItemAt, selectItemAt}
-use Rattle.notation.proofs.Values.{reviseItemAt, doItem, selectItem, reviseItem, beginItem, numberItem, secondByte, Item, do-said, select-said, revise-said}
-use Rattle.notation.proofs.Making.{when, setFits, lastNode, madeNodes, poolSize, treeIn, planIn, specificationIn, selectionIn, revisionIn, weightIn, doIn}
-use Rattle.notation.proofs.Making.{selectIn, reviseIn, beginIn, itemIn, itemsIn}
-use Rattle.notation.proofs.Making as Making
-use Rattle.conditions.specs.Reads.{At, capped, ReadsNumber}
+use Rattle.notation.specs.Values.{Read, nested, got, then, numberValue, digitsRest, listOf, behindList, behindLine, conditionOf, doItemAt, selectItemAt}
+use Rattle.notation.specs.Values.{reviseItemAt, doItem, selectItem, reviseItem, beginItem, numberItem, secondByte, Item, do-said, select-said, revise-said}
+use Rattle.notation.specs.Making.{when, setFits, lastNode, madeNodes, poolSize, treeIn, planIn, specificationIn, selectionIn, revisionIn, weightIn, doIn}
+use Rattle.notation.specs.Making.{selectIn, reviseIn, beginIn, itemIn, itemsIn}
+use Rattle.notation.specs.Making as Making
+use Rattle.conditions.specs.Reads.{TextAt, capped, ReadsNumber}
 use Rattle.conditions.specs.declared.number.Numeral.{Numeral}
 use Rattle.lines.specs.declared.made.Made.{Made}
 use Rattle.lines.specs.declared.lists.SetRead.{SetRead}
-use Rattle.lines.specs.declared.parts.Line.{Line}
+use Rattle.lines.specs.declared.parts.PartRead.{PartRead}
 use Rattle.lines.specs.declared.parts.Placed.{Placed}
 use Rattle.lines.specs.InPlace.{madeIn}
-use Rattle.lines.specs.Lines.{Change, Held, Puts, Steps, LineReads, Skips, BehindLine, ReadsSet, conditionIn, lastIn, poolIn, specification, specified}
+use Rattle.lines.specs.Lines.{Change, Held, Puts, StepsOver, ReadsPart, Skips, BehindLine, ReadsSet, conditionIn, lastIn, poolIn, specification, specified}
 use Rattle.lines.specs.Lines.{effects, behindEffects, planSelected, behindPlan, bodyRevised, behindBody, startIn, startPlanned, selection, revision}
 use Rattle.lines.specs.Lines.{tooLarge, AtomsRead, withAtoms, behindNumber, weighed}
 use Rattle.lines.proofs.Sections.{becomes-large}
@@ -35,20 +35,20 @@ use Rattle.lines.proofs.Telling.{made-last, made-pool, atoms-capped, at
 -- ---- one part behind another
 
 module _ {X Y : Type 0} (add : X → Change) (add′ : Y → Change) (t : Bytes) (low low′ : ℕ) (m m₀ : Made) (d d₀ : Bytes) where
-  pub then-nested : (read : Read X) (k : X → Bytes → Read Y) (d′ : Bytes) → LineReads add t low read m d Line.Nested d′
-      → LineReads add′ t low′ (then read k) m₀ d₀ Line.Nested d′
+  pub then-nested : (read : Read X) (k : X → Bytes → Read Y) (d′ : Bytes) → ReadsPart add t low read m d PartRead.Nested d′
+      → ReadsPart add′ t low′ (then read k) m₀ d₀ PartRead.Nested d′
   then-nested nested k d′ q = (refl, q .1)
   then-nested (got x rest) k d′ q = absurd q
 
-  pub then-at : (read : Read X) (k : X → Bytes → Read Y) (n : ℕ) (m₁ : Made) (d₁ : Bytes) (r : Line) (d′ : Bytes) → LineReads add t low read m d (Line.At n m₁) d₁
-      → ((x : X) (rest : Bytes) → Steps t low rest (add x) m d n m₁ d₁ → LineReads add′ t low′ (k x rest) m₀ d₀ r d′)
-      → LineReads add′ t low′ (then read k) m₀ d₀ r d′
+  pub then-at : (read : Read X) (k : X → Bytes → Read Y) (n : ℕ) (m₁ : Made) (d₁ : Bytes) (r : PartRead) (d′ : Bytes) → ReadsPart add t low read m d (PartRead.At n m₁) d₁
+      → ((x : X) (rest : Bytes) → StepsOver t low rest (add x) m d n m₁ d₁ → ReadsPart add′ t low′ (k x rest) m₀ d₀ r d′)
+      → ReadsPart add′ t low′ (then read k) m₀ d₀ r d′
   then-at nested k n m₁ d₁ r d′ q f = let w = q .0 in absurd (let z : _≡_ {A = ℕ} 0 1 = cc in omega arith)
   then-at (got x rest) k n m₁ d₁ r d′ q f = f x rest q
 
 -- where a part that was read ends, and what is held there
 pub line-at : {X : Type 0} (add : X → Change) (t : Bytes) (low : ℕ) (read : Read X) (m : Made) (d : Bytes) (n : ℕ) (m₁ : Made) (d₁ : Bytes)
-    → LineReads add t low read m d (Line.At n m₁) d₁ → (n ≤ length t) × (low ≤ n) × Held m₁ d₁
+    → ReadsPart add t low read m d (PartRead.At n m₁) d₁ → (n ≤ length t) × (low ≤ n) × Held m₁ d₁
 line-at add t low nested m d n m₁ d₁ q = let w = q .0 in absurd (let z : _≡_ {A = ℕ} 0 1 = cc in omega arith)
 line-at add t low (got x rest) m d n m₁ d₁ q = (q .place .0, q .on, q .puts .held)
 
@@ -78,7 +78,7 @@ reviseThen t c r = got (revise-said (record { head = listOf (drop 6 t); conditio
 module _ (t : Bytes) (at s₁ s₂ : ℕ) (a e : SetRead) (next : ℕ) (v : ℕ) (m : Made) (d : Bytes) (h : Held m d) (m′ : Made) (d′ : Bytes) where
   pub effects-steps : Skips t at 4 s₁ → ReadsSet t s₁ a → Skips t (a .next) 4 s₂ → ReadsSet t s₂ e → BehindLine t (e .next) next
       → Puts (specified v (a .fits && e .fits) (lastIn m) (a .set) (e .set)) m d m′ d′
-      → Steps t at (behindEffects (drop at t)) (effects v (drop at t)) m d next m′ d′
+      → StepsOver t at (behindEffects (drop at t)) (effects v (drop at t)) m d next m′ d′
   unfolding effects
   effects-steps k₁ r₁ k₂ r₂ b p =
       let T : Bytes = drop at t in
@@ -109,7 +109,7 @@ module _ (t : Bytes) (at s₁ s₂ : ℕ) (a e : SetRead) (next : ℕ) (v : ℕ)
       }
 
 -- an action's number that is 65,536 where it is greater
-effects-capped : (n : ℕ) (t : Bytes) (o : Option Making.Made) → effects (capped n) t o ≡ effects n t o
+effects-capped : (n : ℕ) (t : Bytes) (o : Option Making.Sections) → effects (capped n) t o ≡ effects n t o
 unfolding effects
 effects-capped n t o = elim (decLe n 65535) [
   | yes l ↦ (let e : capped n ≡ n = omega arith in ap (λ v. effects v t o) e)
@@ -126,18 +126,18 @@ module _ (t : Bytes) (at s₁ : ℕ) (num : Numeral) (s₂ : ℕ) (m : Made) (d 
   do-there : drop s₂ t ≡ drop 4 (digitsRest (drop 3 (drop at t)))
   do-there = k₂ .2 .1 ∙ ap (drop 4) (r .2 .1 ∙ ap digitsRest (k₁ .2 .1))
 
-  pub do-nested : (d₁ : Bytes) → LineReads conditionIn t s₂ (conditionOf (drop s₂ t)) m d Line.Nested d₁
-      → LineReads itemsIn t (at + 1) (doItem (drop at t)) m d Line.Nested d₁
+  pub do-nested : (d₁ : Bytes) → ReadsPart conditionIn t s₂ (conditionOf (drop s₂ t)) m d PartRead.Nested d₁
+      → ReadsPart itemsIn t (at + 1) (doItem (drop at t)) m d PartRead.Nested d₁
   unfolding doItemAt
-  do-nested d₁ l = then-nested conditionIn itemsIn t s₂ (at + 1) m m d d (conditionOf (drop 4 (digitsRest (drop 3 (drop at t))))) (doThen (drop at t)) d₁ (subst (λ (x : Bytes). LineReads conditionIn t s₂ (conditionOf x) m d Line.Nested d₁) do-there l)
+  do-nested d₁ l = then-nested conditionIn itemsIn t s₂ (at + 1) m m d d (conditionOf (drop 4 (digitsRest (drop 3 (drop at t))))) (doThen (drop at t)) d₁ (subst (λ (x : Bytes). ReadsPart conditionIn t s₂ (conditionOf x) m d PartRead.Nested d₁) do-there l)
 
-  pub do-over : (n : ℕ) (m₁ : Made) (d₁ : Bytes) → LineReads conditionIn t s₂ (conditionOf (drop s₂ t)) m d (Line.At n m₁) d₁
-      → (next : ℕ) (m₂ : Made) (d₂ : Bytes) → Steps t n (behindEffects (drop n t)) (effects (num .value) (drop n t)) m₁ d₁ next m₂ d₂
-      → LineReads itemsIn t (at + 1) (doItem (drop at t)) m d (Line.At next m₂) d₂
+  pub do-over : (n : ℕ) (m₁ : Made) (d₁ : Bytes) → ReadsPart conditionIn t s₂ (conditionOf (drop s₂ t)) m d (PartRead.At n m₁) d₁
+      → (next : ℕ) (m₂ : Made) (d₂ : Bytes) → StepsOver t n (behindEffects (drop n t)) (effects (num .value) (drop n t)) m₁ d₁ next m₂ d₂
+      → ReadsPart itemsIn t (at + 1) (doItem (drop at t)) m d (PartRead.At next m₂) d₂
   unfolding doItemAt itemsIn itemIn doIn effects
   do-over n m₁ d₁ l next m₂ d₂ st =
-      then-at conditionIn itemsIn t s₂ (at + 1) m m d d (conditionOf (drop 4 (digitsRest (drop 3 (drop at t))))) (doThen (drop at t)) n m₁ d₁ (Line.At next m₂) d₂
-      (subst (λ (x : Bytes). LineReads conditionIn t s₂ (conditionOf x) m d (Line.At n m₁) d₁) do-there l)
+      then-at conditionIn itemsIn t s₂ (at + 1) m m d d (conditionOf (drop 4 (digitsRest (drop 3 (drop at t))))) (doThen (drop at t)) n m₁ d₁ (PartRead.At next m₂) d₂
+      (subst (λ (x : Bytes). ReadsPart conditionIn t s₂ (conditionOf x) m d (PartRead.At n m₁) d₁) do-there l)
       (λ c rest tr.
       let e : drop n t ≡ rest = tr .place .1 in
       let v : ℕ = numberValue (drop 3 (drop at t)) in
@@ -155,9 +155,9 @@ module _ (t : Bytes) (at s₁ : ℕ) (num : Numeral) (s₂ : ℕ) (m : Made) (d 
 -- ---- select lines
 
 module _ (t : Bytes) (at s : ℕ) (n : ℕ) (m : Made) (d : Bytes) (h : Held m d) (m₁ : Made) (d₁ : Bytes) (next : ℕ) (m₂ : Made) (d₂ : Bytes) where
-  pub selected-steps : (belief goal start len : ℕ) → Skips t at 5 s → Steps t s (behindList (drop s t)) (planIn (listOf (drop s t))) m d n m₁ d₁ → BehindLine t n next
+  pub selected-steps : (belief goal start len : ℕ) → Skips t at 5 s → StepsOver t s (behindList (drop s t)) (planIn (listOf (drop s t))) m d n m₁ d₁ → BehindLine t n next
       → goal ≡ lastIn m → start ≡ poolIn m → len ≡ poolIn m₁ - poolIn m → Puts (selectionIn (selection belief goal start len)) m₁ d₁ m₂ d₂
-      → Steps t at (behindPlan (drop at t)) (planSelected belief (drop at t)) m d next m₂ d₂
+      → StepsOver t at (behindPlan (drop at t)) (planSelected belief (drop at t)) m d next m₂ d₂
   unfolding planSelected
   selected-steps belief goal start len k st b eg es el p =
       let q : drop s t ≡ drop 5 (drop at t) = k .2 .1 in
@@ -178,32 +178,32 @@ module _ (t : Bytes) (at s : ℕ) (n : ℕ) (m : Made) (d : Bytes) (h : Held m d
       }
 
 module _ (t : Bytes) (at s₁ : ℕ) (m : Made) (d : Bytes) (inside : at < length t) (k₁ : Skips t at 10 s₁) where
-  pub select-nested : (d₁ : Bytes) → LineReads conditionIn t s₁ (conditionOf (drop s₁ t)) m d Line.Nested d₁
-      → LineReads itemsIn t (at + 1) (selectItem (drop at t)) m d Line.Nested d₁
+  pub select-nested : (d₁ : Bytes) → ReadsPart conditionIn t s₁ (conditionOf (drop s₁ t)) m d PartRead.Nested d₁
+      → ReadsPart itemsIn t (at + 1) (selectItem (drop at t)) m d PartRead.Nested d₁
   unfolding selectItemAt
-  select-nested d₁ l = then-nested conditionIn itemsIn t s₁ (at + 1) m m d d (conditionOf (drop 10 (drop at t))) beliefThen d₁ (subst (λ (x : Bytes). LineReads conditionIn t s₁ (conditionOf x) m d Line.Nested d₁) (k₁ .2 .1) l)
+  select-nested d₁ l = then-nested conditionIn itemsIn t s₁ (at + 1) m m d d (conditionOf (drop 10 (drop at t))) beliefThen d₁ (subst (λ (x : Bytes). ReadsPart conditionIn t s₁ (conditionOf x) m d PartRead.Nested d₁) (k₁ .2 .1) l)
 
-  module _ (n : ℕ) (m₁ : Made) (d₁ : Bytes) (l₁ : LineReads conditionIn t s₁ (conditionOf (drop s₁ t)) m d (Line.At n m₁) d₁) (s₂ : ℕ) (k₂ : Skips t n 6 s₂) where
-    pub select-nested-2 : (d₂ : Bytes) → LineReads conditionIn t s₂ (conditionOf (drop s₂ t)) m₁ d₁ Line.Nested d₂
-        → LineReads itemsIn t (at + 1) (selectItem (drop at t)) m d Line.Nested d₂
+  module _ (n : ℕ) (m₁ : Made) (d₁ : Bytes) (l₁ : ReadsPart conditionIn t s₁ (conditionOf (drop s₁ t)) m d (PartRead.At n m₁) d₁) (s₂ : ℕ) (k₂ : Skips t n 6 s₂) where
+    pub select-nested-2 : (d₂ : Bytes) → ReadsPart conditionIn t s₂ (conditionOf (drop s₂ t)) m₁ d₁ PartRead.Nested d₂
+        → ReadsPart itemsIn t (at + 1) (selectItem (drop at t)) m d PartRead.Nested d₂
     unfolding selectItemAt
     select-nested-2 d₂ l₂ =
-        then-at conditionIn itemsIn t s₁ (at + 1) m m d d (conditionOf (drop 10 (drop at t))) beliefThen n m₁ d₁ Line.Nested d₂
-        (subst (λ (x : Bytes). LineReads conditionIn t s₁ (conditionOf x) m d (Line.At n m₁) d₁) (k₁ .2 .1) l₁)
+        then-at conditionIn itemsIn t s₁ (at + 1) m m d d (conditionOf (drop 10 (drop at t))) beliefThen n m₁ d₁ PartRead.Nested d₂
+        (subst (λ (x : Bytes). ReadsPart conditionIn t s₁ (conditionOf x) m d (PartRead.At n m₁) d₁) (k₁ .2 .1) l₁)
         (λ b rest tr.
         then-nested conditionIn itemsIn t s₂ (at + 1) m₁ m d₁ d (conditionOf (drop 6 rest)) (goalThen b) d₂
-        (subst (λ (x : Bytes). LineReads conditionIn t s₂ (conditionOf x) m₁ d₁ Line.Nested d₂) (k₂ .2 .1 ∙ ap (drop 6) (tr .place .1)) l₂))
+        (subst (λ (x : Bytes). ReadsPart conditionIn t s₂ (conditionOf x) m₁ d₁ PartRead.Nested d₂) (k₂ .2 .1 ∙ ap (drop 6) (tr .place .1)) l₂))
 
-    pub select-over : (i : ℕ) (m₂ : Made) (d₂ : Bytes) → LineReads conditionIn t s₂ (conditionOf (drop s₂ t)) m₁ d₁ (Line.At i m₂) d₂
-        → (belief : ℕ) → belief ≡ lastIn m₁ → (next : ℕ) (m₃ : Made) (d₃ : Bytes) → Steps t i (behindPlan (drop i t)) (planSelected belief (drop i t)) m₂ d₂ next m₃ d₃
-        → LineReads itemsIn t (at + 1) (selectItem (drop at t)) m d (Line.At next m₃) d₃
+    pub select-over : (i : ℕ) (m₂ : Made) (d₂ : Bytes) → ReadsPart conditionIn t s₂ (conditionOf (drop s₂ t)) m₁ d₁ (PartRead.At i m₂) d₂
+        → (belief : ℕ) → belief ≡ lastIn m₁ → (next : ℕ) (m₃ : Made) (d₃ : Bytes) → StepsOver t i (behindPlan (drop i t)) (planSelected belief (drop i t)) m₂ d₂ next m₃ d₃
+        → ReadsPart itemsIn t (at + 1) (selectItem (drop at t)) m d (PartRead.At next m₃) d₃
     unfolding selectItemAt itemsIn itemIn selectIn planSelected
     select-over i m₂ d₂ l₂ belief eb next m₃ d₃ st =
-        then-at conditionIn itemsIn t s₁ (at + 1) m m d d (conditionOf (drop 10 (drop at t))) beliefThen n m₁ d₁ (Line.At next m₃) d₃
-        (subst (λ (x : Bytes). LineReads conditionIn t s₁ (conditionOf x) m d (Line.At n m₁) d₁) (k₁ .2 .1) l₁)
+        then-at conditionIn itemsIn t s₁ (at + 1) m m d d (conditionOf (drop 10 (drop at t))) beliefThen n m₁ d₁ (PartRead.At next m₃) d₃
+        (subst (λ (x : Bytes). ReadsPart conditionIn t s₁ (conditionOf x) m d (PartRead.At n m₁) d₁) (k₁ .2 .1) l₁)
         (λ b rest tr.
-        then-at conditionIn itemsIn t s₂ (at + 1) m₁ m d₁ d (conditionOf (drop 6 rest)) (goalThen b) i m₂ d₂ (Line.At next m₃) d₃
-        (subst (λ (x : Bytes). LineReads conditionIn t s₂ (conditionOf x) m₁ d₁ (Line.At i m₂) d₂) (k₂ .2 .1 ∙ ap (drop 6) (tr .place .1)) l₂)
+        then-at conditionIn itemsIn t s₂ (at + 1) m₁ m d₁ d (conditionOf (drop 6 rest)) (goalThen b) i m₂ d₂ (PartRead.At next m₃) d₃
+        (subst (λ (x : Bytes). ReadsPart conditionIn t s₂ (conditionOf x) m₁ d₁ (PartRead.At i m₂) d₂) (k₂ .2 .1 ∙ ap (drop 6) (tr .place .1)) l₂)
         (λ g rest₂ tg.
         let e : drop i t ≡ rest₂ = tg .place .1 in
         let lb : belief ≡ lastNode (madeNodes (treeIn (b .tree) (madeIn m d))) = eb ∙ sym (made-last m₁ d₁ (tr .puts .held)) ∙ ap (λ o. lastNode (madeNodes o)) (tr .puts .made) in
@@ -218,9 +218,9 @@ module _ (t : Bytes) (at s₁ : ℕ) (m : Made) (d : Bytes) (inside : at < lengt
 -- ---- revise lines
 
 module _ (t : Bytes) (at s : ℕ) (n : ℕ) (m : Made) (d : Bytes) (h : Held m d) (m₁ : Made) (d₁ : Bytes) (next : ℕ) (m₂ : Made) (d₂ : Bytes) where
-  pub body-steps : (node head len body b : ℕ) → Skips t at 3 s → Steps t s (behindList (drop s t)) (planIn (listOf (drop s t))) m d n m₁ d₁ → BehindLine t n next
+  pub body-steps : (node head len body b : ℕ) → Skips t at 3 s → StepsOver t s (behindList (drop s t)) (planIn (listOf (drop s t))) m d n m₁ d₁ → BehindLine t n next
       → node ≡ lastIn m → b ≡ poolIn m₁ - body → Puts (revisionIn (revision node head len body b)) m₁ d₁ m₂ d₂
-      → Steps t at (behindBody (drop at t)) (bodyRevised head len body (drop at t)) m d next m₂ d₂
+      → StepsOver t at (behindBody (drop at t)) (bodyRevised head len body (drop at t)) m d next m₂ d₂
   unfolding bodyRevised
   body-steps node head len body b k st w en eb p =
       let q : drop s t ≡ drop 3 (drop at t) = k .2 .1 in
@@ -240,23 +240,23 @@ module _ (t : Bytes) (at s : ℕ) (n : ℕ) (m : Made) (d : Bytes) (h : Held m d
       }
 
 module _ (t : Bytes) (at s₁ : ℕ) (m : Made) (d : Bytes) (h : Held m d) (inside : at < length t) (k₁ : Skips t at 6 s₁) (n : ℕ) (m₁ : Made) (d₁ : Bytes)
-    (p : Steps t s₁ (behindList (drop s₁ t)) (planIn (listOf (drop s₁ t))) m d n m₁ d₁) (s₂ : ℕ) (k₂ : Skips t n 4 s₂) where
+    (p : StepsOver t s₁ (behindList (drop s₁ t)) (planIn (listOf (drop s₁ t))) m d n m₁ d₁) (s₂ : ℕ) (k₂ : Skips t n 4 s₂) where
   revise-there : drop s₂ t ≡ drop 4 (behindList (drop 6 (drop at t)))
   revise-there = k₂ .2 .1 ∙ ap (drop 4) (p .place .1 ∙ ap behindList (k₁ .2 .1))
 
-  pub revise-nested : (d₂ : Bytes) → LineReads conditionIn t s₂ (conditionOf (drop s₂ t)) m₁ d₁ Line.Nested d₂
-      → LineReads itemsIn t (at + 1) (reviseItem (drop at t)) m d Line.Nested d₂
+  pub revise-nested : (d₂ : Bytes) → ReadsPart conditionIn t s₂ (conditionOf (drop s₂ t)) m₁ d₁ PartRead.Nested d₂
+      → ReadsPart itemsIn t (at + 1) (reviseItem (drop at t)) m d PartRead.Nested d₂
   unfolding reviseItemAt
-  revise-nested d₂ l = then-nested conditionIn itemsIn t s₂ (at + 1) m₁ m d₁ d (conditionOf (drop 4 (behindList (drop 6 (drop at t))))) (reviseThen (drop at t)) d₂ (subst (λ (x : Bytes). LineReads conditionIn t s₂ (conditionOf x) m₁ d₁ Line.Nested d₂) revise-there l)
+  revise-nested d₂ l = then-nested conditionIn itemsIn t s₂ (at + 1) m₁ m d₁ d (conditionOf (drop 4 (behindList (drop 6 (drop at t))))) (reviseThen (drop at t)) d₂ (subst (λ (x : Bytes). ReadsPart conditionIn t s₂ (conditionOf x) m₁ d₁ PartRead.Nested d₂) revise-there l)
 
-  pub revise-over : (i : ℕ) (m₂ : Made) (d₂ : Bytes) → LineReads conditionIn t s₂ (conditionOf (drop s₂ t)) m₁ d₁ (Line.At i m₂) d₂
+  pub revise-over : (i : ℕ) (m₂ : Made) (d₂ : Bytes) → ReadsPart conditionIn t s₂ (conditionOf (drop s₂ t)) m₁ d₁ (PartRead.At i m₂) d₂
       → (head len body : ℕ) → head ≡ poolIn m → len ≡ poolIn m₁ - poolIn m → body ≡ poolIn m₁
-      → (next : ℕ) (m₃ : Made) (d₃ : Bytes) → Steps t i (behindBody (drop i t)) (bodyRevised head len body (drop i t)) m₂ d₂ next m₃ d₃
-      → LineReads itemsIn t (at + 1) (reviseItem (drop at t)) m d (Line.At next m₃) d₃
+      → (next : ℕ) (m₃ : Made) (d₃ : Bytes) → StepsOver t i (behindBody (drop i t)) (bodyRevised head len body (drop i t)) m₂ d₂ next m₃ d₃
+      → ReadsPart itemsIn t (at + 1) (reviseItem (drop at t)) m d (PartRead.At next m₃) d₃
   unfolding reviseItemAt itemsIn itemIn reviseIn bodyRevised
   revise-over i m₂ d₂ l head len body eh el eb next m₃ d₃ st =
-      then-at conditionIn itemsIn t s₂ (at + 1) m₁ m d₁ d (conditionOf (drop 4 (behindList (drop 6 (drop at t))))) (reviseThen (drop at t)) i m₂ d₂ (Line.At next m₃) d₃
-      (subst (λ (x : Bytes). LineReads conditionIn t s₂ (conditionOf x) m₁ d₁ (Line.At i m₂) d₂) revise-there l)
+      then-at conditionIn itemsIn t s₂ (at + 1) m₁ m d₁ d (conditionOf (drop 4 (behindList (drop 6 (drop at t))))) (reviseThen (drop at t)) i m₂ d₂ (PartRead.At next m₃) d₃
+      (subst (λ (x : Bytes). ReadsPart conditionIn t s₂ (conditionOf x) m₁ d₁ (PartRead.At i m₂) d₂) revise-there l)
       (λ c rest tr.
       let e : drop i t ≡ rest = tr .place .1 in
       let one : madeIn m₁ d₁ ≡ planIn (listOf (drop 6 (drop at t))) (madeIn m d) = p .puts .made ∙ ap (λ (x : Bytes). planIn (listOf x) (madeIn m d)) (k₁ .2 .1) in
@@ -279,17 +279,17 @@ module _ (t : Bytes) (at s₁ : ℕ) (m : Made) (d : Bytes) (h : Held m d) (insi
 -- ---- the begin line
 
 module _ (t : Bytes) (at s : ℕ) (n : ℕ) (m : Made) (d : Bytes) (h : Held m d) (m₁ : Made) (d₁ : Bytes) (next : ℕ) (fits : Bool) (sets : Bytes)
-    (k : Skips t at 5 s) (st : Steps t s (behindList (drop s t)) (planIn (listOf (drop s t))) m d n m₁ d₁) (b : BehindLine t n next) where
+    (k : Skips t at 5 s) (st : StepsOver t s (behindList (drop s t)) (planIn (listOf (drop s t))) m d n m₁ d₁) (b : BehindLine t n next) where
   start-there : madeIn m₁ d₁ ≡ planIn (listOf (drop 5 (drop at t))) (madeIn m d)
   start-there = st .puts .made ∙ ap (λ (x : Bytes). planIn (listOf x) (madeIn m d)) (k .2 .1)
 
-  start-place : At t next (behindPlan (drop at t))
+  start-place : TextAt t next (behindPlan (drop at t))
   start-place = (b .2 .0, b .2 .1 ∙ ap behindLine (st .place .1 ∙ ap behindList (k .2 .1)))
 
   start-on : at ≤ next
   start-on = let o₁ = k .0 in let o₂ = st .on in let o₃ = b .0 in omega arith
 
-  pub start-not : fits ≡ false → (m₂ : Made) → m₂ ≡ tooLarge m₁ → Steps t at (behindPlan (drop at t)) (startPlanned fits sets (drop at t)) m d next m₂ d₁
+  pub start-not : fits ≡ false → (m₂ : Made) → m₂ ≡ tooLarge m₁ → StepsOver t at (behindPlan (drop at t)) (startPlanned fits sets (drop at t)) m d next m₂ d₁
   unfolding startPlanned
   start-not e m₂ q =
       let gone = becomes-large (λ o. none) m₁ d₁ (st .puts .held) refl in
@@ -303,7 +303,7 @@ module _ (t : Bytes) (at s : ℕ) (n : ℕ) (m : Made) (d : Bytes) (h : Held m d
       }
 
   pub start-steps : fits ≡ true → (start len : ℕ) → start ≡ poolIn m → len ≡ poolIn m₁ - poolIn m → (m₂ : Made) (d₂ : Bytes) → Puts (startIn sets start len) m₁ d₁ m₂ d₂
-      → Steps t at (behindPlan (drop at t)) (startPlanned fits sets (drop at t)) m d next m₂ d₂
+      → StepsOver t at (behindPlan (drop at t)) (startPlanned fits sets (drop at t)) m d next m₂ d₂
   unfolding startPlanned
   start-steps e start len es el m₂ d₂ p =
       let ps : poolIn m ≡ poolSize (madeIn m d) = sym (made-pool m d h) in
@@ -323,8 +323,8 @@ module _ (t : Bytes) (at s : ℕ) (n : ℕ) (m : Made) (d : Bytes) (h : Held m d
 
 module _ (t : Bytes) (at s₁ s₂ : ℕ) (b g : SetRead) (m : Made) (d : Bytes) (inside : at < length t) where
   pub begin-over : Skips t at 13 s₁ → ReadsSet t s₁ b → Skips t (b .next) 6 s₂ → ReadsSet t s₂ g
-      → (next : ℕ) (m₁ : Made) (d₁ : Bytes) → Steps t (g .next) (behindPlan (drop (g .next) t)) (startPlanned (b .fits && g .fits) (b .set ++ g .set) (drop (g .next) t)) m d next m₁ d₁
-      → LineReads itemsIn t (at + 1) (beginItem (drop at t)) m d (Line.At next m₁) d₁
+      → (next : ℕ) (m₁ : Made) (d₁ : Bytes) → StepsOver t (g .next) (behindPlan (drop (g .next) t)) (startPlanned (b .fits && g .fits) (b .set ++ g .set) (drop (g .next) t)) m d next m₁ d₁
+      → ReadsPart itemsIn t (at + 1) (beginItem (drop at t)) m d (PartRead.At next m₁) d₁
   unfolding beginItem itemsIn itemIn beginIn startPlanned
   begin-over k₁ r₁ k₂ r₂ next m₁ d₁ st =
       let q₁ : drop s₁ t ≡ drop 13 (drop at t) = k₁ .2 .1 in
@@ -368,7 +368,7 @@ module _ (t : Bytes) (at s : ℕ) (num : Numeral) (next : ℕ) (m : Made) (insid
       )
 
   module _ (d : Bytes) (h : Held m d) (k : Skips t at 7 s) (r : ReadsNumber t s num) (b : BehindLine t (num .next) next) where
-    weight-place : At t next (behindNumber 7 (drop at t))
+    weight-place : TextAt t next (behindNumber 7 (drop at t))
     weight-place = (b .2 .0, b .2 .1 ∙ ap behindLine (r .2 .1 ∙ ap digitsRest (k .2 .1)))
 
     weight-on : at + 1 ≤ next
@@ -377,7 +377,7 @@ module _ (t : Bytes) (at s : ℕ) (num : Numeral) (next : ℕ) (m : Made) (insid
     weight-value : num .value ≡ capped (numberValue (drop 7 (drop at t)))
     weight-value = r .0 ∙ ap (λ (x : Bytes). capped (numberValue x)) (k .2 .1)
 
-    pub weight-not : 65535 < num .value → (m′ : Made) → m′ ≡ tooLarge m → Steps t (at + 1) (behindNumber 7 (drop at t)) (weighed (drop at t)) m d next m′ d
+    pub weight-not : 65535 < num .value → (m′ : Made) → m′ ≡ tooLarge m → StepsOver t (at + 1) (behindNumber 7 (drop at t)) (weighed (drop at t)) m d next m′ d
     unfolding weighed
     weight-not l m′ e =
         let v = weight-value in
@@ -390,7 +390,7 @@ module _ (t : Bytes) (at s : ℕ) (num : Numeral) (next : ℕ) (m : Made) (insid
         }
 
     pub weight-steps : num .value ≤ 65535 → (m′ : Made) (d′ : Bytes) → Puts (weightIn (twoBytes (num .value))) m d m′ d′
-        → Steps t (at + 1) (behindNumber 7 (drop at t)) (weighed (drop at t)) m d next m′ d′
+        → StepsOver t (at + 1) (behindNumber 7 (drop at t)) (weighed (drop at t)) m d next m′ d′
     unfolding weighed
     weight-steps l m′ d′ p =
         let v = weight-value in
@@ -409,16 +409,16 @@ module _ (t : Bytes) (at s : ℕ) (num : Numeral) (next : ℕ) (m : Made) (insid
         }
 
 module _ (t : Bytes) (at : ℕ) (m : Made) (d : Bytes) (h : Held m d) where
-  pub atoms-over : secondByte (drop at t) ≡ 116 → (p : Placed) → AtomsRead t at m p → LineReads itemsIn t (at + 1) (numberItem (drop at t)) m d (Line.At (p .next) (p .made)) d
+  pub atoms-over : secondByte (drop at t) ≡ 116 → (p : Placed) → AtomsRead t at m p → ReadsPart itemsIn t (at + 1) (numberItem (drop at t)) m d (PartRead.At (p .next) (p .made)) d
   unfolding numberItem itemsIn itemIn
   atoms-over e p q =
       let n : ℕ = numberValue (drop 6 (drop at t)) in
       let o = q .0 in
-      subst (λ x. LineReads itemsIn t (at + 1) x m d (Line.At (p .next) (p .made)) d) (sym (if-yes (eqb (secondByte (drop at t)) 116) _ _ (eq-eqb _ 116 e)))
+      subst (λ x. ReadsPart itemsIn t (at + 1) x m d (PartRead.At (p .next) (p .made)) d) (sym (if-yes (eqb (secondByte (drop at t)) 116) _ _ (eq-eqb _ 116 e)))
       (record { place = q .1; on = omega arith; puts = subst (λ x. Puts (atomsIn n) m d x d) (sym (q .2)) (atoms-put m d n h) })
 
   pub action-over : (secondByte (drop at t) ≡ 116 → ⊥) → (next : ℕ) (m′ : Made) (d′ : Bytes)
-      → Steps t (at + 1) (behindNumber 7 (drop at t)) (weighed (drop at t)) m d next m′ d′ → LineReads itemsIn t (at + 1) (numberItem (drop at t)) m d (Line.At next m′) d′
+      → StepsOver t (at + 1) (behindNumber 7 (drop at t)) (weighed (drop at t)) m d next m′ d′ → ReadsPart itemsIn t (at + 1) (numberItem (drop at t)) m d (PartRead.At next m′) d′
   unfolding numberItem itemsIn itemIn weighed
   action-over e next m′ d′ st =
-      subst (λ x. LineReads itemsIn t (at + 1) x m d (Line.At next m′) d′) (sym (if-no (eqb (secondByte (drop at t)) 116) _ _ (ne-eqb _ 116 e))) st
+      subst (λ x. ReadsPart itemsIn t (at + 1) x m d (PartRead.At next m′) d′) (sym (if-no (eqb (secondByte (drop at t)) 116) _ _ (ne-eqb _ 116 e))) st

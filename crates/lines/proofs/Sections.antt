@@ -10,10 +10,10 @@ use native.Mathlib.Omega.{arith}
 use borrow.Author.Tests.{le-leb, lt-leb}
 use lib.ListN.{length}
 use lib.Seq.{paste, length-paste, take-all}
+use Rattle.paper.specs.Next.{if}
 use Rattle.meaning.specs.Card.{Bytes, part}
-use Rattle.notation.proofs.Values.{if}
-use Rattle.notation.proofs.Making.{bind, added, weightIn, specificationIn, selectionIn, revisionIn, putWeights, putSpecifications, putSelections}
-use Rattle.notation.proofs.Making.{putRevisions}
+use Rattle.notation.specs.Making.{bind, added, weightIn, specificationIn, selectionIn, revisionIn, putWeights, putSpecifications, putSelections}
+use Rattle.notation.specs.Making.{putRevisions}
 use Rattle.lines.specs.declared.made.Made.{Made}
 use Rattle.lines.specs.InPlace.{sectionsIn, madeIn}
 use Rattle.lines.specs.Lines.{Change, Held, Puts, tooLarge}

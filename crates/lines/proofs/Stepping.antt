@@ -5,16 +5,17 @@ use mathlib.Core.List.{_++_}
 use Prim.Native.Nat.{ℕ, _+_, _≤_}
 use native.Mathlib.Omega.{arith}
 use lib.ListN.{length, take, drop, length-take, length-drop}
+use Rattle.paper.specs.Next.{if}
 use Rattle.meaning.specs.Card.{Bytes}
 use Rattle.notation.specs.Conditions.{Condition}
-use Rattle.notation.proofs.Values.{if, Read, nested, got, listOf, behindList}
-use Rattle.notation.proofs.Making.{planIn}
-use Rattle.conditions.specs.Reads.{At, ReadsCondition}
+use Rattle.notation.specs.Values.{Read, nested, got, listOf, behindList}
+use Rattle.notation.specs.Making.{planIn}
+use Rattle.conditions.specs.Reads.{ReadsCondition}
 use Rattle.conditions.specs.declared.read.Reading.{Reading}
 use Rattle.lines.specs.declared.made.Made.{Made}
 use Rattle.lines.specs.declared.lists.PlanRead.{PlanRead}
-use Rattle.lines.specs.declared.parts.Line.{Line}
-use Rattle.lines.specs.Lines.{Held, Puts, Steps, LineReads, ReadsPlan, nodesBefore, withNodes, poolBefore, withPool, conditionIn}
+use Rattle.lines.specs.declared.parts.PartRead.{PartRead}
+use Rattle.lines.specs.Lines.{Held, Puts, StepsOver, ReadsPart, ReadsPlan, nodesBefore, withNodes, poolBefore, withPool, conditionIn}
 use Rattle.lines.proofs.Placing.{back-length, plan-put, tree-put}
 
 pub lent-length : (d : Bytes) (a n : ℕ) → a + n ≤ length d → length (take n (drop a d)) ≡ n
@@ -36,7 +37,7 @@ nodes-before-le m h = go (m .large)
 
 module _ (t : Bytes) (at : ℕ) (m : Made) (d : Bytes) (h : Held m d) (k : ℕ) (y d′ : Bytes) where
   pub plan-steps : k ≡ poolBefore m → (r : PlanRead) → ReadsPlan t at (take 8192 (drop 15936 d)) k r y → (m′ : Made) → m′ ≡ withPool m (r .count)
-      → d′ ≡ take 15936 d ++ (y ++ drop 8192 (drop 15936 d)) → Steps t at (behindList (drop at t)) (planIn (listOf (drop at t))) m d (r .next) m′ d′
+      → d′ ≡ take 15936 d ++ (y ++ drop 8192 (drop 15936 d)) → StepsOver t at (behindList (drop at t)) (planIn (listOf (drop at t))) m d (r .next) m′ d′
   plan-steps e r q m′ f g =
       let w = subst (λ j. ReadsPlan t at (take 8192 (drop 15936 d)) j r y) e q in
       record {
@@ -46,20 +47,20 @@ module _ (t : Bytes) (at : ℕ) (m : Made) (d : Bytes) (h : Held m d) (k : ℕ) 
       }
 
   module _ (e : k ≡ nodesBefore m) (g : d′ ≡ take 576 d ++ (y ++ drop 1024 (drop 576 d))) where
-    lent : length (take 1024 (drop 576 d)) ≡ 1024
-    lent = let r = h .room in lent-length d 576 1024 (omega arith)
+    configured : length (take 1024 (drop 576 d)) ≡ 1024
+    configured = let r = h .room in lent-length d 576 1024 (omega arith)
 
-    pub tree-nested : (read : Read Condition) → ReadsCondition t at (take 1024 (drop 576 d)) k read Reading.Nested y → LineReads conditionIn t at read m d Line.Nested d′
-    tree-nested nested q = (refl, (let r = h .room in ap length g ∙ back-length d y 576 1024 (omega arith) (q .1 ∙ lent) ∙ r))
+    pub tree-nested : (read : Read Condition) → ReadsCondition t at (take 1024 (drop 576 d)) k read Reading.Nested y → ReadsPart conditionIn t at read m d PartRead.Nested d′
+    tree-nested nested q = (refl, (let r = h .room in ap length g ∙ back-length d y 576 1024 (omega arith) (q .1 ∙ configured) ∙ r))
     tree-nested (got c rest) q = q
 
     pub tree-steps : (read : Read Condition) (n j : ℕ) → ReadsCondition t at (take 1024 (drop 576 d)) k read (Reading.At n j) y → (m′ : Made) → m′ ≡ withNodes m j
-        → LineReads conditionIn t at read m d (Line.At n m′) d′
+        → ReadsPart conditionIn t at read m d (PartRead.At n m′) d′
     tree-steps nested n j q m′ f = let w = q .0 in absurd (let z : _≡_ {A = ℕ} 0 1 = cc in omega arith)
     tree-steps (got c rest) n j q m′ f =
         let w = subst (λ i. ReadsCondition t at (take 1024 (drop 576 d)) i (got c rest) (Reading.At n j) y) e q in
         record {
           place = q .0;
           on = q .1;
-          puts = subst (λ x. Puts (conditionIn c) m d x d′) (sym f) (tree-put m d h (c .tree) j y d′ (q .3 ∙ lent) (w .4) g);
+          puts = subst (λ x. Puts (conditionIn c) m d x d′) (sym f) (tree-put m d h (c .tree) j y d′ (q .3 ∙ configured) (w .4) g);
         }

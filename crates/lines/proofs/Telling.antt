@@ -3,17 +3,18 @@ use mathlib.Core.Path.{_≡_, refl, ap, sym, _∙_, subst}
 use mathlib.Core.Bool.{Bool, true, false, _&&_, and-false}
 use mathlib.Core.List.{[], _++_}
 use mathlib.Core.Option.{none, some}
-use Prim.Native.Nat.{ℕ, _+_, _-_, _*_, _≤_, _<_}
+use Prim.Native.Nat.{ℕ, _+_, _-_, _*_, _/_, _≤_, _<_}
 use native.Mathlib.Decide.{decLe}
 use native.Mathlib.Omega.{arith}
 use borrow.Author.Tests.{le-leb, lt-leb}
 use lib.Dec.{leb}
 use lib.ListN.{length, take}
 use lib.Seq.{paste, length-paste, take-all}
+use Rattle.paper.specs.Next.{if}
 use Rattle.meaning.specs.Card.{Bytes, part}
-use Rattle.notation.proofs.Values.{if}
-use Rattle.notation.proofs.Making.{bind, when, lastNode, madeNodes, poolSize, putAtoms, specificationIn}
-use Rattle.conditions.specs.Reads.{capped}
+use Rattle.notation.specs.Making.{bind, when, lastNode, madeNodes, poolSize, putAtoms, specificationIn}
+use Rattle.conditions.specs.Reads.{capped, lastOf}
+use Rattle.conditions.proofs.Stored.{last-some}
 use Rattle.lines.specs.declared.made.Made.{Made}
 use Rattle.lines.specs.InPlace.{sectionsIn, madeIn}
 use Rattle.lines.specs.Lines.{Change, Held, Puts, tooLarge, lastIn, poolIn, atomsAre, withAtoms, startIn, specification, specified}
@@ -27,9 +28,14 @@ module _ (m : Made) (d : Bytes) (h : Held m d) where
   pub made-last : lastNode (madeNodes (madeIn m d)) ≡ lastIn m
   made-last = go (m .large)
     where
-      go : (b : Bool) → lastNode (madeNodes (if b none (some (sectionsIn m d)))) ≡ if b 0 (m .nodes - 1)
+      go : (b : Bool) → lastNode (madeNodes (if b none (some (sectionsIn m d)))) ≡ lastOf (if b 257 (m .nodes))
       go true = refl
-      go false = (let r = h .room in let few = h .bounded .nodes in let l = part-length d 576 (4 * m .nodes) (omega arith) in omega arith)
+      go false =
+          let r = h .room in
+          let few = h .bounded .nodes in
+          let l = part-length d 576 (4 * m .nodes) (omega arith) in
+          let e : length (part d 576 (4 * m .nodes)) / 4 - 1 ≡ m .nodes - 1 = omega arith in
+          e ∙ last-some (m .nodes) few
 
   pub made-pool : poolSize (madeIn m d) ≡ poolIn m
   made-pool = go (m .large)
@@ -44,12 +50,6 @@ module _ (m : Made) (d : Bytes) (h : Held m d) where
       go : (b : Bool) → if b 0 (m .pool) ≤ 8192
       go true = omega arith
       go false = h .bounded .pool
-
-pub last-none : (m : Made) → m .large ≡ false → m .nodes ≡ 0 → 0 ≡ lastIn m
-last-none m e f = (let z : 0 ≡ m .nodes - 1 = omega arith in z) ∙ sym (if-no (m .large) 0 (m .nodes - 1) e)
-
-pub last-some : (m : Made) → m .large ≡ false → m .nodes - 1 ≡ lastIn m
-last-some m e = sym (if-no (m .large) 0 (m .nodes - 1) e)
 
 -- ---- the atoms
 

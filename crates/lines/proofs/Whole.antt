@@ -8,16 +8,16 @@ use borrow.Author.Tests.{ne-eqb}
 use lib.Dec.{eqb}
 use lib.ListN.{length, take, drop, getD, replicate, length-replicate, drop-of-length-le}
 use Rattle.meaning.specs.Card.{Bytes, part}
-use Rattle.notation.proofs.Values.{Read, nested, got, then, behindLine, lineAt, lineBy, itemsAt, itemsOf, Item, numberItem, doItem, selectItem, reviseItem}
-use Rattle.notation.proofs.Values.{beginItem}
-use Rattle.notation.proofs.Making.{nothingMade, itemsIn}
-use Rattle.notation.proofs.Making as Making
+use Rattle.notation.specs.Values.{Read, nested, got, then, behindLine, lineAt, lineBy, itemsAt, itemsOf, Item, numberItem, doItem, selectItem, reviseItem}
+use Rattle.notation.specs.Values.{beginItem}
+use Rattle.notation.specs.Making.{nothingMade, itemsIn}
+use Rattle.notation.specs.Making as Making
 use Rattle.conditions.proofs.Numbers.{drop-cons}
 use Rattle.lines.specs.declared.made.Made.{Made}
-use Rattle.lines.specs.declared.parts.Line.{Line}
+use Rattle.lines.specs.declared.parts.PartRead.{PartRead}
 use Rattle.lines.specs.declared.lines.Lined.{Lined}
 use Rattle.lines.specs.InPlace.{madeIn}
-use Rattle.lines.specs.Lines.{Held, LineReads, BehindLine, nothing, Blank, LinesRead}
+use Rattle.lines.specs.Lines.{Held, ReadsPart, BehindLine, nothing, Blank, LinesRead}
 use Rattle.lines.proofs.Placing.{if-no}
 use Rattle.lines.proofs.Telling.{part-none}
 
@@ -25,7 +25,7 @@ use Rattle.lines.proofs.Telling.{part-none}
 
 pub line-note : (t : Bytes) (at next : ℕ) (m : Made) (d : Bytes) → Held m d → at < length t → BehindLine t at next
     → (x : ℕ) → (x ≡ 97 → ⊥) → (x ≡ 100 → ⊥) → (x ≡ 115 → ⊥) → (x ≡ 114 → ⊥) → (x ≡ 98 → ⊥)
-    → LineReads itemsIn t (at + 1) (lineBy x (drop at t)) m d (Line.At next m) d
+    → ReadsPart itemsIn t (at + 1) (lineBy x (drop at t)) m d (PartRead.At next m) d
 unfolding lineAt itemsIn
 line-note t at next m d h inside b x a d′ s r bg =
     let T : Bytes = drop at t in
@@ -36,48 +36,48 @@ line-note t at next m d h inside b x a d′ s r bg =
     ∙ if-no (eqb x 114) (reviseItem T) _ (ne-eqb x 114 r)
     ∙ if-no (eqb x 98) (beginItem T) (got [] (behindLine T)) (ne-eqb x 98 bg) in
     let o = b .1 inside in
-    subst (λ q. LineReads itemsIn t (at + 1) q m d (Line.At next m) d) (sym e) (record { place = b .2; on = omega arith; puts = record { held = h; made = refl } })
+    subst (λ q. ReadsPart itemsIn t (at + 1) q m d (PartRead.At next m) d) (sym e) (record { place = b .2; on = omega arith; puts = record { held = h; made = refl } })
 
 -- ---- a line of a kind, by its first byte
 
-module _ (t : Bytes) (at : ℕ) (m : Made) (d : Bytes) (r : Line) (d′ : Bytes) (x : ℕ) where
-  pub line-number : x ≡ 97 → LineReads itemsIn t (at + 1) (numberItem (drop at t)) m d r d′ → LineReads itemsIn t (at + 1) (lineBy x (drop at t)) m d r d′
+module _ (t : Bytes) (at : ℕ) (m : Made) (d : Bytes) (r : PartRead) (d′ : Bytes) (x : ℕ) where
+  pub line-number : x ≡ 97 → ReadsPart itemsIn t (at + 1) (numberItem (drop at t)) m d r d′ → ReadsPart itemsIn t (at + 1) (lineBy x (drop at t)) m d r d′
   unfolding lineAt
-  line-number e l = subst (λ y. LineReads itemsIn t (at + 1) (lineBy y (drop at t)) m d r d′) (sym e) l
+  line-number e l = subst (λ y. ReadsPart itemsIn t (at + 1) (lineBy y (drop at t)) m d r d′) (sym e) l
 
-  pub line-do : x ≡ 100 → LineReads itemsIn t (at + 1) (doItem (drop at t)) m d r d′ → LineReads itemsIn t (at + 1) (lineBy x (drop at t)) m d r d′
+  pub line-do : x ≡ 100 → ReadsPart itemsIn t (at + 1) (doItem (drop at t)) m d r d′ → ReadsPart itemsIn t (at + 1) (lineBy x (drop at t)) m d r d′
   unfolding lineAt
-  line-do e l = subst (λ y. LineReads itemsIn t (at + 1) (lineBy y (drop at t)) m d r d′) (sym e) l
+  line-do e l = subst (λ y. ReadsPart itemsIn t (at + 1) (lineBy y (drop at t)) m d r d′) (sym e) l
 
-  pub line-select : x ≡ 115 → LineReads itemsIn t (at + 1) (selectItem (drop at t)) m d r d′ → LineReads itemsIn t (at + 1) (lineBy x (drop at t)) m d r d′
+  pub line-select : x ≡ 115 → ReadsPart itemsIn t (at + 1) (selectItem (drop at t)) m d r d′ → ReadsPart itemsIn t (at + 1) (lineBy x (drop at t)) m d r d′
   unfolding lineAt
-  line-select e l = subst (λ y. LineReads itemsIn t (at + 1) (lineBy y (drop at t)) m d r d′) (sym e) l
+  line-select e l = subst (λ y. ReadsPart itemsIn t (at + 1) (lineBy y (drop at t)) m d r d′) (sym e) l
 
-  pub line-revise : x ≡ 114 → LineReads itemsIn t (at + 1) (reviseItem (drop at t)) m d r d′ → LineReads itemsIn t (at + 1) (lineBy x (drop at t)) m d r d′
+  pub line-revise : x ≡ 114 → ReadsPart itemsIn t (at + 1) (reviseItem (drop at t)) m d r d′ → ReadsPart itemsIn t (at + 1) (lineBy x (drop at t)) m d r d′
   unfolding lineAt
-  line-revise e l = subst (λ y. LineReads itemsIn t (at + 1) (lineBy y (drop at t)) m d r d′) (sym e) l
+  line-revise e l = subst (λ y. ReadsPart itemsIn t (at + 1) (lineBy y (drop at t)) m d r d′) (sym e) l
 
-  pub line-begin : x ≡ 98 → LineReads itemsIn t (at + 1) (beginItem (drop at t)) m d r d′ → LineReads itemsIn t (at + 1) (lineBy x (drop at t)) m d r d′
+  pub line-begin : x ≡ 98 → ReadsPart itemsIn t (at + 1) (beginItem (drop at t)) m d r d′ → ReadsPart itemsIn t (at + 1) (lineBy x (drop at t)) m d r d′
   unfolding lineAt
-  line-begin e l = subst (λ y. LineReads itemsIn t (at + 1) (lineBy y (drop at t)) m d r d′) (sym e) l
+  line-begin e l = subst (λ y. ReadsPart itemsIn t (at + 1) (lineBy y (drop at t)) m d r d′) (sym e) l
 
 -- ---- what is left to read
 
 -- what all items come to, from what is made
-abbrev outcome : Read (List Item) → Option Making.Made → Read (Option Making.Made)
+abbrev outcome : Read (List Item) → Option Making.Sections → Read (Option Making.Sections)
 outcome nested o = nested
 outcome (got is rest) o = got (itemsIn is o) rest
 
 -- from n on, with what is made so far, the lines come to what all of them come to
-abbrev pub Left : Bytes → ℕ → Option Making.Made → Type 0
-Left t n o = (f : ℕ) × (length t - n ≤ f) × (outcome (itemsOf f (drop n t)) o ≡ outcome (itemsOf (length t) t) (some nothingMade))
+abbrev pub LinesLeft : Bytes → ℕ → Option Making.Sections → Type 0
+LinesLeft t n o = (f : ℕ) × (length t - n ≤ f) × (outcome (itemsOf f (drop n t)) o ≡ outcome (itemsOf (length t) t) (some nothingMade))
 
-items-behind : (is js : List Item) (o : Option Making.Made) → itemsIn (is ++ js) o ≡ itemsIn js (itemsIn is o)
+items-behind : (is js : List Item) (o : Option Making.Sections) → itemsIn (is ++ js) o ≡ itemsIn js (itemsIn is o)
 unfolding itemsIn
 items-behind [] js o = refl
 items-behind (i ∷ is) js o = items-behind is js (Making.itemIn i o)
 
-outcome-behind : (is : List Item) (o : Option Making.Made) (read : Read (List Item)) → outcome (then read (λ js s. got (is ++ js) s)) o ≡ outcome read (itemsIn is o)
+outcome-behind : (is : List Item) (o : Option Making.Sections) (read : Read (List Item)) → outcome (then read (λ js s. got (is ++ js) s)) o ≡ outcome read (itemsIn is o)
 outcome-behind is o nested = refl
 outcome-behind is o (got js s) = ap (λ x. got x s) (items-behind is js o)
 
@@ -96,15 +96,15 @@ fuel zero h = absurd (omega arith)
 fuel (suc g) h = (g, refl)
 
 module _ (t : Bytes) where
-  outcome-line : (low f i : ℕ) (m m′ : Made) (d d′ : Bytes) (read : Read (List Item)) → LineReads itemsIn t low read m d (Line.At i m′) d′
+  outcome-line : (low f i : ℕ) (m m′ : Made) (d d′ : Bytes) (read : Read (List Item)) → ReadsPart itemsIn t low read m d (PartRead.At i m′) d′
       → outcome (then read (others f)) (madeIn m d) ≡ outcome (itemsOf f (drop i t)) (madeIn m′ d′)
   outcome-line low f i m m′ d d′ nested q = let w = q .0 in absurd (let z : _≡_ {A = ℕ} 0 1 = cc in omega arith)
   outcome-line low f i m m′ d d′ (got is rest) q =
       outcome-behind is (madeIn m d) (itemsOf f rest)
       ∙ sym (λ j. outcome (itemsOf f (q .place .1 j)) (q .puts .made j))
 
-  pub left-turn : (n i : ℕ) (m m′ : Made) (d d′ : Bytes) → n < length t → Left t n (madeIn m d)
-      → LineReads itemsIn t (n + 1) (lineBy (getD t n 0) (drop n t)) m d (Line.At i m′) d′ → n + 1 ≤ i → Left t i (madeIn m′ d′)
+  pub left-turn : (n i : ℕ) (m m′ : Made) (d d′ : Bytes) → n < length t → LinesLeft t n (madeIn m d)
+      → ReadsPart itemsIn t (n + 1) (lineBy (getD t n 0) (drop n t)) m d (PartRead.At i m′) d′ → n + 1 ≤ i → LinesLeft t i (madeIn m′ d′)
   left-turn n i m m′ d d′ h l q on =
       let some-fuel = l .1 in
       let g = fuel (l .0) (omega arith) in
@@ -120,13 +120,13 @@ module _ (t : Bytes) where
   all-nested nested d e r = (refl, r)
   all-nested (got is rest) d e r = absurd (let z : _≡_ {A = ℕ} 0 1 = cc in omega arith)
 
-  nested-line : (low f : ℕ) (m : Made) (d d′ : Bytes) (read : Read (List Item)) → LineReads itemsIn t low read m d Line.Nested d′
+  nested-line : (low f : ℕ) (m : Made) (d d′ : Bytes) (read : Read (List Item)) → ReadsPart itemsIn t low read m d PartRead.Nested d′
       → (nested ≡ outcome (then read (others f)) (madeIn m d)) × (length d′ ≡ 24128)
   nested-line low f m d d′ nested q = (refl, q .1)
   nested-line low f m d d′ (got is rest) q = absurd q
 
-  pub left-nested : (n : ℕ) (m : Made) (d d′ : Bytes) → n < length t → Left t n (madeIn m d)
-      → LineReads itemsIn t (n + 1) (lineBy (getD t n 0) (drop n t)) m d Line.Nested d′ → LinesRead (itemsOf (length t) t) Lined.Nested d′
+  pub left-nested : (n : ℕ) (m : Made) (d d′ : Bytes) → n < length t → LinesLeft t n (madeIn m d)
+      → ReadsPart itemsIn t (n + 1) (lineBy (getD t n 0) (drop n t)) m d PartRead.Nested d′ → LinesRead (itemsOf (length t) t) Lined.Nested d′
   left-nested n m d d′ h l q =
       let some-fuel = l .1 in
       let g = fuel (l .0) (omega arith) in
@@ -143,7 +143,7 @@ module _ (t : Bytes) where
   items-none zero = refl
   items-none (suc f) = refl
 
-  pub left-over : (n : ℕ) (m : Made) (d : Bytes) → length t ≤ n → Held m d → Left t n (madeIn m d) → LinesRead (itemsOf (length t) t) (Lined.All m) d
+  pub left-over : (n : ℕ) (m : Made) (d : Bytes) → length t ≤ n → Held m d → LinesLeft t n (madeIn m d) → LinesRead (itemsOf (length t) t) (Lined.All m) d
   unfolding itemsIn
   left-over n m d h held l =
       all-read (itemsOf (length t) t) m d held
@@ -166,7 +166,7 @@ nothing-held m d e b = subst (λ x. Held x d) (sym e) (record {
   room = b .room;
 })
 
-pub left-start : (t : Bytes) (m : Made) (d : Bytes) → m ≡ nothing → Blank d → Left t 0 (madeIn m d)
+pub left-start : (t : Bytes) (m : Made) (d : Bytes) → m ≡ nothing → Blank d → LinesLeft t 0 (madeIn m d)
 left-start t m d e b = (
   length t,
   omega arith,

@@ -1,9 +1,10 @@
 -- A card in the making, as it stands in its 24,128 bytes.
 use mathlib.Core.Option.{Option, none, some}
 use Prim.Native.Nat.{_+_, _*_, _≤_}
+use Rattle.paper.specs.Next.{if}
+use Rattle.meaning.specs.Sizes.{edition1Set, headerBytes, specificationBytes}
 use Rattle.meaning.specs.Card.{Bytes, part}
-use Rattle.notation.proofs.Values.{if}
-use Rattle.notation.proofs.Making as Making
+use Rattle.notation.specs.Making as Making
 use Rattle.lines.specs.declared.made.Made.{Made}
 
 -- no section has more than its room
@@ -18,12 +19,12 @@ pub record Bounded (m : Made) : Type 0 where
   pub start : m .start + m .len ≤ 8192
 
 -- what the sections hold: 64 bytes of a header come first, with the start's sets at 32
-abbrev pub sectionsIn : Made → Bytes → Making.Made
+abbrev pub sectionsIn : Made → Bytes → Making.Sections
 sectionsIn m card = record {
   atoms = m .atoms;
-  weights = part card 64 (2 * m .weights);
+  weights = part card (headerBytes edition1Set) (2 * m .weights);
   nodes = part card 576 (4 * m .nodes);
-  specifications = part card 1600 (36 * m .specifications);
+  specifications = part card 1600 (specificationBytes edition1Set * m .specifications);
   selections = part card 10816 (8 * m .selections);
   revisions = part card 12864 (12 * m .revisions);
   pool = part card 15936 (m .pool);
@@ -33,5 +34,5 @@ sectionsIn m card = record {
 }
 
 -- what is made so far, if nothing is too large
-abbrev pub madeIn : Made → Bytes → Option Making.Made
+abbrev pub madeIn : Made → Bytes → Option Making.Sections
 madeIn m card = if (m .large) none (some (sectionsIn m card))

@@ -7,25 +7,26 @@ use mathlib.Core.Option.{Option, none, some}
 use Prim.Native.Nat.{ℕ, _+_, _-_, _≤_, _<_}
 use lib.Dec.{leb}
 use lib.ListN.{length, take, drop, replicate}
+use Rattle.paper.specs.Next.{if}
 use Rattle.meaning.specs.Card.{Bytes, part}
 use Rattle.meaning.specs.Place.{twoBytes}
 use Rattle.paper.specs.Atoms.{_∪_}
 use Rattle.notation.specs.Built.{single, setOf}
-use Rattle.notation.proofs.Values.{if, numberValue, digitsRest, listOf, behindList, behindLine, Read, nested, got, conditionOf, Item}
+use Rattle.notation.specs.Values.{numberValue, digitsRest, listOf, behindList, behindLine, Read, nested, got, conditionOf, Item}
 use Rattle.notation.specs.Conditions.{Condition}
-use Rattle.notation.proofs.Making as Making
-use Rattle.conditions.specs.Reads.{At}
+use Rattle.notation.specs.Making as Making
+use Rattle.conditions.specs.Reads.{TextAt, lastOf}
 use Rattle.lines.specs.declared.made.Made.{Made}
 use Rattle.lines.specs.declared.lists.SetRead.{SetRead}
 use Rattle.lines.specs.declared.lists.PlanRead.{PlanRead}
 use Rattle.lines.specs.declared.lines.Lined.{Lined}
-use Rattle.lines.specs.declared.parts.Line.{Line}
+use Rattle.lines.specs.declared.parts.PartRead.{PartRead}
 use Rattle.lines.specs.declared.parts.Placed.{Placed}
 use Rattle.lines.specs.InPlace.{Bounded, madeIn}
 
 -- what a card in the making becomes
 abbrev pub Change : Type 0
-Change = Option Making.Made → Option Making.Made
+Change = Option Making.Sections → Option Making.Sections
 
 -- ---- the card in the making
 
@@ -73,11 +74,11 @@ revision node head h body b = node ∷ (0 ∷ (twoBytes head ++ (twoBytes h ++ (
 
 -- n bytes on, or the end of the text
 abbrev pub Skips : Bytes → ℕ → ℕ → ℕ → Type 0
-Skips t at n r = (at ≤ r) × (at < length t → 0 < n → at < r) × At t r (drop n (drop at t))
+Skips t at n r = (at ≤ r) × (at < length t → 0 < n → at < r) × TextAt t r (drop n (drop at t))
 
 -- behind the end of the line
 abbrev pub BehindLine : Bytes → ℕ → ℕ → Type 0
-BehindLine t at r = (at ≤ r) × (at < length t → at < r) × At t r (behindLine (drop at t))
+BehindLine t at r = (at ≤ r) × (at < length t → at < r) × TextAt t r (behindLine (drop at t))
 
 -- a set with one atom more
 abbrev pub WithAtom : Bytes → ℕ → Bytes → Type 0
@@ -87,7 +88,7 @@ WithAtom s v r = v ≤ 127 → r ≡ s ∪ single v
 abbrev pub ReadsSet : Bytes → ℕ → SetRead → Type 0
 ReadsSet t at r =
     (at ≤ r .next)
-    × At t (r .next) (behindList (drop at t))
+    × TextAt t (r .next) (behindList (drop at t))
     × (r .fits ≡ Making.setFits (listOf (drop at t)))
     × (r .fits ≡ true → r .set ≡ setOf (listOf (drop at t)))
 
@@ -103,7 +104,7 @@ WithAction d k v r d′ = (r ≤ 8193) × (length d′ ≡ 8192) × (poolOf r d�
 abbrev pub ReadsPlan : Bytes → ℕ → Bytes → ℕ → PlanRead → Bytes → Type 0
 ReadsPlan t at d k r d′ =
     (at ≤ r .next)
-    × At t (r .next) (behindList (drop at t))
+    × TextAt t (r .next) (behindList (drop at t))
     × (r .count ≤ 8193)
     × (length d′ ≡ 8192)
     × (poolOf (r .count) d′ ≡ Making.withPlan (listOf (drop at t)) (poolOf k d))
@@ -111,36 +112,36 @@ ReadsPlan t at d k r d′ =
 -- ---- a part of a line, added to the card
 
 -- what is left behind a part, which ends at n and no earlier than low, and what is made then
-pub record Steps (t : Bytes) (low : ℕ) (rest : Bytes) (f : Change) (m : Made) (d : Bytes) (n : ℕ) (m′ : Made) (d′ : Bytes) : Type 0 where
-  pub place : At t n rest
+pub record StepsOver (t : Bytes) (low : ℕ) (rest : Bytes) (f : Change) (m : Made) (d : Bytes) (n : ℕ) (m′ : Made) (d′ : Bytes) : Type 0 where
+  pub place : TextAt t n rest
   pub on : low ≤ n
   pub puts : Puts f m d m′ d′
 
 -- the same, or brackets and "!" nest too deep, by what is read and what that adds
-abbrev pub LineReads : {X : Type 0} → (X → Change) → Bytes → ℕ → Read X → Made → Bytes → Line → Bytes → Type 0
-LineReads add t low nested m d r d′ = (r ≡ Line.Nested) × (length d′ ≡ 24128)
-LineReads add t low (got x rest) m d (Line.At n m′) d′ = Steps t low rest (add x) m d n m′ d′
-LineReads add t low (got x rest) m d Line.Nested d′ = ⊥
+abbrev pub ReadsPart : {X : Type 0} → (X → Change) → Bytes → ℕ → Read X → Made → Bytes → PartRead → Bytes → Type 0
+ReadsPart add t low nested m d r d′ = (r ≡ PartRead.Nested) × (length d′ ≡ 24128)
+ReadsPart add t low (got x rest) m d (PartRead.At n m′) d′ = StepsOver t low rest (add x) m d n m′ d′
+ReadsPart add t low (got x rest) m d PartRead.Nested d′ = ⊥
 
 -- a part that is always read, by what is left behind it and what it adds
 abbrev pub PartOver : (Bytes → Bytes) → (Bytes → Change) → Bytes → ℕ → Made → Bytes → Placed → Bytes → Type 0
-PartOver behind add t at m d r d′ = Steps t at (behind (drop at t)) (add (drop at t)) m d (r .next) (r .made) d′
+PartOver behind add t at m d r d′ = StepsOver t at (behind (drop at t)) (add (drop at t)) m d (r .next) (r .made) d′
 
 -- a condition's nodes
 abbrev pub conditionIn : Condition → Change
 conditionIn c o = Making.treeIn (c .tree) o
 
 -- a condition was read, with what it adds
-abbrev pub ConditionOver : Bytes → ℕ → Made → Bytes → Line → Bytes → Type 0
-ConditionOver t at m d r d′ = LineReads conditionIn t at (conditionOf (drop at t)) m d r d′
+abbrev pub ReadsTree : Bytes → ℕ → Made → Bytes → PartRead → Bytes → Type 0
+ReadsTree t at m d r d′ = ReadsPart conditionIn t at (conditionOf (drop at t)) m d r d′
 
 -- a plan's actions
 abbrev pub planThere : Bytes → Change
 planThere t o = Making.planIn (listOf t) o
 
 -- a line, by what it says; it has a byte at least
-abbrev pub LineOver : (Bytes → Read (List Item)) → Bytes → ℕ → Made → Bytes → Line → Bytes → Type 0
-LineOver item t at m d r d′ = LineReads Making.itemsIn t (at + 1) (item (drop at t)) m d r d′
+abbrev pub ReadsLine : (Bytes → Read (List Item)) → Bytes → ℕ → Made → Bytes → PartRead → Bytes → Type 0
+ReadsLine item t at m d r d′ = ReadsPart Making.itemsIn t (at + 1) (item (drop at t)) m d r d′
 
 -- how many nodes there are, 257 if something is too large
 abbrev pub nodesBefore : Made → ℕ
@@ -190,9 +191,9 @@ withPool m k = if (leb k 8192) (poolIs m k) (tooLarge m)
 
 -- ---- the lines
 
--- the number of the last node, 0 if there is none
+-- the number of the last node, 0 if there is none or something is too large
 abbrev pub lastIn : Made → ℕ
-lastIn m = if (m .large) 0 (m .nodes - 1)
+lastIn m = lastOf (nodesBefore m)
 
 -- how many actions the pool has, 0 if something is too large
 abbrev pub poolIn : Made → ℕ
@@ -268,7 +269,7 @@ behindNumber n t = behindLine (digitsRest (drop n t))
 
 -- ""atoms " number end"
 abbrev pub AtomsRead : Bytes → ℕ → Made → Placed → Type 0
-AtomsRead t at m r = (at < r .next) × At t (r .next) (behindNumber 6 (drop at t)) × (r .made ≡ withAtoms m (numberValue (drop 6 (drop at t))))
+AtomsRead t at m r = (at < r .next) × TextAt t (r .next) (behindNumber 6 (drop at t)) × (r .made ≡ withAtoms m (numberValue (drop 6 (drop at t))))
 
 -- ""action " number end"
 unfoldable pub weighed : Bytes → Change
@@ -276,7 +277,7 @@ weighed t o = Making.when (leb (numberValue (drop 7 t)) 65535) (Making.weightIn 
 
 -- such a line was read, with what it adds
 abbrev pub WeightRead : Bytes → ℕ → Made → Bytes → Placed → Bytes → Type 0
-WeightRead t at m d r d′ = Steps t (at + 1) (behindNumber 7 (drop at t)) (weighed (drop at t)) m d (r .next) (r .made) d′
+WeightRead t at m d r d′ = StepsOver t (at + 1) (behindNumber 7 (drop at t)) (weighed (drop at t)) m d (r .next) (r .made) d′
 
 -- ---- all lines
 

@@ -3,16 +3,17 @@ ghost use mathlib.Core.Path.{_≡_};
 ghost use mathlib.Core.List.{_++_};
 ghost use Prim.Native.Nat.{_+_, _-_, _≤_, _<_};
 ghost use lib.ListN.{length, drop, getD};
-ghost use Rattle.notation.proofs.Values.{doItem, selectItem, reviseItem, beginItem, numberItem, secondByte, lineBy, itemsOf};
-ghost use Rattle.lines.specs.Lines.{Held, Puts, PartOver, LineOver, lastIn, poolIn, specified, effects, behindEffects};
+ghost use Rattle.notation.specs.Values.{doItem, selectItem, reviseItem, beginItem, numberItem, secondByte, lineBy, itemsOf};
+ghost use Rattle.lines.specs.Lines.{Held, Puts, PartOver, ReadsLine, lastIn, poolIn, specified, effects, behindEffects};
 ghost use Rattle.lines.specs.Lines.{planSelected, behindPlan, bodyRevised, behindBody, startPlanned};
 ghost use Rattle.lines.specs.Lines.{AtomsRead, WeightRead, nothing, Blank, LinesRead};
 use crate::lists::behind_line;
 use crate::lists::read_set;
 use crate::lists::skip;
 use crate::made::Made;
-use crate::parts::Line;
+use crate::parts::PartRead;
 use crate::parts::Placed;
+use crate::parts::nodes_before;
 use crate::parts::plan_in;
 use crate::parts::read_tree;
 use crate::put::put_atoms;
@@ -22,20 +23,16 @@ use crate::put::put_specification;
 use crate::put::put_start;
 use crate::put::put_weight;
 use crate::put::too_large;
+use conditions::nodes::last_node;
 use conditions::number::read_number;
+use meaning::Set;
 
-// The number of the last node, 0 if there is none.
-fn last_node(m: Made) -> u8
+// The number of the last node, 0 if there is none or something is too large.
+fn last_in(m: Made) -> u8
     requires { ⌜ m .nodes ≤ 256 ⌝ }
     ensures { λ r. ⌜ r ≡ lastIn m ⌝ }
 {
-    if m.large {
-        return 0;
-    }
-    if m.nodes == 0 {
-        return 0;
-    }
-    (m.nodes - 1) as u8
+    last_node(nodes_before(m))
 }
 
 // How many actions the pool has, 0 if something is too large.
@@ -55,14 +52,7 @@ fn more_than(a: usize, b: usize) -> usize
 // ---- do lines
 
 // A specification, if its action and its sets fit.
-fn specify(
-    card: &mut [u8],
-    m: Made,
-    action: usize,
-    fits: bool,
-    add: [u8; 16],
-    del: [u8; 16],
-) -> Made
+fn specify(card: &mut [u8], m: Made, action: usize, fits: bool, add: Set, del: Set) -> Made
     requires { ⌜ Held m (now card) ⌝ }
     ensures { λ r. ⌜ Puts (specified action fits (lastIn m) add del) m (now (card .entry)) r (now (card .exit)) ⌝ }
 {
@@ -72,7 +62,7 @@ fn specify(
     if !fits {
         return too_large(m);
     }
-    let node = last_node(m);
+    let node = last_in(m);
     put_specification(card, m, action as u8, node, add, del)
 }
 
@@ -92,18 +82,18 @@ fn read_effects(text: &[u8], at: usize, card: &mut [u8], m: Made, action: usize)
 }
 
 // ""do " number " if " condition " add" list " del" list end"
-fn read_do(text: &[u8], at: usize, card: &mut [u8], m: Made) -> Line
+fn read_do(text: &[u8], at: usize, card: &mut [u8], m: Made) -> PartRead
     requires { ⌜ (at < length (now text)) × Held m (now card) ⌝ }
-    ensures { λ r. ⌜ LineOver doItem (now (text .entry)) at m (now (card .entry)) r (now (card .exit)) ⌝ }
+    ensures { λ r. ⌜ ReadsLine doItem (now (text .entry)) at m (now (card .entry)) r (now (card .exit)) ⌝ }
 {
     let action = read_number(text, skip(text, at, 3));
     let asked = read_tree(text, skip(text, action.next, 4), card, m);
-    let Line::At(n, made) = asked else {
-        return Line::Nested;
+    let PartRead::At(n, made) = asked else {
+        return PartRead::Nested;
     };
     let done = read_effects(text, n, card, made, action.value);
     let after = done.made;
-    Line::At(done.next, after)
+    PartRead::At(done.next, after)
 }
 
 // ---- select lines
@@ -117,7 +107,7 @@ fn read_selected(text: &[u8], at: usize, card: &mut [u8], m: Made, belief: u8) -
     let made = p.made;
     let start = pool_size(m);
     let len = more_than(pool_size(made), start);
-    let goal = last_node(m);
+    let goal = last_in(m);
     Placed {
         next: behind_line(text, p.next),
         made: put_selection(card, made, belief, goal, start, len),
@@ -125,21 +115,21 @@ fn read_selected(text: &[u8], at: usize, card: &mut [u8], m: Made, belief: u8) -
 }
 
 // ""select if " condition " goal " condition " plan" list end"
-fn read_select(text: &[u8], at: usize, card: &mut [u8], m: Made) -> Line
+fn read_select(text: &[u8], at: usize, card: &mut [u8], m: Made) -> PartRead
     requires { ⌜ (at < length (now text)) × Held m (now card) ⌝ }
-    ensures { λ r. ⌜ LineOver selectItem (now (text .entry)) at m (now (card .entry)) r (now (card .exit)) ⌝ }
+    ensures { λ r. ⌜ ReadsLine selectItem (now (text .entry)) at m (now (card .entry)) r (now (card .exit)) ⌝ }
 {
     let belief = read_tree(text, skip(text, at, 10), card, m);
-    let Line::At(n, believed) = belief else {
-        return Line::Nested;
+    let PartRead::At(n, believed) = belief else {
+        return PartRead::Nested;
     };
     let goal = read_tree(text, skip(text, n, 6), card, believed);
-    let Line::At(i, wanted) = goal else {
-        return Line::Nested;
+    let PartRead::At(i, wanted) = goal else {
+        return PartRead::Nested;
     };
-    let done = read_selected(text, i, card, wanted, last_node(believed));
+    let done = read_selected(text, i, card, wanted, last_in(believed));
     let after = done.made;
-    Line::At(done.next, after)
+    PartRead::At(done.next, after)
 }
 
 // ---- revise lines
@@ -160,7 +150,7 @@ fn read_body(
     let p = plan_in(text, skip(text, at, 3), card, m);
     let made = p.made;
     let len = more_than(pool_size(made), body);
-    let node = last_node(m);
+    let node = last_in(m);
     Placed {
         next: behind_line(text, p.next),
         made: put_revision(card, made, node, head, h, body, len),
@@ -168,21 +158,21 @@ fn read_body(
 }
 
 // ""revise" list " if " condition " to" list end"
-fn read_revise(text: &[u8], at: usize, card: &mut [u8], m: Made) -> Line
+fn read_revise(text: &[u8], at: usize, card: &mut [u8], m: Made) -> PartRead
     requires { ⌜ (at < length (now text)) × Held m (now card) ⌝ }
-    ensures { λ r. ⌜ LineOver reviseItem (now (text .entry)) at m (now (card .entry)) r (now (card .exit)) ⌝ }
+    ensures { λ r. ⌜ ReadsLine reviseItem (now (text .entry)) at m (now (card .entry)) r (now (card .exit)) ⌝ }
 {
     let p = plan_in(text, skip(text, at, 6), card, m);
     let headed = p.made;
     let asked = read_tree(text, skip(text, p.next, 4), card, headed);
-    let Line::At(n, made) = asked else {
-        return Line::Nested;
+    let PartRead::At(n, made) = asked else {
+        return PartRead::Nested;
     };
     let head = pool_size(m);
     let body = pool_size(headed);
     let done = read_body(text, n, card, made, head, more_than(body, head), body);
     let after = done.made;
-    Line::At(done.next, after)
+    PartRead::At(done.next, after)
 }
 
 // ---- the begin line
@@ -194,8 +184,8 @@ fn read_start(
     card: &mut [u8],
     m: Made,
     fits: bool,
-    beliefs: [u8; 16],
-    goals: [u8; 16],
+    beliefs: Set,
+    goals: Set,
 ) -> Placed
     requires { ⌜ (at ≤ length (now text)) × Held m (now card) ⌝ }
     ensures { λ r. ⌜ PartOver behindPlan (startPlanned fits (beliefs ++ goals)) (now (text .entry)) at m (now (card .entry)) r (now (card .exit)) ⌝ }
@@ -218,9 +208,9 @@ fn read_start(
 }
 
 // ""begin beliefs" list " goals" list " plan" list end"
-fn read_begin(text: &[u8], at: usize, card: &mut [u8], m: Made) -> Line
+fn read_begin(text: &[u8], at: usize, card: &mut [u8], m: Made) -> PartRead
     requires { ⌜ (at < length (now text)) × Held m (now card) ⌝ }
-    ensures { λ r. ⌜ LineOver beginItem (now (text .entry)) at m (now (card .entry)) r (now (card .exit)) ⌝ }
+    ensures { λ r. ⌜ ReadsLine beginItem (now (text .entry)) at m (now (card .entry)) r (now (card .exit)) ⌝ }
 {
     let b = read_set(text, skip(text, at, 13));
     let g = read_set(text, skip(text, b.next, 6));
@@ -228,7 +218,7 @@ fn read_begin(text: &[u8], at: usize, card: &mut [u8], m: Made) -> Line
     let goals = g.set;
     let done = read_start(text, g.next, card, m, b.fits & g.fits, beliefs, goals);
     let after = done.made;
-    Line::At(done.next, after)
+    PartRead::At(done.next, after)
 }
 
 // ---- atoms and action lines
@@ -276,27 +266,27 @@ fn second_byte(text: &[u8], at: usize) -> u8
 }
 
 // ""atoms " number end" or "action " number end"
-fn read_number_line(text: &[u8], at: usize, card: &mut [u8], m: Made) -> Line
+fn read_number_line(text: &[u8], at: usize, card: &mut [u8], m: Made) -> PartRead
     requires { ⌜ (at < length (now text)) × Held m (now card) ⌝ }
-    ensures { λ r. ⌜ LineOver numberItem (now (text .entry)) at m (now (card .entry)) r (now (card .exit)) ⌝ }
+    ensures { λ r. ⌜ ReadsLine numberItem (now (text .entry)) at m (now (card .entry)) r (now (card .exit)) ⌝ }
 {
     let second = second_byte(text, at);
     if second == 116 {
         let counted = read_atoms(text, at, m);
         let after = counted.made;
-        return Line::At(counted.next, after);
+        return PartRead::At(counted.next, after);
     }
     let done = read_action(text, at, card, m);
     let after = done.made;
-    Line::At(done.next, after)
+    PartRead::At(done.next, after)
 }
 
 // ---- all lines
 
 // A line, by its first byte.
-fn read_line(text: &[u8], at: usize, card: &mut [u8], m: Made) -> Line
+fn read_line(text: &[u8], at: usize, card: &mut [u8], m: Made) -> PartRead
     requires { ⌜ (at < length (now text)) × Held m (now card) ⌝ }
-    ensures { λ r. ⌜ LineOver (lineBy (getD (now (text .entry)) at 0)) (now (text .entry)) at m (now (card .entry)) r (now (card .exit)) ⌝ }
+    ensures { λ r. ⌜ ReadsLine (lineBy (getD (now (text .entry)) at 0)) (now (text .entry)) at m (now (card .entry)) r (now (card .exit)) ⌝ }
 {
     let x = text[at];
     match x {
@@ -305,7 +295,7 @@ fn read_line(text: &[u8], at: usize, card: &mut [u8], m: Made) -> Line
         115 => read_select(text, at, card, m),
         114 => read_revise(text, at, card, m),
         98 => read_begin(text, at, card, m),
-        _ => Line::At(behind_line(text, at), m),
+        _ => PartRead::At(behind_line(text, at), m),
     }
 }
 
@@ -343,10 +333,10 @@ pub fn read_lines(text: &[u8], card: &mut [u8]) -> Lined
     while n < text.len() {
         let line = read_line(text, n, card, m);
         match line {
-            Line::Nested => {
+            PartRead::Nested => {
                 return Lined::Nested;
             }
-            Line::At(i, made) => {
+            PartRead::At(i, made) => {
                 n = i;
                 m = made;
             }

@@ -3,10 +3,11 @@ ghost use mathlib.Core.Path.{_≡_};
 ghost use Prim.Native.Nat.{_+_, _≤_, _<_};
 ghost use lib.ListN.{length, drop, replicate};
 ghost use Rattle.notation.specs.Built.{single};
-ghost use Rattle.notation.proofs.Scanning.{digit};
-ghost use Rattle.notation.proofs.Values.{listGoesOn};
+ghost use Rattle.notation.specs.Values.{listGoesOn};
 ghost use Rattle.lines.specs.Lines.{Skips, BehindLine, WithAtom, ReadsSet, WithAction, ReadsPlan};
+use conditions::number::is_digit;
 use conditions::number::read_number;
+use meaning::Set;
 use sets::union;
 
 // Some bytes on, or at the end of the text.
@@ -36,12 +37,6 @@ pub fn behind_line(text: &[u8], at: usize) -> usize
     n
 }
 
-fn is_digit(x: u8) -> bool
-    ensures { λ r. ⌜ r ≡ digit x ⌝ }
-{
-    (48 <= x) & (x <= 57)
-}
-
 // Whether a space and a digit come.
 fn goes_on(text: &[u8], n: usize) -> bool
     requires { ⌜ n ≤ length (now text) ⌝ }
@@ -57,14 +52,14 @@ fn goes_on(text: &[u8], n: usize) -> bool
 
 // ---- sets
 
-fn no_atoms() -> [u8; 16]
+fn no_atoms() -> Set
     ensures { λ r. ⌜ r ≡ replicate 16 0 ⌝ }
 {
     [0u8; 16]
 }
 
 // "atom k is bit (k modulo 8) of byte (k divided by 8)": the set of one atom.
-fn single_set(v: u8) -> [u8; 16]
+fn single_set(v: u8) -> Set
     requires { ⌜ v ≤ 127 ⌝ }
     ensures { λ r. ⌜ r ≡ single v ⌝ }
 {
@@ -74,7 +69,7 @@ fn single_set(v: u8) -> [u8; 16]
 }
 
 // A set with one atom more, if there is such an atom.
-fn with_atom(set: [u8; 16], v: usize) -> [u8; 16]
+fn with_atom(set: Set, v: usize) -> Set
     ensures { λ r. ⌜ WithAtom set v r ⌝ }
 {
     if v > 127 {
@@ -85,7 +80,7 @@ fn with_atom(set: [u8; 16], v: usize) -> [u8; 16]
 
 // A set that was read, whether all its atoms are below 128, and the place behind it.
 pub struct SetRead {
-    pub set: [u8; 16],
+    pub set: Set,
     pub fits: bool,
     pub next: usize,
 }

@@ -2,8 +2,8 @@
 ghost use mathlib.Core.Path.{_≡_};
 ghost use Prim.Native.Nat.{_≤_};
 ghost use lib.ListN.{length};
-ghost use Rattle.notation.proofs.Values.{behindList};
-ghost use Rattle.lines.specs.Lines.{Held, PartOver, ConditionOver, planThere, nodesBefore, withNodes, poolBefore, withPool};
+ghost use Rattle.notation.specs.Values.{behindList};
+ghost use Rattle.lines.specs.Lines.{Held, PartOver, ReadsTree, planThere, nodesBefore, withNodes, poolBefore, withPool};
 use crate::lists::read_plan;
 use crate::made::Made;
 use crate::put::too_large;
@@ -17,13 +17,13 @@ pub struct Placed {
 }
 
 // The same, or brackets and `!` nest too deep.
-pub enum Line {
+pub enum PartRead {
     At(usize, Made),
     Nested,
 }
 
 // How many nodes there are, 257 if something is too large.
-fn nodes_before(m: Made) -> usize
+pub fn nodes_before(m: Made) -> usize
     ensures { λ r. ⌜ r ≡ nodesBefore m ⌝ }
 {
     if m.large { 257 } else { m.nodes }
@@ -40,16 +40,16 @@ fn with_nodes(mut m: Made, k: usize) -> Made
 }
 
 // "condition = or-list": its nodes.
-pub fn read_tree(text: &[u8], at: usize, card: &mut [u8], m: Made) -> Line
+pub fn read_tree(text: &[u8], at: usize, card: &mut [u8], m: Made) -> PartRead
     requires { ⌜ (at ≤ length (now text)) × Held m (now card) ⌝ }
-    ensures { λ r. ⌜ ConditionOver (now (text .entry)) at m (now (card .entry)) r (now (card .exit)) ⌝ }
+    ensures { λ r. ⌜ ReadsTree (now (text .entry)) at m (now (card .entry)) r (now (card .exit)) ⌝ }
 {
     let k = nodes_before(m);
     let read = read_condition(text, at, &mut card[576..1600], k);
     let Reading::At(n, j) = read else {
-        return Line::Nested;
+        return PartRead::Nested;
     };
-    Line::At(n, with_nodes(m, j))
+    PartRead::At(n, with_nodes(m, j))
 }
 
 // How many actions the pool has, 8,193 if something is too large.

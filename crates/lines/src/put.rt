@@ -3,10 +3,12 @@ ghost use mathlib.Core.Path.{_≡_};
 ghost use mathlib.Core.List.{_++_};
 ghost use Prim.Native.Nat.{_+_, _≤_};
 ghost use Rattle.meaning.specs.Place.{twoBytes};
-ghost use Rattle.notation.proofs.Making.{weightIn, specificationIn, selectionIn, revisionIn};
+ghost use Rattle.notation.specs.Making.{weightIn, specificationIn, selectionIn, revisionIn};
 ghost use Rattle.lines.specs.Lines.{Held, Puts, tooLarge, withAtoms, startIn, specification, selection, revision};
 use crate::made::Made;
 use layout::bytes::copy;
+use layout::sizes::edition_1_header;
+use meaning::Set;
 
 // Something is too large.
 pub fn too_large(mut m: Made) -> Made
@@ -36,13 +38,13 @@ pub fn put_weight(card: &mut [u8], mut m: Made, w: usize) -> Made
         return too_large(m);
     }
     let e = two_bytes(w);
-    copy(card, 64 + 2 * n, &e, 0, 2);
+    copy(card, edition_1_header() + 2 * n, &e, 0, 2);
     m.weights = n + 1;
     m
 }
 
 // "Specification, 36 bytes: action, node, 0, 0, Add, Del."
-fn specification_bytes(action: u8, node: u8, add: [u8; 16], del: [u8; 16]) -> [u8; 36]
+fn specification_bytes(action: u8, node: u8, add: Set, del: Set) -> [u8; 36]
     ensures { λ r. ⌜ r ≡ specification action node add del ⌝ }
 {
     let mut e = [0u8; 36];
@@ -59,8 +61,8 @@ pub fn put_specification(
     mut m: Made,
     action: u8,
     node: u8,
-    add: [u8; 16],
-    del: [u8; 16],
+    add: Set,
+    del: Set,
 ) -> Made
     requires { ⌜ Held m (now card) ⌝ }
     ensures { λ r. ⌜ Puts (specificationIn (specification action node add del)) m (now (card .entry)) r (now (card .exit)) ⌝ }
@@ -180,8 +182,8 @@ pub fn put_atoms(mut m: Made, n: usize) -> Made
 pub fn put_start(
     card: &mut [u8],
     mut m: Made,
-    beliefs: [u8; 16],
-    goals: [u8; 16],
+    beliefs: Set,
+    goals: Set,
     start: usize,
     len: usize,
 ) -> Made

@@ -15,10 +15,11 @@ use Rattle.runs.proofs.Weight.{bounded-law}
 use Rattle.meaning.specs.declared.Answer.the-variants.{Done}
 use Rattle.meaning.specs.declared.Section.{Section}
 use Rattle.meaning.specs.declared.Layout.{Layout}
+use Rattle.meaning.specs.Sizes.{setBytes, mostAtoms, headerBytes, specificationBytes}
 use Rattle.meaning.specs.Card.{Bytes, layout, entries, weightAt, weights, weight, agentOf, agentFor, agent, initialPlan}
 use Rattle.meaning.specs.Refusals.{all, within, cardLongEnough, cardMarkGood, countsGood, endOf, offsetsGood, weightsGood, nodesGood, containing, rulesGood, actionsGood, pool, setsGood, cardTable, cardAnswer}
 use Rattle.meaning.specs.Theorems.{CardLaw}
-use Rattle.meaning.proofs.Tables.{passes}
+use Rattle.meaning.proofs.Tables.{row-passed}
 
 -- what an accepted card has passed, row by row
 pub record Accepted (b : Bytes) : Type 0 where
@@ -34,26 +35,18 @@ pub record Accepted (b : Bytes) : Type 0 where
 
 pub accepted : (b : Bytes) → cardAnswer b ≡ Done → Accepted b
 unfolding cardAnswer cardTable
-accepted b e0 =
-    let (h1, e1) = passes _ _ b e0 in
-    let (h2, e2) = passes _ _ b e1 in
-    let (h3, e3) = passes _ _ b e2 in
-    let (h4, e4) = passes _ _ b e3 in
-    let (h5, e5) = passes _ _ b e4 in
-    let (h6, e6) = passes _ _ b e5 in
-    let (h7, e7) = passes _ _ b e6 in
-    let (h8, e8) = passes _ _ b e7 in
-    let (h9, e9) = passes _ _ b e8 in
+accepted b e =
+    let passed = row-passed b cardTable e in
     record {
-      long-enough = not-false _ h1;
-      marked = not-false _ h2;
-      counts = not-false _ h3;
-      offsets = not-false _ h4;
-      weights = not-false _ h5;
-      nodes = not-false _ h6;
-      rules = not-false _ h7;
-      pool = not-false _ h8;
-      sets = not-false _ h9;
+      long-enough = not-false _ (passed 0);
+      marked = not-false _ (passed 1);
+      counts = not-false _ (passed 2);
+      offsets = not-false _ (passed 3);
+      weights = not-false _ (passed 4);
+      nodes = not-false _ (passed 5);
+      rules = not-false _ (passed 6);
+      pool = not-false _ (passed 7);
+      sets = not-false _ (passed 8);
     }
 
 -- ---- its numbers are in range
@@ -66,7 +59,7 @@ within-high low high n e = leb-true n high (both (leb low n) _ e .1)
 
 pub record Counts (l : Layout) : Type 0 where
   pub some-atoms : 1 ≤ l .atoms
-  pub atoms : l .atoms ≤ 128
+  pub atoms : l .atoms ≤ mostAtoms (setBytes l)
   pub some-actions : 1 ≤ l .actions
   pub actions : l .actions ≤ 256
   pub some-nodes : 1 ≤ l .nodes .count
@@ -79,7 +72,7 @@ pub record Counts (l : Layout) : Type 0 where
 pub counts : (l : Layout) → countsGood l ≡ true → Counts l
 unfolding countsGood
 counts l e0 =
-    let (h1, e1) = both (within 1 128 (l .atoms)) _ e0 in
+    let (h1, e1) = both (within 1 (mostAtoms (setBytes l)) (l .atoms)) _ e0 in
     let (h2, e2) = both (within 1 256 (l .actions)) _ e1 in
     let (h3, e3) = both (within 1 256 (l .nodes .count)) _ e2 in
     let (h4, e4) = both (leb (l .specifications .count) 256) _ e3 in
@@ -101,9 +94,9 @@ counts l e0 =
 -- ---- its offsets
 
 pub record Offsets (l : Layout) (n : ℕ) : Type 0 where
-  pub nodes : l .nodes .offset ≡ 64 + 2 * l .actions
+  pub nodes : l .nodes .offset ≡ headerBytes (setBytes l) + 2 * l .actions
   pub specifications : l .specifications .offset ≡ endOf 4 (l .nodes)
-  pub selections : l .selections .offset ≡ endOf 36 (l .specifications)
+  pub selections : l .selections .offset ≡ endOf (specificationBytes (setBytes l)) (l .specifications)
   pub revisions : l .revisions .offset ≡ endOf 8 (l .selections)
   pub pool : l .pool .offset ≡ endOf 12 (l .revisions)
   pub ends : n ≡ l .pool .offset + l .pool .count
@@ -111,9 +104,9 @@ pub record Offsets (l : Layout) (n : ℕ) : Type 0 where
 pub offsets : (l : Layout) (n : ℕ) → offsetsGood l n ≡ true → Offsets l n
 unfolding offsetsGood
 offsets l n e0 =
-    let (h1, e1) = both (eqb (l .nodes .offset) (64 + 2 * l .actions)) _ e0 in
+    let (h1, e1) = both (eqb (l .nodes .offset) (headerBytes (setBytes l) + 2 * l .actions)) _ e0 in
     let (h2, e2) = both (eqb (l .specifications .offset) (endOf 4 (l .nodes))) _ e1 in
-    let (h3, e3) = both (eqb (l .selections .offset) (endOf 36 (l .specifications))) _ e2 in
+    let (h3, e3) = both (eqb (l .selections .offset) (endOf (specificationBytes (setBytes l)) (l .specifications))) _ e2 in
     let (h4, e4) = both (eqb (l .revisions .offset) (endOf 8 (l .selections))) _ e3 in
     let (h5, e5) = both (eqb (l .pool .offset) (endOf 12 (l .revisions))) _ e4 in
     let total : n ≡ l .pool .offset + 1 * l .pool .count = eqb-true _ _ e5 in
@@ -149,7 +142,7 @@ at-least-one f (n ∷ ns) (suc a) e = at-least-one f ns a (both (within 1 1024 (
 
 weighs-something : (b : Bytes) → weightsGood (layout b) b ≡ true → (a : ℕ) → 1 ≤ weight b a
 unfolding weight weights weightsGood
-weighs-something b e a = at-least-one (weightAt b) (numbers 0 (layout b .actions)) a e
+weighs-something b e a = at-least-one (weightAt (layout b) b) (numbers 0 (layout b .actions)) a e
 
 pub card-laws : CardLaw
 card-laws b e =

@@ -1,7 +1,7 @@
 -- In a condition that is asked for the right kind, no node is of the other.
 use mathlib.Core.Path.{_≡_, refl, sym, _∙_}
 use mathlib.Core.Bool.{Bool, true, false, _||_}
-use Prim.Native.Nat.{ℕ, zero, suc, _≤_, _<_}
+use Prim.Native.Nat.{ℕ, _≤_, _<_}
 use native.Mathlib.Omega.{arith}
 use borrow.Author.Tests.{not-true, ltb-true}
 use lib.Dec.{ltb}
@@ -9,11 +9,13 @@ use lib.ListN.{getD}
 use Rattle.paper.proofs.Relation.{both, false≢true}
 use Rattle.meaning.specs.declared.Answer.the-variants.{Done}
 use Rattle.meaning.specs.declared.Layout.{Layout}
+use Rattle.meaning.specs.Kinds.{NodeKind, nodeKind}
 use Rattle.meaning.specs.Card.{Bytes, layout, nodeAt, specificationAt, selectionAt, revisionAt}
 use Rattle.meaning.specs.Refusals.{nodesGood, containsOf, containing, conditionGood, specificationGood, selectionGood, revisionGood, cardAnswer}
 use Rattle.meaning.specs.Theorems.{StandsIn, is-it, in-first, in-second, Without, KindLaw}
 use Rattle.meaning.proofs.Accepted.{accepted}
 use Rattle.meaning.proofs.Entries.{good-entries}
+use Rattle.meaning.proofs.NodeKinds.{Inner, is-not, is-and, is-or, inner-kind}
 use Rattle.meaning.proofs.Nodes.{node-rule, contains-at}
 
 pub or-none : (x y : Bool) → x || y ≡ false → (x ≡ false) × (y ≡ false)
@@ -27,27 +29,19 @@ data AtomKind : ℕ → Type 0 where
   belief : AtomKind 1
   goal : AtomKind 2
 
-own : {kind : ℕ} → AtomKind kind → (a b : ℕ) (f : ℕ → Bool) → containsOf kind kind a b f ≡ true
+own : {kind : ℕ} → AtomKind kind → (a b : ℕ) (f : ℕ → Bool) → containsOf kind (nodeKind kind) a b f ≡ true
 own belief a b f = refl
 own goal a b f = refl
 
-pub first-free : (kind k a b : ℕ) (f : ℕ → Bool) → 3 ≤ k → k ≤ 5 → containsOf kind k a b f ≡ false → f a ≡ false
-first-free kind zero a b f h m e = absurd (omega arith)
-first-free kind (suc zero) a b f h m e = absurd (omega arith)
-first-free kind (suc (suc zero)) a b f h m e = absurd (omega arith)
-first-free kind (suc (suc (suc zero))) a b f h m e = e
-first-free kind (suc (suc (suc (suc zero)))) a b f h m e = or-none (f a) (f b) e .0
-first-free kind (suc (suc (suc (suc (suc zero))))) a b f h m e = or-none (f a) (f b) e .0
-first-free kind (suc (suc (suc (suc (suc (suc k)))))) a b f h m e = absurd (omega arith)
+pub first-free : (kind : ℕ) {k : ℕ} {κ : NodeKind} → Inner k κ → (a b : ℕ) (f : ℕ → Bool) → containsOf kind κ a b f ≡ false → f a ≡ false
+first-free kind is-not a b f e = e
+first-free kind is-and a b f e = or-none (f a) (f b) e .0
+first-free kind is-or a b f e = or-none (f a) (f b) e .0
 
-pub second-free : (kind k a b : ℕ) (f : ℕ → Bool) → 4 ≤ k → k ≤ 5 → containsOf kind k a b f ≡ false → f b ≡ false
-second-free kind zero a b f h m e = absurd (omega arith)
-second-free kind (suc zero) a b f h m e = absurd (omega arith)
-second-free kind (suc (suc zero)) a b f h m e = absurd (omega arith)
-second-free kind (suc (suc (suc zero))) a b f h m e = absurd (omega arith)
-second-free kind (suc (suc (suc (suc zero)))) a b f h m e = or-none (f a) (f b) e .1
-second-free kind (suc (suc (suc (suc (suc zero))))) a b f h m e = or-none (f a) (f b) e .1
-second-free kind (suc (suc (suc (suc (suc (suc k)))))) a b f h m e = absurd (omega arith)
+pub second-free : (kind : ℕ) {k : ℕ} {κ : NodeKind} → Inner k κ → (a b : ℕ) (f : ℕ → Bool) → 4 ≤ k → containsOf kind κ a b f ≡ false → f b ≡ false
+second-free kind is-not a b f h e = absurd (omega arith)
+second-free kind is-and a b f h e = or-none (f a) (f b) e .1
+second-free kind is-or a b f h e = or-none (f a) (f b) e .1
 
 -- ---- a condition
 
@@ -58,18 +52,18 @@ module _ (l : Layout) (b : Bytes) (good : nodesGood l b ≡ true) {kind : ℕ} (
   without : {i j : ℕ} → i < l .nodes .count → free i → StandsIn l b j i → nodeAt l b j .kind ≡ kind → ⊥
   without {i} h f is-it e =
       let x = nodeAt l b i in
-      let c : containsOf kind (x .kind) (x .a) (x .b) (λ j. getD (containing kind l b) j false) ≡ false = sym (contains-at l b good i h kind) ∙ f in
+      let c : containsOf kind (nodeKind (x .kind)) (x .a) (x .b) (λ j. getD (containing kind l b) j false) ≡ false = sym (contains-at l b good i h kind) ∙ f in
       false≢true (sym (rw e at c) ∙ own is (x .a) (x .b) (λ j. getD (containing kind l b) j false))
   without {i} h f (in-first k s) e =
       let x = nodeAt l b i in
       let r = node-rule l b good i h in
       let lower = r .first k in
-      without (omega arith) (first-free kind (x .kind) (x .a) (x .b) (λ j. getD (containing kind l b) j false) k (r .kinds) (sym (contains-at l b good i h kind) ∙ f)) s e
+      without (omega arith) (first-free kind (inner-kind (x .kind) k (r .kinds)) (x .a) (x .b) (λ j. getD (containing kind l b) j false) (sym (contains-at l b good i h kind) ∙ f)) s e
   without {i} h f (in-second k s) e =
       let x = nodeAt l b i in
       let r = node-rule l b good i h in
       let lower = r .second k in
-      without (omega arith) (second-free kind (x .kind) (x .a) (x .b) (λ j. getD (containing kind l b) j false) k (r .kinds) (sym (contains-at l b good i h kind) ∙ f)) s e
+      without (omega arith) (second-free kind (inner-kind (x .kind) (omega arith) (r .kinds)) (x .a) (x .b) (λ j. getD (containing kind l b) j false) k (sym (contains-at l b good i h kind) ∙ f)) s e
 
   asked : (i : ℕ) → conditionGood l (containing kind l b) i ≡ true → (j : ℕ) → StandsIn l b j i → nodeAt l b j .kind ≡ kind → ⊥
   asked i e j = let (known, free) = both (ltb i (l .nodes .count)) _ e in without (ltb-true _ _ known) (not-true _ free)

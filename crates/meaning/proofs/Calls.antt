@@ -138,11 +138,11 @@ module _ (b : Bytes) (c : Configuration) (out : List ℕ) where
 
   pub saves-refused : (r : Refusal) → configurationAnswer b c ≡ Refused r → (saves b c out ≡ written (Refused r) 0 c) × (saveLeaves b c out ≡ out)
   unfolding saves saveLeaves
-  saves-refused r e = writes-refused b c (place (stateOf c)) out r e
+  saves-refused r e = writes-refused b c (place (layout b) (stateOf c)) out r e
 
 -- ---- restore
 
-pub restores-good : (b p : Bytes) → placeAnswer b p ≡ Done → restores b p ≡ reply Done (configurationOf (placed p))
+pub restores-good : (b p : Bytes) → placeAnswer b p ≡ Done → restores b p ≡ reply Done (configurationOf (placed (layout b) p))
 unfolding restores
 restores-good b p e = rw (e, restores)
 

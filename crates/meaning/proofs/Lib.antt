@@ -1,5 +1,6 @@
 pub mod Cases
 pub mod Computing
+pub mod NodeKinds
 pub mod Every
 pub mod Tables
 pub mod Accepted

@@ -19,12 +19,12 @@ module _ {X : Type 0} (make : ℕ → Node → (ℕ → X) → X) (other : X) wh
       ∙ List·getD-append made (m ∷ []) other i h
 
   -- what was made of node i, from what was made of those below it
-  record Made (all : List X) (n : Node) (i : ℕ) : Type 0 where
+  record MadeAt (all : List X) (n : Node) (i : ℕ) : Type 0 where
     below : ℕ → X
     agree : (j : ℕ) → j < i → below j ≡ getD all j other
     made : getD all i other ≡ make i n below
 
-  made-on : (made : List X) (ns : List Node) (i : ℕ) (d : Node) → i < length ns → Made (passOn make other made ns) (getD ns i d) (length made + i)
+  made-on : (made : List X) (ns : List Node) (i : ℕ) (d : Node) → i < length ns → MadeAt (passOn make other made ns) (getD ns i d) (length made + i)
   made-on made [] i d h = absurd (not-suc-le-zero h)
   made-on made (n ∷ ns) zero d h =
       let m = make (length made) n (λ j. getD made j other) in
@@ -38,7 +38,7 @@ module _ {X : Type 0} (make : ℕ → Node → (ℕ → X) → X) (other : X) wh
   made-on made (n ∷ ns) (suc i) d h =
       let m = make (length made) n (λ j. getD made j other) in
       let l : length (made ++ (m ∷ [])) + i ≡ length made + suc i = rw (length-append made (m ∷ [])) (omega arith) in
-      subst (λ k. Made (passOn make other (made ++ (m ∷ [])) ns) (getD ns i d) k) l (made-on (made ++ (m ∷ [])) ns i d (le-of-suc-le-suc h))
+      subst (λ k. MadeAt (passOn make other (made ++ (m ∷ [])) ns) (getD ns i d) k) l (made-on (made ++ (m ∷ [])) ns i d (le-of-suc-le-suc h))
 
   -- where what is made of node i looks only at lower nodes
   abbrev pub Lower : ℕ → Node → Type 0

@@ -16,11 +16,12 @@ use Rattle.runs.specs.Limits.{mostFinished}
 use Rattle.runs.specs.Order.{State}
 use Rattle.meaning.specs.declared.Layout.{Layout}
 use Rattle.meaning.specs.declared.Answer.the-variants.{Done}
+use Rattle.meaning.specs.Sizes.{setBytes, placeGoalsAt, planAt}
 use Rattle.meaning.specs.Card.{Bytes, byte, numberAt, part}
 use Rattle.meaning.specs.Place.{placeHeader, place, placed}
 use Rattle.meaning.specs.Refusals.{firstGiven, placeTable, actionsGood, setGood}
 use Rattle.meaning.specs.Theorems.{PlaceLaws}
-use Rattle.meaning.proofs.Tables.{passes}
+use Rattle.meaning.proofs.Tables.{row-passed}
 
 -- ---- a number in two bytes, low byte first
 
@@ -36,9 +37,9 @@ high-byte p k n bs e = let a = bs k in let b = bs (k + 1) in let h : n / 256 ≡
 
 -- ---- saved and restored
 
-saved-restored : (s : State) → length (s .mental .σ) ≡ 16 → length (s .mental .γ) ≡ 16 → s .phase ≤ 2 → s .finished ≤ mostFinished → placed (place s) ≡ s
+saved-restored : (l : Layout) (s : State) → length (s .mental .σ) ≡ setBytes l → length (s .mental .γ) ≡ setBytes l → s .phase ≤ 2 → s .finished ≤ mostFinished → placed l (place l s) ≡ s
 unfolding placed place placeHeader part
-saved-restored s h g f m =
+saved-restored l s h g f m =
     let σ = s .mental .σ in
     let γ = s .mental .γ in
     let π = s .mental .π in
@@ -66,34 +67,29 @@ front p k (suc n) h =
 
 -- what its rows leave of a place
 pub record GoodPlace (l : Layout) (p : Bytes) : Type 0 where
-  pub long-enough : 44 ≤ length p
+  pub long-enough : planAt (setBytes l) ≤ length p
   pub mark0 : byte p 0 ≡ 0x33
   pub mark1 : byte p 1 ≡ 0x50
   pub edition : numberAt p 2 ≡ 1
   pub fits : numberAt p 4 ≤ 1024
   pub phase : numberAt p 8 ≤ 2
-  pub offset : numberAt p 6 ≡ 44
-  pub ends : length p ≡ 44 + numberAt p 4
-  pub actions : actionsGood (l .actions) (drop 44 p) ≡ true
-  pub beliefs : setGood (l .atoms) (part p 12 16) ≡ true
-  pub goals : setGood (l .atoms) (part p 28 16) ≡ true
+  pub offset : numberAt p 6 ≡ planAt (setBytes l)
+  pub ends : length p ≡ planAt (setBytes l) + numberAt p 4
+  pub actions : actionsGood (l .actions) (drop (planAt (setBytes l)) p) ≡ true
+  pub beliefs : setGood (l .atoms) (part p 12 (setBytes l)) ≡ true
+  pub goals : setGood (l .atoms) (part p (placeGoalsAt (setBytes l)) (setBytes l)) ≡ true
 
 pub good-place : (l : Layout) (p : Bytes) → firstGiven (placeTable l) p ≡ Done → GoodPlace l p
 unfolding placeTable
-good-place l p e0 =
-    let (h1, e1) = passes _ _ p e0 in
-    let (h2, e2) = passes _ _ p e1 in
-    let (h3, e3) = passes _ _ p e2 in
-    let (h4, e4) = passes _ _ p e3 in
-    let (h5, e5) = passes _ _ p e4 in
-    let (h6, e6) = passes _ _ p e5 in
-    let (m0, m) = both (eqb (byte p 0) 0x33) _ (not-false _ h2) in
+good-place l p e =
+    let passed = row-passed p (placeTable l) e in
+    let (m0, m) = both (eqb (byte p 0) 0x33) _ (not-false _ (passed 1)) in
     let (m1, m2) = both (eqb (byte p 1) 0x50) _ m in
-    let (n, f) = both (leb (numberAt p 4) 1024) _ (not-false _ h3) in
-    let (o, t) = both (eqb (numberAt p 6) 44) _ (not-false _ h4) in
-    let (s, g) = both (setGood (l .atoms) (part p 12 16)) _ (not-false _ h6) in
+    let (n, f) = both (leb (numberAt p 4) 1024) _ (not-false _ (passed 2)) in
+    let (o, t) = both (eqb (numberAt p 6) (planAt (setBytes l))) _ (not-false _ (passed 3)) in
+    let (s, g) = both (setGood (l .atoms) (part p 12 (setBytes l))) _ (not-false _ (passed 5)) in
     record {
-      long-enough = leb-true _ _ (not-false _ h1);
+      long-enough = leb-true _ _ (not-false _ (passed 0));
       mark0 = eqb-true _ _ m0;
       mark1 = eqb-true _ _ m1;
       edition = eqb-true _ _ m2;
@@ -101,12 +97,12 @@ good-place l p e0 =
       phase = leb-true _ _ f;
       offset = eqb-true _ _ o;
       ends = eqb-true _ _ t;
-      actions = not-false _ h5;
+      actions = not-false _ (passed 4);
       beliefs = s;
       goals = g;
     }
 
-same-header : (y : Layout) (p : Bytes) → AreBytes p → GoodPlace y p → (n f m : ℕ) → n ≡ numberAt p 4 → f ≡ numberAt p 8 → m ≡ numberAt p 10 → placeHeader n f m ≡ bytesFrom p 0 12
+same-header : (y : Layout) (p : Bytes) → AreBytes p → GoodPlace y p → (n f m : ℕ) → n ≡ numberAt p 4 → f ≡ numberAt p 8 → m ≡ numberAt p 10 → placeHeader y n f m ≡ bytesFrom p 0 12
 unfolding placeHeader bytesFrom
 same-header y p bs h n f m l k q =
     let e2 = low-byte p 2 1 bs (sym (h .edition)) in
@@ -117,12 +113,12 @@ same-header y p bs h n f m l k q =
     sym (h .mark0) i ∷ sym (h .mark1) i ∷ e2 i ∷ e3 i ∷ low-byte p 4 n bs l i ∷ high-byte p 4 n bs l i ∷ e6 i ∷ e7 i
     ∷ low-byte p 8 f bs k i ∷ high-byte p 8 f bs k i ∷ low-byte p 10 m bs q i ∷ high-byte p 10 m bs q i ∷ []
 
-restored-saved : (y : Layout) (p : Bytes) → AreBytes p → firstGiven (placeTable y) p ≡ Done → place (placed p) ≡ p
+restored-saved : (y : Layout) (p : Bytes) → AreBytes p → firstGiven (placeTable y) p ≡ Done → place y (placed y p) ≡ p
 unfolding placed place part
 restored-saved y p bs e =
     let h = good-place y p e in
     let l : length (drop 44 p) ≡ numberAt p 4 = length-drop 44 p ∙ (let t = h .ends in omega arith) in
-    let q : placeHeader (length (drop 44 p)) (numberAt p 8) (numberAt p 10) ≡ bytesFrom p 0 12 = same-header y p bs h (length (drop 44 p)) (numberAt p 8) (numberAt p 10) l refl refl in
+    let q : placeHeader y (length (drop 44 p)) (numberAt p 8) (numberAt p 10) ≡ bytesFrom p 0 12 = same-header y p bs h (length (drop 44 p)) (numberAt p 8) (numberAt p 10) l refl refl in
     let r : take 16 (drop 28 p) ++ drop 44 p ≡ drop 28 p = ap (λ x. take 16 (drop 28 p) ++ x) (sym (drop-drop 16 28 p)) ∙ take-append-drop 16 (drop 28 p) in
     let s : take 16 (drop 12 p) ++ drop 28 p ≡ drop 12 p = ap (λ x. take 16 (drop 12 p) ++ x) (sym (drop-drop 16 12 p)) ∙ take-append-drop 16 (drop 12 p) in
     let n = h .long-enough in

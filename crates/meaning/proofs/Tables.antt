@@ -3,18 +3,19 @@ use mathlib.Core.Path.{_≡_, refl, ap, _∙_, sym}
 use mathlib.Core.Logic.{⊎-elim}
 use mathlib.Core.Bool.{Bool, true, false}
 use mathlib.Core.List.{List, [], _∷_, _++_, List·Memᴰ, List·Memᴰ·head, List·Memᴰ·tail, List·Memᴰ·not-nil, List·Memᴰ·cases-cons}
-use Prim.Native.Nat.{ℕ}
+use Prim.Native.Nat.{ℕ, zero, suc}
 use native.Mathlib.Omega.{arith}
+use lib.ListN.{getD}
 use Rattle.meaning.specs.declared.Refusal.{Refusal}
 use Rattle.meaning.specs.declared.Answer.{Answer}
 use Rattle.meaning.specs.declared.Answer.the-variants.{Done, Refused}
-use Rattle.meaning.specs.Refusals.{numberOf, Row, firstGiven, cardTable, placeTable, configurationTable, andThen}
+use Rattle.meaning.specs.Refusals.{numberOf, Row, _given-when_, firstGiven, cardTable, placeTable, configurationTable, andThen}
 use Rattle.meaning.specs.Theorems.{FirstRow, TableLaw, TableOrder}
 
 pub done≢refused : {r : Refusal} → _≡_ {A = Answer} Done (Refused r) → ⊥
 done≢refused e = let z : _≡_ {A = ℕ} 0 1 = cc in omega arith
 
-refused-inj : {r q : Refusal} → Refused r ≡ Refused q → r ≡ q
+pub refused-inj : {r q : Refusal} → Refused r ≡ Refused q → r ≡ q
 refused-inj e = cc
 
 module _ {X : Type 0} (q : Row X) (rows : List (Row X)) (x : X) where
@@ -79,6 +80,12 @@ module _ {X : Type 0} (x : X) where
   none-holds (p ∷ rows) e q i =
       let (h, rest) = passes p rows x e in
       ⊎-elim (λ s. rw s h) (none-holds rows rest q) (List·Memᴰ·cases-cons i)
+
+  -- a row by its place in the table
+  pub row-passed : (rows : List (Row X)) → firstGiven rows x ≡ Done → (k : ℕ) → getD rows k (Refusal.Short given-when (λ x. false)) .when x ≡ false
+  row-passed [] e k = refl
+  row-passed (q ∷ rows) e zero = passes q rows x e .0
+  row-passed (q ∷ rows) e (suc k) = row-passed rows (passes q rows x e .1) k
 
   all-passed : (rows : List (Row X)) → ((q : Row X) → List·Memᴰ q rows → q .when x ≡ false) → firstGiven rows x ≡ Done
   unfolding firstGiven

@@ -3,11 +3,11 @@
 -- grading, which have none, answer the empty one (no atoms, empty plan, phase 0). Any count in a refusal is 0. No lent buffer
 -- is written."
 use mathlib.Core.Bool.{true, false}
-use mathlib.Core.List.{List, _++_}
-use mathlib.Core.Option.{Option, none, some}
-use Prim.Native.Nat.{ℕ, zero, suc, _/_, _%_}
+use mathlib.Core.List.{List, [], _∷_, _++_}
+use mathlib.Core.Option.{Option}
+use Prim.Native.Nat.{ℕ, _/_, _%_}
 use lib.Dec.{leb}
-use lib.ListN.{length, drop}
+use lib.ListN.{length, drop, getElem?}
 use Rattle.paper.specs.Transitions.{Choice, select, act, revise}
 use Rattle.runs.specs.declared.Ending.{Ending}
 use Rattle.runs.specs.declared.Offender.{Offender}
@@ -76,7 +76,7 @@ abbrev pub roomFor : List ℕ → List ℕ → Answer
 roomFor xs out = elim (leb (length xs) (length out)) [ true ↦ Done | false ↦ Refused Refusal.NoRoom ]
 
 -- A lent buffer with something written at its front: 01, "Numbers the guide may answer": "what lies after them stays". Serves
--- leaves.
+-- leavesBy.
 abbrev pub over : List ℕ → List ℕ → List ℕ
 over xs out = xs ++ drop (length xs) out
 
@@ -85,14 +85,24 @@ over xs out = xs ++ drop (length xs) out
 abbrev pub writeAnswer : Bytes → Configuration → List ℕ → List ℕ → Answer
 writeAnswer b c xs out = elim (configurationAnswer b c) [ Done ↦ roomFor xs out | Refused r ↦ Refused r ]
 
--- 01, "Numbers the guide may answer": "the answer tells how many". "Any count in a refusal is 0." Serves lists and saves.
-unfoldable pub writes : Bytes → Configuration → List ℕ → List ℕ → Written
-writes b c xs out = elim (writeAnswer b c xs out) [ Done ↦ written Done (length xs) c | Refused r ↦ written (Refused r) 0 c ]
+-- 01, "Numbers the guide may answer": "the answer tells how many". "Any count in a refusal is 0." Serves writes, and printing a
+-- condition.
+abbrev pub countBy : Answer → List ℕ → ℕ
+countBy Done xs = length xs
+countBy (Refused r) xs = 0
 
--- 01, "Numbers the guide may answer": "what lies after them stays". "No lent buffer is written" by a refusal. Serves listLeaves
--- and saveLeaves.
+-- 01, "Numbers the guide may answer": "what lies after them stays". "No lent buffer is written" by a refusal. Serves leaves, and
+-- printing a condition.
+abbrev pub leavesBy : Answer → List ℕ → List ℕ → List ℕ
+leavesBy Done xs out = over xs out
+leavesBy (Refused r) xs out = out
+
+-- What list and save answer, and what they leave in the lent buffer.
+unfoldable pub writes : Bytes → Configuration → List ℕ → List ℕ → Written
+writes b c xs out = let a = writeAnswer b c xs out in written a (countBy a xs) c
+
 unfoldable pub leaves : Bytes → Configuration → List ℕ → List ℕ → List ℕ
-leaves b c xs out = elim (writeAnswer b c xs out) [ Done ↦ over xs out | Refused r ↦ out ]
+leaves b c xs out = leavesBy (writeAnswer b c xs out) xs out
 
 -- ---- list
 
@@ -110,10 +120,7 @@ listLeaves b c out = leaves b c (enabledCodes (agent b) (stateOf c .mental)) out
 -- 01, "A configuration and its transitions": "the kind (0 selection, 1 action, 2 revision) plus the number". There is no kind 3
 -- (docs/DECISIONS.md, "Codes"). Serves choice.
 abbrev pub choiceOf : ℕ → ℕ → Option Choice
-choiceOf zero n = some (select n)
-choiceOf (suc zero) n = some (act n)
-choiceOf (suc (suc zero)) n = some (revise n)
-choiceOf (suc (suc (suc k))) n = none
+choiceOf k n = getElem? (select n ∷ act n ∷ revise n ∷ []) k
 
 -- 01, "A configuration and its transitions": "A choice is coded as 256 times the kind (0 selection, 1 action, 2 revision) plus
 -- the number of the rule or specification, from 0."
@@ -152,11 +159,11 @@ runs b c budget = elim (configurationAnswer b c) [
 
 -- 01, "What the guide does": "save a place": how many bytes were written.
 unfoldable pub saves : Bytes → Configuration → Bytes → Written
-saves b c out = writes b c (place (stateOf c)) out
+saves b c out = writes b c (place (layout b) (stateOf c)) out
 
 -- 01, "Numbers the guide may answer": "Saving writes 44 + L bytes and no others."
 unfoldable pub saveLeaves : Bytes → Configuration → Bytes → Bytes
-saveLeaves b c out = leaves b c (place (stateOf c)) out
+saveLeaves b c out = leaves b c (place (layout b) (stateOf c)) out
 
 -- ---- restore
 
@@ -164,6 +171,6 @@ saveLeaves b c out = leaves b c (place (stateOf c)) out
 -- grading, which have none, answer the empty one".
 unfoldable pub restores : Bytes → Bytes → Reply
 restores b p = elim (placeAnswer b p) [
-  | Done ↦ reply Done (configurationOf (placed p))
+  | Done ↦ reply Done (configurationOf (placed (layout b) p))
   | Refused r ↦ reply (Refused r) empty
 ]

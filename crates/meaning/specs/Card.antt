@@ -1,6 +1,6 @@
 -- The card, edition 1: what its bytes stand for (01, "The card, edition 1").
 use mathlib.Core.List.{List, [], _∷_, _++_, map}
-use Prim.Native.Nat.{ℕ, zero, suc, _+_, _*_}
+use Prim.Native.Nat.{ℕ, _+_, _*_}
 use lib.ListN.{length, getD, take, drop}
 use Rattle.paper.specs.Language.{Plan, Letter, 𝐁, 𝐆, Query, ⊤, atom, ¬′, _∧′_, _∨′_, Specification, Selection, Revision, Agent, ⟨_/_/_⟩}
 use Rattle.paper.specs.Transitions.{struckBy}
@@ -12,6 +12,8 @@ use Rattle.meaning.specs.declared.Node.{Node}
 use Rattle.meaning.specs.declared.SpecificationEntry.{SpecificationEntry}
 use Rattle.meaning.specs.declared.SelectionEntry.{SelectionEntry}
 use Rattle.meaning.specs.declared.RevisionEntry.{RevisionEntry}
+use Rattle.meaning.specs.Kinds.{NodeKind, True, Believes, HasGoal, Not, And, Or, Unknown, nodeKind}
+use Rattle.meaning.specs.Sizes.{setBytes, goalsAt, headerBytes, delAt, specificationBytes}
 
 -- 00, demand 1: "on all bytes and numbers": the bytes of a card or place, in their order.
 abbrev pub Bytes : Type 0
@@ -69,24 +71,26 @@ abbrev pub entries : {R : Type 0} → (ℕ → R) → Section → List R
 entries read s = map read (numbers 0 (s .count))
 
 -- 01, "The card, edition 1", at 64: "weights, one for each action". The weight of action a.
-abbrev pub weightAt : Bytes → ℕ → ℕ
-weightAt b a = numberAt b (64 + 2 * a)
+abbrev pub weightAt : Layout → Bytes → ℕ → ℕ
+weightAt l b a = numberAt b (headerBytes (setBytes l) + 2 * a)
 
 -- 01, "The card, edition 1", at 64: "weights, one for each action". All of them, from action 0 on.
 unfoldable pub weights : Layout → Bytes → List ℕ
-weights l b = map (weightAt b) (numbers 0 (l .actions))
+weights l b = map (weightAt l b) (numbers 0 (l .actions))
 
--- 01, "The card, edition 1": "Node, 4 bytes: kind, a, b, 0." Each is one byte.
+-- 01, "The card, edition 1": "Node, 4 bytes: kind, a, b, 0." Each is one byte: the node that starts at a place.
+abbrev pub nodeFrom : Bytes → ℕ → Node
+nodeFrom b at = record { kind = byte b at; a = byte b (at + 1); b = byte b (at + 2); zero = byte b (at + 3) }
+
+-- Node i of a card.
 unfoldable pub nodeAt : Layout → Bytes → ℕ → Node
-nodeAt l b i =
-    let at : ℕ = entryAt 4 (l .nodes) i in
-    record { kind = byte b at; a = byte b (at + 1); b = byte b (at + 2); zero = byte b (at + 3) }
+nodeAt l b i = nodeFrom b (entryAt 4 (l .nodes) i)
 
 -- 01, "The card, edition 1": "Specification, 36 bytes: action, node, 0, 0, Add, Del."
 unfoldable pub specificationAt : Layout → Bytes → ℕ → SpecificationEntry
 specificationAt l b i =
-    let at : ℕ = entryAt 36 (l .specifications) i in
-    record { action = byte b at; node = byte b (at + 1); zero = numberAt b (at + 2); add = part b (at + 4) 16; del = part b (at + 20) 16 }
+    let s : ℕ = setBytes l in let at : ℕ = entryAt (specificationBytes s) (l .specifications) i in
+    record { action = byte b at; node = byte b (at + 1); zero = numberAt b (at + 2); add = part b (at + 4) s; del = part b (at + delAt s) s }
 
 -- 01, "The card, edition 1": "Selection rule, 8 bytes: belief node, goal node, start, length (1..1,024), zero number."
 unfoldable pub selectionAt : Layout → Bytes → ℕ → SelectionEntry
@@ -121,21 +125,21 @@ module _ {X : Type 0} (make : ℕ → Node → (ℕ → X) → X) (other : X) wh
 -- 01, "The card, edition 1": "Kind 0 true …; 1 believes a; 2 has goal a …; 3 not a …; 4 a and b; 5 a or b.", read by the letter
 -- of the condition: an atom of a belief condition is of kind 1, one of a goal condition of kind 2. What is no such node is
 -- "true" (docs/DECISIONS.md, "An unknown node or kind in the definitions").
-abbrev pub queryOf : (L : Letter) → ℕ → ℕ → ℕ → (ℕ → Query L) → Query L
-queryOf L zero a b query = ⊤
-queryOf 𝐁 (suc zero) a b query = atom a
-queryOf 𝐆 (suc zero) a b query = ⊤
-queryOf 𝐁 (suc (suc zero)) a b query = ⊤
-queryOf 𝐆 (suc (suc zero)) a b query = atom a
-queryOf L (suc (suc (suc zero))) a b query = ¬′ (query a)
-queryOf L (suc (suc (suc (suc zero)))) a b query = query a ∧′ query b
-queryOf L (suc (suc (suc (suc (suc zero))))) a b query = query a ∨′ query b
-queryOf L (suc (suc (suc (suc (suc (suc k)))))) a b query = ⊤
+abbrev pub queryOf : (L : Letter) → NodeKind → ℕ → ℕ → (ℕ → Query L) → Query L
+queryOf L True a b query = ⊤
+queryOf 𝐁 Believes a b query = atom a
+queryOf 𝐆 Believes a b query = ⊤
+queryOf 𝐁 HasGoal a b query = ⊤
+queryOf 𝐆 HasGoal a b query = atom a
+queryOf L Not a b query = ¬′ (query a)
+queryOf L And a b query = query a ∧′ query b
+queryOf L Or a b query = query a ∨′ query b
+queryOf L Unknown a b query = ⊤
 
 -- 01, "A configuration and its transitions": "Conditions (004, Definitions 3 and 8)": what each node stands for, as a belief
 -- condition or as a goal condition.
 unfoldable pub conditions : (L : Letter) → Layout → Bytes → List (Query L)
-conditions L l b = pass (λ i n query. queryOf L (n .kind) (n .a) (n .b) query) ⊤ (nodes l b)
+conditions L l b = pass (λ i n query. queryOf L (nodeKind (n .kind)) (n .a) (n .b) query) ⊤ (nodes l b)
 
 -- A node's condition, by its number. Serves the entries: 01, "The card, edition 1": "action, node", "belief node, goal node". A
 -- node past the last one is "true" (docs/DECISIONS.md, "An unknown node or kind in the definitions").
@@ -185,19 +189,19 @@ unfoldable pub initialPlan : Bytes → Plan
 initialPlan b = plan (layout b) b (layout b .initial)
 
 -- 01, "The card, edition 1", at 32: "initial beliefs"
-abbrev pub initialBeliefs : Bytes → Bytes
-initialBeliefs b = part b 32 16
+abbrev pub initialBeliefs : Layout → Bytes → Bytes
+initialBeliefs l b = part b 32 (setBytes l)
 
 -- 01, "The card, edition 1", at 48: "initial goals"
-abbrev pub initialGoals : Bytes → Bytes
-initialGoals b = part b 48 16
+abbrev pub initialGoals : Layout → Bytes → Bytes
+initialGoals l b = part b (goalsAt (setBytes l)) (setBytes l)
 
 -- 01, "A configuration and its transitions": "Loading answers the card's initial beliefs, goals and plan with phase 0"; 02, Wish
 -- 4: "since load"; 02, Wish 5: "the goals are those not believed, and at load likewise", by which "document 01's line on loading is
 -- amended".
 unfoldable pub start : Bytes → State
 start b = record {
-  mental = ⟨ initialBeliefs b / initialPlan b / struckBy (initialBeliefs b) (initialGoals b) ⟩;
+  mental = ⟨ initialBeliefs (layout b) b / initialPlan b / struckBy (initialBeliefs (layout b) b) (initialGoals (layout b) b) ⟩;
   phase = 0;
   finished = 0;
 }

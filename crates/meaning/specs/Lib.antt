@@ -1,3 +1,5 @@
+pub mod Kinds
+pub mod Sizes
 pub mod Card
 pub mod Configurations
 pub mod Place

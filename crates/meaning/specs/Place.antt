@@ -4,6 +4,8 @@ use Prim.Native.Nat.{ℕ, _/_, _%_}
 use lib.ListN.{length, drop}
 use Rattle.paper.specs.Language.{⟨_/_/_⟩}
 use Rattle.runs.specs.Order.{State}
+use Rattle.meaning.specs.declared.Layout.{Layout}
+use Rattle.meaning.specs.Sizes.{setBytes, placeGoalsAt, planAt}
 use Rattle.meaning.specs.Card.{Bytes, numberAt, part}
 
 -- 01, "The card, edition 1": "Numbers are two bytes, low byte first"
@@ -12,15 +14,15 @@ twoBytes n = n % 256 ∷ n / 256 % 256 ∷ []
 
 -- 01, "The place": "Bytes 33 50 hex; edition 1 at 2; plan length L at 4; plan offset 44 at 6; phase at 8"; 02, Wish 4: "It stands
 -- in bytes 10 and 11 of the place, which were zero"
-unfoldable pub placeHeader : ℕ → ℕ → ℕ → Bytes
-placeHeader L phase finished =
-    0x33 ∷ 0x50 ∷ (twoBytes 1 ++ (twoBytes L ++ (twoBytes 44 ++ (twoBytes phase ++ twoBytes finished))))
+unfoldable pub placeHeader : Layout → ℕ → ℕ → ℕ → Bytes
+placeHeader l L phase finished =
+    0x33 ∷ 0x50 ∷ (twoBytes 1 ++ (twoBytes L ++ (twoBytes (planAt (setBytes l)) ++ (twoBytes phase ++ twoBytes finished))))
 
 -- 01, "The place": "beliefs at 12; goals at 28; the plan's L bytes at 44. Exactly 44 + L bytes."
-unfoldable pub place : State → Bytes
-place s = placeHeader (length (s .mental .π)) (s .phase) (s .finished) ++ (s .mental .σ ++ (s .mental .γ ++ s .mental .π))
+unfoldable pub place : Layout → State → Bytes
+place l s = placeHeader l (length (s .mental .π)) (s .phase) (s .finished) ++ (s .mental .σ ++ (s .mental .γ ++ s .mental .π))
 
 -- 01, "The place": "phase at 8; …; beliefs at 12; goals at 28; the plan's L bytes at 44": the state that a place's bytes stand
 -- for. 02, Wish 4: "old places read as count 0".
-unfoldable pub placed : Bytes → State
-placed p = record { mental = ⟨ part p 12 16 / drop 44 p / part p 28 16 ⟩; phase = numberAt p 8; finished = numberAt p 10 }
+unfoldable pub placed : Layout → Bytes → State
+placed l p = let s : ℕ = setBytes l in record { mental = ⟨ part p 12 s / drop (planAt s) p / part p (placeGoalsAt s) s ⟩; phase = numberAt p 8; finished = numberAt p 10 }

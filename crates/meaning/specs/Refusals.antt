@@ -1,7 +1,7 @@
 -- The refusals: 01, "Numbers the guide may answer", row by row in the table's order. A row is named by its number.
 use mathlib.Core.Bool.{Bool, true, false, not, _&&_, _||_}
 use mathlib.Core.List.{List, [], _∷_}
-use Prim.Native.Nat.{ℕ, zero, suc, _+_, _*_, _-_}
+use Prim.Native.Nat.{ℕ, _+_, _*_, _-_}
 use lib.Dec.{leb, ltb, eqb}
 use lib.ListN.{length, getD, take, drop}
 use Rattle.paper.specs.Atoms.{Atoms, _∈_}
@@ -18,6 +18,8 @@ use Rattle.meaning.specs.declared.Node.{Node}
 use Rattle.meaning.specs.declared.SpecificationEntry.{SpecificationEntry}
 use Rattle.meaning.specs.declared.SelectionEntry.{SelectionEntry}
 use Rattle.meaning.specs.declared.RevisionEntry.{RevisionEntry}
+use Rattle.meaning.specs.Kinds.{NodeKind, True, Believes, HasGoal, Not, And, Or, Unknown, nodeKind}
+use Rattle.meaning.specs.Sizes.{edition1Set, setBytes, mostAtoms, headerBytes, specificationBytes, placeGoalsAt, planAt}
 use Rattle.meaning.specs.Card.{Bytes, byte, numberAt, part, layout, weightAt, nodeAt, nodes, pass, specificationAt, selectionAt, revisionAt, initialBeliefs, initialGoals}
 
 -- 01, "Numbers the guide may answer": the columns "no." and "name"; 02, Wish 1: "10 gives way to three in its place", 14, 15 and
@@ -122,7 +124,7 @@ within low high n = leb low n && leb n high
 
 -- Not 01, "Numbers the guide may answer", row 1: "card under 64 bytes"
 unfoldable pub cardLongEnough : Bytes → Bool
-cardLongEnough b = leb 64 (length b)
+cardLongEnough b = leb (headerBytes edition1Set) (length b)
 
 -- Not 01, "Numbers the guide may answer", row 2: "first two bytes or edition differ": the first byte is 33 hex, the second is
 -- given, and the edition is 1. Serves cardMarkGood and placeMarkGood.
@@ -137,12 +139,8 @@ cardMarkGood b = marked 0x41 b
 -- range (the initial plan's length is 7)". The ranges: 01, "The card, edition 1", "1..128", "1..256", "0..256" and "0..8,192".
 unfoldable pub countsGood : Layout → Bool
 countsGood l =
-    within 1 128 (l .atoms)
-    && (within 1 256 (l .actions)
-    && (within 1 256 (l .nodes .count)
-    && (leb (l .specifications .count) 256
-    && (leb (l .selections .count) 256
-    && (leb (l .revisions .count) 256
+    within 1 (mostAtoms (setBytes l)) (l .atoms) && (within 1 256 (l .actions) && (within 1 256 (l .nodes .count)
+    && (leb (l .specifications .count) 256 && (leb (l .selections .count) 256 && (leb (l .revisions .count) 256
     && leb (l .pool .count) 8192)))))
 
 -- Where a section ends. Serves offsetsGood: 01, "The card, edition 1": "with no gap".
@@ -154,32 +152,30 @@ endOf size s = s .offset + size * s .count
 -- length.
 unfoldable pub offsetsGood : Layout → ℕ → Bool
 offsetsGood l n =
-    eqb (l .nodes .offset) (64 + 2 * l .actions)
-    && (eqb (l .specifications .offset) (endOf 4 (l .nodes))
-    && (eqb (l .selections .offset) (endOf 36 (l .specifications))
-    && (eqb (l .revisions .offset) (endOf 8 (l .selections))
-    && (eqb (l .pool .offset) (endOf 12 (l .revisions))
+    eqb (l .nodes .offset) (headerBytes (setBytes l) + 2 * l .actions) && (eqb (l .specifications .offset) (endOf 4 (l .nodes))
+    && (eqb (l .selections .offset) (endOf (specificationBytes (setBytes l)) (l .specifications))
+    && (eqb (l .revisions .offset) (endOf 8 (l .selections)) && (eqb (l .pool .offset) (endOf 12 (l .revisions))
     && eqb n (endOf 1 (l .pool))))))
 
 -- Not 01, "Numbers the guide may answer", row 5: "a weight is 0 or over 1,024"
 unfoldable pub weightsGood : Layout → Bytes → Bool
-weightsGood l b = every (l .actions) (λ a. within 1 heaviestAction (weightAt b a))
+weightsGood l b = every (l .actions) (λ a. within 1 heaviestAction (weightAt l b a))
 
 -- Node i of a card with n atoms: 01, "The card, edition 1": "Kind 0 true (a = b = 0); 1 believes a; 2 has goal a (in both b = 0
 -- and a is below the number of atoms); 3 not a (b = 0); 4 a and b; 5 a or b. A child's number is lower than the node's own."
-abbrev pub kindGood : ℕ → ℕ → ℕ → ℕ → ℕ → Bool
-kindGood n i zero a b = eqb a 0 && eqb b 0
-kindGood n i (suc zero) a b = ltb a n && eqb b 0
-kindGood n i (suc (suc zero)) a b = ltb a n && eqb b 0
-kindGood n i (suc (suc (suc zero))) a b = ltb a i && eqb b 0
-kindGood n i (suc (suc (suc (suc zero)))) a b = ltb a i && ltb b i
-kindGood n i (suc (suc (suc (suc (suc zero))))) a b = ltb a i && ltb b i
-kindGood n i (suc (suc (suc (suc (suc (suc k)))))) a b = false
+abbrev pub kindGood : ℕ → ℕ → NodeKind → ℕ → ℕ → Bool
+kindGood n i True a b = eqb a 0 && eqb b 0
+kindGood n i Believes a b = ltb a n && eqb b 0
+kindGood n i HasGoal a b = ltb a n && eqb b 0
+kindGood n i Not a b = ltb a i && eqb b 0
+kindGood n i And a b = ltb a i && ltb b i
+kindGood n i Or a b = ltb a i && ltb b i
+kindGood n i Unknown a b = false
 
 -- 01, "The card, edition 1": "Node, 4 bytes: kind, a, b, 0." The 0 is of its rule too (docs/DECISIONS.md, "A node's fourth
 -- byte").
 abbrev pub nodeGood : ℕ → ℕ → Node → Bool
-nodeGood n i x = kindGood n i (x .kind) (x .a) (x .b) && eqb (x .zero) 0
+nodeGood n i x = kindGood n i (nodeKind (x .kind)) (x .a) (x .b) && eqb (x .zero) 0
 
 -- Not 01, "Numbers the guide may answer", row 6: "a node breaks its rule above"
 unfoldable pub nodesGood : Layout → Bytes → Bool
@@ -188,19 +184,19 @@ nodesGood l b = every (l .nodes .count) (λ i. nodeGood (l .atoms) i (nodeAt l b
 -- 01, "A configuration and its transitions": "A belief condition contains no goal atom, and a goal condition no belief atom.":
 -- whether an atom of a kind (1 believes, 2 has goal) stands in a node's condition, by form (docs/DECISIONS.md, "Condition of
 -- the wrong kind"). What is no node of kinds 0 to 5 contains none.
-abbrev pub containsOf : ℕ → ℕ → ℕ → ℕ → (ℕ → Bool) → Bool
-containsOf kind zero a b contains = false
-containsOf kind (suc zero) a b contains = eqb kind 1
-containsOf kind (suc (suc zero)) a b contains = eqb kind 2
-containsOf kind (suc (suc (suc zero))) a b contains = contains a
-containsOf kind (suc (suc (suc (suc zero)))) a b contains = contains a || contains b
-containsOf kind (suc (suc (suc (suc (suc zero))))) a b contains = contains a || contains b
-containsOf kind (suc (suc (suc (suc (suc (suc k)))))) a b contains = false
+abbrev pub containsOf : ℕ → NodeKind → ℕ → ℕ → (ℕ → Bool) → Bool
+containsOf kind True a b contains = false
+containsOf kind Believes a b contains = eqb kind 1
+containsOf kind HasGoal a b contains = eqb kind 2
+containsOf kind Not a b contains = contains a
+containsOf kind And a b contains = contains a || contains b
+containsOf kind Or a b contains = contains a || contains b
+containsOf kind Unknown a b contains = false
 
 -- containsOf for each node, in one pass. Serves conditionGood: 01, "Numbers the guide may answer", row 7: "condition of the
 -- wrong kind".
 unfoldable pub containing : ℕ → Layout → Bytes → List Bool
-containing kind l b = pass (λ i x contains. containsOf kind (x .kind) (x .a) (x .b) contains) false (nodes l b)
+containing kind l b = pass (λ i x contains. containsOf kind (nodeKind (x .kind)) (x .a) (x .b) contains) false (nodes l b)
 
 -- Not 01, "Numbers the guide may answer", row 7: "unknown … node, condition of the wrong kind": a known node whose condition
 -- contains no atom of the other kind.
@@ -254,7 +250,7 @@ bothGood n s t = setGood n s && setGood n t
 -- 1": "initial beliefs, initial goals" and each "Add, Del" (docs/DECISIONS.md, "What 6, 8 and 9 judge").
 unfoldable pub setsGood : Layout → Bytes → Bool
 setsGood l b =
-    bothGood (l .atoms) (initialBeliefs b) (initialGoals b)
+    bothGood (l .atoms) (initialBeliefs l b) (initialGoals l b)
     && every (l .specifications .count) (λ i. bothGood (l .atoms) (specificationAt l b i .add) (specificationAt l b i .del))
 
 -- 01, "The card, edition 1", at 24, 26: "pool bytes, offset". Serves cardTable, row 8: 01, "Numbers the guide may answer": "a
@@ -293,8 +289,8 @@ cardAnswer b = firstGiven cardTable b
 -- ---- a place, judged against the card that it is given with
 
 -- Not 01, "Numbers the guide may answer", row 1: "place under 44"
-abbrev pub placeLongEnough : Bytes → Bool
-placeLongEnough p = leb 44 (length p)
+abbrev pub placeLongEnough : Layout → Bytes → Bool
+placeLongEnough l p = leb (planAt (setBytes l)) (length p)
 
 -- Not 01, "Numbers the guide may answer", row 2: "first two bytes or edition differ". 01, "The place": "Bytes 33 50 hex; edition
 -- 1 at 2".
@@ -308,25 +304,25 @@ placeCountsGood p = leb (numberAt p 4) longestPlan && leb (numberAt p 8) 2
 
 -- Not 01, "Numbers the guide may answer", row 4: "an offset or the total length is not the required one". 01, "The place": "plan
 -- offset 44 at 6", "Exactly 44 + L bytes."
-abbrev pub placeOffsetsGood : Bytes → Bool
-placeOffsetsGood p = eqb (numberAt p 6) 44 && eqb (length p) (44 + numberAt p 4)
+abbrev pub placeOffsetsGood : Layout → Bytes → Bool
+placeOffsetsGood l p = eqb (numberAt p 6) (planAt (setBytes l)) && eqb (length p) (planAt (setBytes l) + numberAt p 4)
 
 -- 01, "Numbers the guide may answer": "then a place with 1, 2, 3, 4, 8, 9". 01, "The place": "it is judged against the card it
 -- is given with".
 unfoldable pub placeTable : Layout → List (Row Bytes)
 placeTable l =
     -- 01, "Numbers the guide may answer", row 1: "place under 44"
-    (Refusal.Short given-when (λ p. not (placeLongEnough p)))
+    (Refusal.Short given-when (λ p. not (placeLongEnough l p)))
     -- 01, "Numbers the guide may answer", row 2: "first two bytes or edition differ"
     ∷ (Refusal.Mark given-when (λ p. not (placeMarkGood p)))
     -- 01, "Numbers the guide may answer", row 3: "in a place L over 1,024, phase over 2"
     ∷ (Refusal.Count given-when (λ p. not (placeCountsGood p)))
     -- 01, "Numbers the guide may answer", row 4: "an offset or the total length is not the required one"
-    ∷ (Refusal.Offsets given-when (λ p. not (placeOffsetsGood p)))
+    ∷ (Refusal.Offsets given-when (λ p. not (placeOffsetsGood l p)))
     -- 01, "Numbers the guide may answer", row 8: "a … plan byte is not below the number of actions"
-    ∷ (Refusal.ActionByte given-when (λ p. not (actionsGood (l .actions) (drop 44 p))))
+    ∷ (Refusal.ActionByte given-when (λ p. not (actionsGood (l .actions) (drop (planAt (setBytes l)) p))))
     -- 01, "Numbers the guide may answer", row 9: "a set has a bit at or above the number of atoms"
-    ∷ (Refusal.Atom given-when (λ p. not (bothGood (l .atoms) (part p 12 16) (part p 28 16))))
+    ∷ (Refusal.Atom given-when (λ p. not (bothGood (l .atoms) (part p 12 (setBytes l)) (part p (placeGoalsAt (setBytes l)) (setBytes l)))))
     ∷ []
 
 -- 01, "Numbers the guide may answer": "the card first with 1 to 9, then a place with 1, 2, 3, 4, 8, 9"
@@ -339,8 +335,7 @@ placeAnswer b p = andThen (cardAnswer b) (firstGiven (placeTable (layout b)) p)
 -- to the card, a phase over 2, or anything but zero after the plan's end"
 unfoldable pub configurationGood : Layout → Configuration → Bool
 configurationGood l c =
-    leb (c .mind .length) longestPlan
-    && (actionsGood (l .actions) (take (c .mind .length) (c .plan))
+    leb (c .mind .length) longestPlan && (actionsGood (l .actions) (take (c .mind .length) (c .plan))
     && (bothGood (l .atoms) (c .mind .beliefs) (c .mind .goals)
     && (leb (c .mind .phase) 2
     && all (λ x. eqb x 0) (drop (c .mind .length) (c .plan)))))

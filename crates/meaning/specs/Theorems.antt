@@ -15,6 +15,7 @@ use Rattle.meaning.specs.declared.Refusal.{Refusal}
 use Rattle.meaning.specs.declared.Answer.the-variants.{Done, Refused}
 use Rattle.meaning.specs.declared.Layout.{Layout}
 use Rattle.meaning.specs.declared.Configuration.{Configuration}
+use Rattle.meaning.specs.Sizes.{setBytes}
 use Rattle.meaning.specs.Card.{Bytes, layout, nodeAt, conditions, condition, specificationAt, selectionAt, revisionAt, weight, agent, initialPlan, start}
 use Rattle.meaning.specs.Why.{settler, turns}
 use Rattle.meaning.specs.Configurations.{stateOf, configurationOf}
@@ -137,7 +138,7 @@ pub record ConfigurationLaws : Type 0 where
 pub record PlaceLaws : Type 0 where
   -- 00, demand 2: "A place saved and restored is the same configuration", with sets of 16 bytes, a phase of at most 2 and a count
   -- of at most 65,535: 02, Wish 4: "demand 2's round trip now covers it".
-  pub saved-restored : (s : State) → length (s .mental .σ) ≡ 16 → length (s .mental .γ) ≡ 16 → s .phase ≤ 2 → s .finished ≤ mostFinished
-      → placed (place s) ≡ s
+  pub saved-restored : (l : Layout) (s : State) → length (s .mental .σ) ≡ setBytes l → length (s .mental .γ) ≡ setBytes l → s .phase ≤ 2
+      → s .finished ≤ mostFinished → placed l (place l s) ≡ s
   -- 00, demand 2: "an accepted place, restored and saved, is the same bytes"
-  pub restored-saved : (l : Layout) (p : Bytes) → AreBytes p → firstGiven (placeTable l) p ≡ Done → place (placed p) ≡ p
+  pub restored-saved : (l : Layout) (p : Bytes) → AreBytes p → firstGiven (placeTable l) p ≡ Done → place l (placed l p) ≡ p

@@ -75,8 +75,8 @@ pub struct SpecificationEntry {
     pub action: u8,
     pub node: u8,
     pub zero: usize,
-    pub add: [u8; 16],
-    pub del: [u8; 16],
+    pub add: Set,
+    pub del: Set,
 }
 
 // 01, "The card, edition 1": "Selection rule, 8 bytes: belief node, goal node, start, length (1..1,024), zero number."
@@ -97,12 +97,18 @@ pub struct RevisionEntry {
     pub zero: usize,
 }
 
+// 01, "The card, edition 1": "A set of atoms is 16 bytes".
+pub type Set = [u8; 16];
+
+// 01, "A configuration and its transitions": "a plan (0 to 1,024 action numbers)": one byte an action.
+pub type Plan = [u8; 1024];
+
 // 01, "A configuration and its transitions": "a set of believed atoms, a set of goal atoms, a plan (0 to 1,024 action numbers)
 // and a phase 0, 1 or 2": all of it but the plan's actions. What a caller hands in may be out of range: row 13. 02, Wish 4: "how
 // many transitions have left the plan empty since load", which has no such rule.
 pub struct Mind {
-    pub beliefs: [u8; 16],
-    pub goals: [u8; 16],
+    pub beliefs: Set,
+    pub goals: Set,
     pub length: u16,
     pub phase: u8,
     pub finished: u16,
@@ -112,7 +118,7 @@ pub struct Mind {
 // actions.
 pub struct Configuration {
     pub mind: Mind,
-    pub plan: [u8; 1024],
+    pub plan: Plan,
 }
 
 // What `check` answers: 01, "Expected forms by place": "each check answers an enum": the card's layout, or the refusal.

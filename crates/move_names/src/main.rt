@@ -15,13 +15,9 @@ use meaning::Checked;
 use meaning::Layout;
 use names::name::name;
 use names::name::named;
+use output::write;
 
 // ---- the lines
-
-// Words.
-fn write(words: &[u8]) {
-    io::write_all(1, words);
-}
 
 // Whether a byte is a control byte.
 fn is_control(byte: u8) -> bool {

@@ -2,5 +2,3 @@ pub mod Finished
 pub mod Stepping
 pub mod Running
 pub mod Taking
-pub mod Gathering
-pub mod Writing

@@ -19,7 +19,7 @@ use Rattle.runs.specs.Order.{State, kind, number, guide}
 use Rattle.runs.specs.Step.{after, Reached, nothing, full, to, step, stepBy}
 use Rattle.runs.specs.Run.{ended, oneMore, run}
 use Rattle.runs.specs.Theorems.{counted}
-use Rattle.runs.proofs.Order.{guide-takes}
+use Rattle.runs.proofs.Order.{kind-lt, guide-takes}
 use Rattle.runs.proofs.Run.{run-rests, run-is-full, run-goes-on, OwnStep, own-rest, own-full, own-to, own-step}
 use Rattle.meaning.specs.declared.Answer.the-variants.{Done, Refused}
 use Rattle.meaning.specs.declared.Refusal.{Refusal}
@@ -30,18 +30,18 @@ use Rattle.meaning.specs.Refusals.{configurationAnswer}
 use Rattle.meaning.specs.Configurations.{padded, stateOf, configurationOf}
 use Rattle.meaning.specs.Calls.{ran}
 use Rattle.meaning.proofs.Configurations.{take-padded, configuration-laws}
-use Rattle.layout.specs.PlaceParts.{lent}
+use Rattle.layout.specs.PlaceParts.{configured}
 use Rattle.plans.proofs.Laws.{length-padded}
 use Rattle.card.specs.GoodCard.{GoodCard}
-use Rattle.choices.specs.declared.ask.Chosen.{Chosen}
+use Rattle.door.specs.declared.asked.Chosen.{Chosen}
 use Rattle.choices.specs.Truth.{truths, Marked}
-use Rattle.choices.specs.Ready.{Ready}
-use Rattle.choices.specs.Asking.{chosen, choiceAt}
-use Rattle.choices.specs.InPlace.{ranWith}
-use Rattle.choices.proofs.Asking.{open-enabled, open-is}
+use Rattle.door.specs.Ready.{Ready}
+use Rattle.door.specs.Asking.{chosen, choiceAt}
+use Rattle.door.specs.InPlace.{ranWith}
+use Rattle.door.proofs.Asking.{asked-enabled, enabled-is}
 use Rattle.moves.specs.declared.step.Transition.{Transition}
 use Rattle.moves.specs.declared.step.Stepped.{Stepped}
-use Rattle.moves.specs.Steps.{transitionOf, configurationAfter, Open, Advances, ownMove}
+use Rattle.moves.specs.Steps.{transitionOf, configurationAfter, Enabled, Advances, ownMove}
 
 -- ---- the choice that was found is the guide's own
 
@@ -51,12 +51,6 @@ choice-back (select m) n i e = let a : 0 ≡ n = cc in let b : m ≡ i = cc in r
 choice-back (act m) n i e = let a : 1 ≡ n = cc in let b : m ≡ i = cc in rw (← a, ← b)
 choice-back (revise m) n i e = let a : 2 ≡ n = cc in let b : m ≡ i = cc in rw (← a, ← b)
 
-pub kind-below : (k : Choice) → kind k < 3
-unfolding kind
-kind-below (select m) = omega arith
-kind-below (act m) = omega arith
-kind-below (revise m) = omega arith
-
 module _ (l : Layout) (b : Bytes) (c : Configuration) where
   abbrev A : Agent
   A = agentFor l b
@@ -64,17 +58,17 @@ module _ (l : Layout) (b : Bytes) (c : Configuration) where
   abbrev s : State
   s = stateOf c
 
-  pub chose : (n i : ℕ) → chosen (guide A s) ≡ Chosen.At n i → (n < 3) × Open l b c (choiceAt n i) × (step A s (choiceAt n i) ≡ stepBy A s (guide A s))
+  pub chose : (n i : ℕ) → chosen (guide A s) ≡ Chosen.At n i → (n < 3) × Enabled l b c (choiceAt n i) × (step A s (choiceAt n i) ≡ stepBy A s (guide A s))
   chose n i = go (guide A s) refl
     where
-      go : (o : Option Choice) → guide A s ≡ o → chosen o ≡ Chosen.At n i → (n < 3) × Open l b c (choiceAt n i) × (step A s (choiceAt n i) ≡ stepBy A s (guide A s))
+      go : (o : Option Choice) → guide A s ≡ o → chosen o ≡ Chosen.At n i → (n < 3) × Enabled l b c (choiceAt n i) × (step A s (choiceAt n i) ≡ stepBy A s (guide A s))
       go none e f = absurd (let z : _≡_ {A = ℕ} 0 1 = cc in omega arith)
       go (some k) e f =
           let q = choice-back k n i f in
           let a : kind k ≡ n = cc in
           let t = enabled-exactly A (s .mental) k .1 (guide-takes A s k e .leads) in (
-            subst (λ x. x < 3) a (kind-below k),
-            open-is _ (open-enabled A (s .mental) (choiceAt n i) ∙ ap (enabled A (s .mental)) q ∙ t),
+            subst (λ x. x < 3) a (kind-lt k),
+            enabled-is _ (asked-enabled A (s .mental) (choiceAt n i) ∙ ap (enabled A (s .mental)) q ∙ t),
             ap (step A s) q ∙ sym (ap (stepBy A s) e),
           )
 
@@ -155,31 +149,31 @@ module _ (l : Layout) (b : Bytes) (budget : ℕ) (start : State) (c : Configurat
     from-here = ap (λ n. run B n t) one-less
 
     -- what is told of a move that is not taken leaves all as it was
-    stopped : (o : Reached) → stepBy B t (guide B t) ≡ o → configurationAfter o c ≡ c → (e : Ending) → run B (suc (budget - (count + 1))) t ≡ ended e t → Answered e (lent (c .mind) p)
-    stopped o q k e f = subst (λ (y : Bytes). Answered e (lent (c .mind) y)) (sym (ap (λ (y : Configuration). y .plan) (told .1 ∙ ap (λ y. configurationAfter y c) q ∙ k))) (ends e (from-here ∙ f))
+    stopped : (o : Reached) → stepBy B t (guide B t) ≡ o → configurationAfter o c ≡ c → (e : Ending) → run B (suc (budget - (count + 1))) t ≡ ended e t → Answered e (configured (c .mind) p)
+    stopped o q k e f = subst (λ (y : Bytes). Answered e (configured (c .mind) y)) (sym (ap (λ (y : Configuration). y .plan) (told .1 ∙ ap (λ y. configurationAfter y c) q ∙ k))) (ends e (from-here ∙ f))
 
     is : (o : Reached) → stepBy B t (guide B t) ≡ o → x .transition ≡ transitionOf o
     is o q = told .0 ∙ ap transitionOf q
 
-    pub running-rest : x .transition ≡ Transition.Nothing → Answered Ending.Rest (lent (c .mind) p)
+    pub running-rest : x .transition ≡ Transition.Nothing → Answered Ending.Rest (configured (c .mind) p)
     running-rest e = go refl (own-step B t)
       where
-        go : {o : Reached} → stepBy B t (guide B t) ≡ o → OwnStep B t o → Answered Ending.Rest (lent (c .mind) p)
+        go : {o : Reached} → stepBy B t (guide B t) ≡ o → OwnStep B t o → Answered Ending.Rest (configured (c .mind) p)
         go q (own-rest a) = stopped nothing q refl Ending.Rest (run-rests B (budget - (count + 1)) t q)
         go q (own-full k d g y h) = absurd (let u = sym (is full q) ∙ e in let z : _≡_ {A = ℕ} 0 1 = cc in omega arith)
         go q (own-to k d g y h) = absurd (let u = sym (is (to k (after t k d)) q) ∙ e in let z : _≡_ {A = ℕ} 0 1 = cc in omega arith)
 
-    pub running-full : x .transition ≡ Transition.Full → Answered Ending.Full (lent (c .mind) p)
+    pub running-full : x .transition ≡ Transition.Full → Answered Ending.Full (configured (c .mind) p)
     running-full e = go refl (own-step B t)
       where
-        go : {o : Reached} → stepBy B t (guide B t) ≡ o → OwnStep B t o → Answered Ending.Full (lent (c .mind) p)
+        go : {o : Reached} → stepBy B t (guide B t) ≡ o → OwnStep B t o → Answered Ending.Full (configured (c .mind) p)
         go q (own-rest a) = absurd (let u = sym (is nothing q) ∙ e in let z : _≡_ {A = ℕ} 0 1 = cc in omega arith)
         go q (own-full k d g y h) = stopped full q refl Ending.Full (run-is-full B (budget - (count + 1)) t q)
         go q (own-to k d g y h) = absurd (let u = sym (is (to k (after t k d)) q) ∙ e in let z : _≡_ {A = ℕ} 0 1 = cc in omega arith)
 
     -- a move that is taken: where the run goes on, and that marks stay true unless it was an action
     pub record Moved (n : ℕ) : Type 0 where
-      pub goes : Running l b budget start (lent (x .mind) p) (count + 1)
+      pub goes : Running l b budget start (configured (x .mind) p) (count + 1)
       pub keeps : not (eqb n 1) ≡ true → (marks : List Bool) → Marked l b (c .mind) marks → Marked l b (x .mind) marks
 
     pub running-moved : (n i : ℕ) → x .transition ≡ Transition.Taken n i → Moved n
@@ -189,7 +183,7 @@ module _ (l : Layout) (b : Bytes) (budget : ℕ) (start : State) (c : Configurat
         on : (k : Choice) (d : Config) → Step B (t .mental) k d → length (d .π) ≤ 1024 → stepBy B t (guide B t) ≡ to k (after t k d) → Moved n
         on k d y h q =
             let t′ = after t k d in
-            let at : lent (x .mind) p ≡ configurationOf t′ = told .1 ∙ ap (λ z. configurationAfter z c) q in
+            let at : configured (x .mind) p ≡ configurationOf t′ = told .1 ∙ ap (λ z. configurationAfter z c) q in
             let u : Transition.Taken (kind k) (number k) ≡ Transition.Taken n i = sym (is (to k t′) q) ∙ e in
             let a : kind k ≡ n = cc in
             let o = run B (budget - (count + 1)) t′ in

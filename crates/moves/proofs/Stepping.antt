@@ -23,10 +23,10 @@ use Rattle.meaning.specs.Card.{Bytes, plan, selectionAt, revisionAt, selectionO
 use Rattle.meaning.specs.Configurations.{stateOf}
 use Rattle.meaning.proofs.Parts.{length-part}
 use Rattle.card.specs.GoodCard.{GoodSpan}
-use Rattle.choices.specs.Ready.{Ready}
+use Rattle.door.specs.Ready.{Ready}
 use Rattle.meaning.proofs.AgentEntries.{selectionFor, specificationFor, revisionFor, selection-entry, specification-entry, revision-entry}
-use Rattle.choices.proofs.Asking.{isOpen, open-enabled, empty-exactly, first-exactly, known-number}
-use Rattle.moves.specs.Steps.{Open}
+use Rattle.door.proofs.Asking.{isEnabled, asked-enabled, empty-exactly, first-exactly, known-number}
+use Rattle.moves.specs.Steps.{Enabled}
 
 -- what is enabled may be applied
 module _ {R : Type 0} (can : Config → R → Bool) (done : Config → R → Config) (c : Config) (r : R) where
@@ -47,8 +47,8 @@ module _ (l : Layout) (b : Bytes) (c : Configuration) (ready : Ready l b c) (i :
   abbrev π : List ℕ
   π = take (c .mind .length) (c .plan)
 
-  open-is : (k : Choice) → Open l b c k → enabled (agentFor l b) (s .mental) k ≡ true
-  open-is k e = sym (open-enabled (agentFor l b) (s .mental) k) ∙ ap isOpen e
+  enabled-is : (k : Choice) → Enabled l b c k → enabled (agentFor l b) (s .mental) k ≡ true
+  enabled-is k e = sym (asked-enabled (agentFor l b) (s .mental) k) ∙ ap isEnabled e
 
   pub plan-length : (least : ℕ) (p : Span) → GoodSpan l least p → length (plan l b p) ≡ p .length
   unfolding plan
@@ -59,13 +59,13 @@ module _ (l : Layout) (b : Bytes) (c : Configuration) (ready : Ready l b c) (i :
 
   -- ---- a selection
 
-  module _ (e : Open l b c (select i)) where
+  module _ (e : Enabled l b c (select i)) where
     pub selection-known : i < l .selections .count
     selection-known = known-number l b (s .mental) 0 i e
 
     may-select : canSelect (s .mental) (selectionFor l b i) ≡ true
     unfolding enabled next
-    may-select = opened canSelect selected (s .mental) (selectionFor l b i) (sym (ap (λ o. isSome (outcome canSelect selected (s .mental) o)) (selection-entry l b i selection-known)) ∙ open-is (select i) e)
+    may-select = opened canSelect selected (s .mental) (selectionFor l b i) (sym (ap (λ o. isSome (outcome canSelect selected (s .mental) o)) (selection-entry l b i selection-known)) ∙ enabled-is (select i) e)
 
     pub plan-empty : n ≡ 0
     unfolding canSelect stateOf
@@ -86,13 +86,13 @@ module _ (l : Layout) (b : Bytes) (c : Configuration) (ready : Ready l b c) (i :
 
   -- ---- an action
 
-  module _ (e : Open l b c (act i)) where
+  module _ (e : Enabled l b c (act i)) where
     pub specification-known : i < l .specifications .count
     specification-known = known-number l b (s .mental) 1 i e
 
     may-act : canAct (s .mental) (specificationFor l b i) ≡ true
     unfolding enabled next
-    may-act = opened canAct acted (s .mental) (specificationFor l b i) (sym (ap (λ o. isSome (outcome canAct acted (s .mental) o)) (specification-entry l b i specification-known)) ∙ open-is (act i) e)
+    may-act = opened canAct acted (s .mental) (specificationFor l b i) (sym (ap (λ o. isSome (outcome canAct acted (s .mental) o)) (specification-entry l b i specification-known)) ∙ enabled-is (act i) e)
 
     pub plan-not-empty : 1 ≤ n
     unfolding canAct stateOf
@@ -119,13 +119,13 @@ module _ (l : Layout) (b : Bytes) (c : Configuration) (ready : Ready l b c) (i :
 
   -- ---- a revision
 
-  module _ (e : Open l b c (revise i)) where
+  module _ (e : Enabled l b c (revise i)) where
     pub revision-known : i < l .revisions .count
     revision-known = known-number l b (s .mental) 2 i e
 
     may-revise : canRevise (s .mental) (revisionFor l b i) ≡ true
     unfolding enabled next
-    may-revise = opened canRevise revised (s .mental) (revisionFor l b i) (sym (ap (λ o. isSome (outcome canRevise revised (s .mental) o)) (revision-entry l b i revision-known)) ∙ open-is (revise i) e)
+    may-revise = opened canRevise revised (s .mental) (revisionFor l b i) (sym (ap (λ o. isSome (outcome canRevise revised (s .mental) o)) (revision-entry l b i revision-known)) ∙ enabled-is (revise i) e)
 
     abbrev pub head : Span
     head = revisionAt l b i .head

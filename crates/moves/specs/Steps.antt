@@ -18,9 +18,9 @@ use Rattle.meaning.specs.Card.{Bytes, agentFor, agent}
 use Rattle.meaning.specs.Configurations.{stateOf, configurationOf}
 use Rattle.meaning.specs.Refusals.{configurationAnswer}
 use Rattle.meaning.specs.Calls.{reply}
-use Rattle.layout.specs.PlaceParts.{lent}
-use Rattle.choices.specs.declared.ask.Asked.{Asked}
-use Rattle.choices.specs.Asking.{asked}
+use Rattle.layout.specs.PlaceParts.{configured}
+use Rattle.door.specs.declared.asked.Asked.{Asked}
+use Rattle.door.specs.Asking.{asked}
 use Rattle.moves.specs.declared.step.Transition.{Transition}
 use Rattle.moves.specs.declared.step.Stepped.{Stepped}
 
@@ -38,7 +38,7 @@ configurationAfter (to k s) c = configurationOf s
 
 -- both, of what the code answers and leaves in the plan
 abbrev pub Steps : Reached → Configuration → Stepped → Bytes → Type 0
-Steps o c r p = (r .transition ≡ transitionOf o) × (lent (r .mind) p ≡ configurationAfter o c)
+Steps o c r p = (r .transition ≡ transitionOf o) × (configured (r .mind) p ≡ configurationAfter o c)
 
 -- of a card's choice
 abbrev pub StepsBy : Layout → Bytes → Configuration → Choice → Stepped → Bytes → Type 0
@@ -52,9 +52,9 @@ Advances l b c r p = Steps (stepBy (agentFor l b) (stateOf c) (guide (agentFor l
 unfoldable pub ownMove : Bytes → Configuration → Reached
 ownMove b c = elim (configurationAnswer b c) [ Done ↦ stepBy (agent b) (stateOf c) (guide (agent b) (stateOf c)) | Refused r ↦ nothing ]
 
--- a choice of a card is open
-abbrev pub Open : Layout → Bytes → Configuration → Choice → Type 0
-Open l b c k = asked (agentFor l b) (stateOf c .mental) k ≡ Asked.Open
+-- a choice of a card is enabled
+abbrev pub Enabled : Layout → Bytes → Configuration → Choice → Type 0
+Enabled l b c k = asked (agentFor l b) (stateOf c .mental) k ≡ Asked.Enabled
 
 -- the finished count after a transition that leaves so many actions, where it was f before: finishedWith, by the plan's length
 abbrev pub finishedAt : ℕ → ℕ → ℕ
@@ -79,9 +79,9 @@ abbrev pub askedFor : Agent → Config → Option Choice → Asked
 askedFor A c none = Asked.NoRule
 askedFor A c (some k) = asked A c k
 
--- done where a choice that was asked for is open, and else the refusal q: 02, Wish 1: "10 gives way to three in its place"
+-- done where a choice that was asked for is enabled, and else the refusal q: 02, Wish 1: "10 gives way to three in its place"
 abbrev pub answerAsked : Asked → Refusal → Answer
-answerAsked Asked.Open q = Done
+answerAsked Asked.Enabled q = Done
 answerAsked Asked.NoRule q = Refused q
 answerAsked Asked.Front q = Refused q
 answerAsked Asked.Condition q = Refused q

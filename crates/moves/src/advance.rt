@@ -1,34 +1,29 @@
 // One move of the guide's own: it chooses, and makes the transition.
 ghost use mathlib.Core.Path.{_≡_};
 ghost use Rattle.meaning.specs.Refusals.{configurationAnswer};
-ghost use Rattle.layout.specs.PlaceParts.{lent};
-ghost use Rattle.choices.specs.Ready.{Judged};
+ghost use Rattle.layout.specs.PlaceParts.{configured};
+ghost use Rattle.choices.specs.Judged.{Judged};
 ghost use Rattle.moves.specs.Steps.{Advances, Steps, ownMove};
 use crate::step::Stepped;
 use crate::step::Transition;
 use crate::step::step;
 use card::check::answer_of;
-use card::check::check;
-use choices::ask::Chosen;
 use choices::ask::choose;
-use choices::configuration::judge_configuration;
+use choices::truth::Marks;
 use choices::truth::judge_nodes;
 use choices::truth::no_marks;
+use door::admit::admit;
+use door::asked::Chosen;
 use meaning::Answer;
 use meaning::Checked;
 use meaning::Layout;
 use meaning::Mind;
+use meaning::Plan;
 
 // The guide's own move, where every node's truth is known.
-pub fn advance(
-    card: &[u8],
-    l: Layout,
-    m: Mind,
-    plan: &mut [u8; 1024],
-    marks: &[bool; 256],
-) -> Stepped
-    requires { ⌜ Judged l (now card) (lent m (now plan)) (now marks) ⌝ }
-    ensures { λ r. ⌜ Advances l (now (card .entry)) (lent m (now (plan .entry))) r (now (plan .exit)) ⌝ }
+pub fn advance(card: &[u8], l: Layout, m: Mind, plan: &mut Plan, marks: &Marks) -> Stepped
+    requires { ⌜ Judged l (now card) (configured m (now plan)) (now marks) ⌝ }
+    ensures { λ r. ⌜ Advances l (now (card .entry)) (configured m (now (plan .entry))) r (now (plan .exit)) ⌝ }
 {
     let chosen = choose(card, l, m, plan, marks);
     let Chosen::At(kind, i) = chosen else {
@@ -47,24 +42,15 @@ pub struct NextInPlace {
 }
 
 // One move of the guide's own, with the choice that it took: what a program shows that tells move after move.
-pub fn next_move(card: &[u8], m: Mind, plan: &mut [u8; 1024]) -> NextInPlace
-    ensures { λ r. ⌜ r .answer ≡ configurationAnswer (now (card .entry)) (lent m (now (plan .entry))) ⌝ }
-    ensures { λ r. ⌜ Steps (ownMove (now (card .entry)) (lent m (now (plan .entry)))) (lent m (now (plan .entry))) (r .step) (now (plan .exit)) ⌝ }
+pub fn next_move(card: &[u8], m: Mind, plan: &mut Plan) -> NextInPlace
+    ensures { λ r. ⌜ r .answer ≡ configurationAnswer (now (card .entry)) (configured m (now (plan .entry))) ⌝ }
+    ensures { λ r. ⌜ Steps (ownMove (now (card .entry)) (configured m (now (plan .entry)))) (configured m (now (plan .entry)))
+        (r .step) (now (plan .exit)) ⌝ }
 {
-    let checked = check(card);
-    let Checked::Good(l) = checked else {
+    let admitted = admit(card, m, plan);
+    let Checked::Good(l) = admitted else {
         return NextInPlace {
-            answer: answer_of(checked),
-            step: Stepped {
-                transition: Transition::Nothing,
-                mind: m,
-            },
-        };
-    };
-    let judged = judge_configuration(l, m, plan);
-    let Answer::Done = judged else {
-        return NextInPlace {
-            answer: judged,
+            answer: answer_of(admitted),
             step: Stepped {
                 transition: Transition::Nothing,
                 mind: m,

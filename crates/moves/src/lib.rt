@@ -1,6 +1,5 @@
-// Moves: a transition made in place; the guide's own, one and many; the calls list, take and run where the plan is lent.
+// Moves: a transition made in place; the guide's own, one and many; the calls take and run where the plan is lent.
 pub mod advance;
-pub mod list;
 pub mod run;
 pub mod step;
 pub mod take;

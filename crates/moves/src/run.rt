@@ -4,30 +4,26 @@ ghost use mathlib.Core.Bool.{true};
 ghost use lib.ListN.{length};
 ghost use Rattle.runs.specs.Run.{run};
 ghost use Rattle.meaning.specs.declared.Answer.the-variants.{Done};
-ghost use Rattle.meaning.specs.Card.{agentFor};
-ghost use Rattle.meaning.specs.Configurations.{stateOf};
+ghost use Rattle.door.specs.Words.{agentFor, stateOf, configured, GoodCard, Ready, ranWith};
 ghost use Rattle.meaning.specs.Calls.{ran, runs};
-ghost use Rattle.layout.specs.PlaceParts.{lent};
-ghost use Rattle.card.specs.GoodCard.{GoodCard};
 ghost use Rattle.choices.specs.Truth.{Marked};
-ghost use Rattle.choices.specs.Ready.{Ready};
-ghost use Rattle.choices.specs.InPlace.{ranWith};
 use crate::advance::advance;
 use crate::step::Transition;
 use card::check::answer_of;
-use card::check::check;
-use choices::configuration::judge_configuration;
-use choices::in_place::RanInPlace;
+use choices::truth::Marks;
 use choices::truth::judge_nodes;
 use choices::truth::no_marks;
+use door::admit::admit;
+use door::in_place::RanInPlace;
 use meaning::Answer;
 use meaning::Checked;
 use meaning::Layout;
 use meaning::Mind;
+use meaning::Plan;
 use runs::Ending;
 
 // The nodes are judged, unless their marks are known to be true.
-pub fn refresh(card: &[u8], l: Layout, m: Mind, known: bool, marks: &mut [bool; 256])
+pub fn refresh(card: &[u8], l: Layout, m: Mind, known: bool, marks: &mut Marks)
     requires { ⌜ GoodCard l (now card) × (length (now marks) ≡ 256) × (known ≡ true → Marked l (now card) m (now marks)) ⌝ }
     ensures { λ r. ⌜ Marked l (now (card .entry)) m (now (marks .exit)) × (length (now (marks .exit)) ≡ 256) ⌝ }
 {
@@ -50,9 +46,9 @@ fn ended(m: Mind, count: u16, ending: Ending) -> RanInPlace
 
 // At most budget moves of the guide's own. The budget is looked at first. The nodes are judged at most once a move: their marks
 // stay true until an action.
-fn run_on(card: &[u8], l: Layout, m: Mind, plan: &mut [u8; 1024], budget: u16) -> RanInPlace
-    requires { ⌜ Ready l (now card) (lent m (now plan)) ⌝ }
-    ensures { λ r. ⌜ ranWith r (now (plan .exit)) ≡ ran (run (agentFor l (now (card .entry))) budget (stateOf (lent m (now (plan .entry))))) ⌝ }
+fn run_on(card: &[u8], l: Layout, m: Mind, plan: &mut Plan, budget: u16) -> RanInPlace
+    requires { ⌜ Ready l (now card) (configured m (now plan)) ⌝ }
+    ensures { λ r. ⌜ ranWith r (now (plan .exit)) ≡ ran (run (agentFor l (now (card .entry))) budget (stateOf (configured m (now (plan .entry))))) ⌝ }
 {
     let mut cur = m;
     let mut marks = no_marks();
@@ -80,22 +76,13 @@ fn run_on(card: &[u8], l: Layout, m: Mind, plan: &mut [u8; 1024], budget: u16) -
 }
 
 // The mind reached, the count, and why the run ended; the plan is changed in place.
-pub fn run(card: &[u8], m: Mind, plan: &mut [u8; 1024], budget: u16) -> RanInPlace
-    ensures { λ r. ⌜ ranWith r (now (plan .exit)) ≡ runs (now (card .entry)) (lent m (now (plan .entry))) budget ⌝ }
+pub fn run(card: &[u8], m: Mind, plan: &mut Plan, budget: u16) -> RanInPlace
+    ensures { λ r. ⌜ ranWith r (now (plan .exit)) ≡ runs (now (card .entry)) (configured m (now (plan .entry))) budget ⌝ }
 {
-    let checked = check(card);
-    let Checked::Good(l) = checked else {
+    let admitted = admit(card, m, plan);
+    let Checked::Good(l) = admitted else {
         return RanInPlace {
-            answer: answer_of(checked),
-            count: 0,
-            ending: Ending::Spent,
-            mind: m,
-        };
-    };
-    let judged = judge_configuration(l, m, plan);
-    let Answer::Done = judged else {
-        return RanInPlace {
-            answer: judged,
+            answer: answer_of(admitted),
             count: 0,
             ending: Ending::Spent,
             mind: m,

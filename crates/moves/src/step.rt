@@ -2,10 +2,8 @@
 ghost use mathlib.Core.Path.{_≡_};
 ghost use Prim.Native.Nat.{_+_, _%_, _≤_, _<_};
 ghost use Rattle.paper.specs.Transitions.{select, act, revise};
-ghost use Rattle.layout.specs.PlaceParts.{lent};
-ghost use Rattle.choices.specs.Ready.{Ready};
-ghost use Rattle.choices.specs.Asking.{choiceAt};
-ghost use Rattle.moves.specs.Steps.{Open, StepsBy, finishedAt, takenTo};
+ghost use Rattle.door.specs.Words.{configured, Ready, choiceAt};
+ghost use Rattle.moves.specs.Steps.{Enabled, StepsBy, finishedAt, takenTo};
 use layout::entries::pool_at;
 use layout::entries::read_revision;
 use layout::entries::read_selection;
@@ -14,6 +12,8 @@ use layout::limits::longest_plan;
 use layout::limits::most_finished;
 use meaning::Layout;
 use meaning::Mind;
+use meaning::Plan;
+use meaning::Set;
 
 // What a transition comes to: it is taken, by the kind and number of a choice; there is none; or its plan would be too long.
 pub enum Transition {
@@ -44,7 +44,7 @@ fn finished_with(finished: u16, n: usize) -> u16
 }
 
 // "After any transition, the guide's or a chosen one, the phase is the kind taken plus 1, modulo 3."
-fn taken(beliefs: [u8; 16], goals: [u8; 16], n: usize, finished: u16, kind: u8, i: usize) -> Stepped
+fn taken(beliefs: Set, goals: Set, n: usize, finished: u16, kind: u8, i: usize) -> Stepped
     requires { ⌜ (n ≤ 1024) × (kind < 3) ⌝ }
     ensures { λ r. ⌜ r ≡ takenTo beliefs goals n finished kind i ⌝ }
 {
@@ -61,9 +61,9 @@ fn taken(beliefs: [u8; 16], goals: [u8; 16], n: usize, finished: u16, kind: u8, 
 }
 
 // Selection rule i: "The rule's plan becomes the plan."
-fn step_selection(card: &[u8], l: Layout, m: Mind, plan: &mut [u8; 1024], i: usize) -> Stepped
-    requires { ⌜ Ready l (now card) (lent m (now plan)) × Open l (now card) (lent m (now plan)) (select i) ⌝ }
-    ensures { λ r. ⌜ StepsBy l (now (card .entry)) (lent m (now (plan .entry))) (select i) r (now (plan .exit)) ⌝ }
+fn step_selection(card: &[u8], l: Layout, m: Mind, plan: &mut Plan, i: usize) -> Stepped
+    requires { ⌜ Ready l (now card) (configured m (now plan)) × Enabled l (now card) (configured m (now plan)) (select i) ⌝ }
+    ensures { λ r. ⌜ StepsBy l (now (card .entry)) (configured m (now (plan .entry))) (select i) r (now (plan .exit)) ⌝ }
 {
     let e = read_selection(card, l, i);
     let s = e.plan;
@@ -76,9 +76,9 @@ fn step_selection(card: &[u8], l: Layout, m: Mind, plan: &mut [u8; 1024], i: usi
 
 // Specification i: "Beliefs become (beliefs with Add) without Del.", "after an action the goals are those not believed", "The first
 // action leaves the plan."
-fn step_action(card: &[u8], l: Layout, m: Mind, plan: &mut [u8; 1024], i: usize) -> Stepped
-    requires { ⌜ Ready l (now card) (lent m (now plan)) × Open l (now card) (lent m (now plan)) (act i) ⌝ }
-    ensures { λ r. ⌜ StepsBy l (now (card .entry)) (lent m (now (plan .entry))) (act i) r (now (plan .exit)) ⌝ }
+fn step_action(card: &[u8], l: Layout, m: Mind, plan: &mut Plan, i: usize) -> Stepped
+    requires { ⌜ Ready l (now card) (configured m (now plan)) × Enabled l (now card) (configured m (now plan)) (act i) ⌝ }
+    ensures { λ r. ⌜ StepsBy l (now (card .entry)) (configured m (now (plan .entry))) (act i) r (now (plan .exit)) ⌝ }
 {
     let e = read_specification(card, l, i);
     let n = m.length as usize;
@@ -93,9 +93,9 @@ fn step_action(card: &[u8], l: Layout, m: Mind, plan: &mut [u8; 1024], i: usize)
 }
 
 // Revision rule i: "The body takes the head's place; the rest stays." A plan that would be too long is not made.
-fn step_revision(card: &[u8], l: Layout, m: Mind, plan: &mut [u8; 1024], i: usize) -> Stepped
-    requires { ⌜ Ready l (now card) (lent m (now plan)) × Open l (now card) (lent m (now plan)) (revise i) ⌝ }
-    ensures { λ r. ⌜ StepsBy l (now (card .entry)) (lent m (now (plan .entry))) (revise i) r (now (plan .exit)) ⌝ }
+fn step_revision(card: &[u8], l: Layout, m: Mind, plan: &mut Plan, i: usize) -> Stepped
+    requires { ⌜ Ready l (now card) (configured m (now plan)) × Enabled l (now card) (configured m (now plan)) (revise i) ⌝ }
+    ensures { λ r. ⌜ StepsBy l (now (card .entry)) (configured m (now (plan .entry))) (revise i) r (now (plan .exit)) ⌝ }
 {
     let e = read_revision(card, l, i);
     let head = e.head;
@@ -115,10 +115,10 @@ fn step_revision(card: &[u8], l: Layout, m: Mind, plan: &mut [u8; 1024], i: usiz
     taken(b, g, after, m.finished, 2, i)
 }
 
-// The transition of an open choice, by its kind and number.
-pub fn step(card: &[u8], l: Layout, m: Mind, plan: &mut [u8; 1024], kind: u8, i: usize) -> Stepped
-    requires { ⌜ Ready l (now card) (lent m (now plan)) × (kind < 3) × Open l (now card) (lent m (now plan)) (choiceAt kind i) ⌝ }
-    ensures { λ r. ⌜ StepsBy l (now (card .entry)) (lent m (now (plan .entry))) (choiceAt kind i) r (now (plan .exit)) ⌝ }
+// The transition of an enabled choice, by its kind and number.
+pub fn step(card: &[u8], l: Layout, m: Mind, plan: &mut Plan, kind: u8, i: usize) -> Stepped
+    requires { ⌜ Ready l (now card) (configured m (now plan)) × (kind < 3) × Enabled l (now card) (configured m (now plan)) (choiceAt kind i) ⌝ }
+    ensures { λ r. ⌜ StepsBy l (now (card .entry)) (configured m (now (plan .entry))) (choiceAt kind i) r (now (plan .exit)) ⌝ }
 {
     match kind {
         0 => step_selection(card, l, m, plan, i),

@@ -1,43 +1,34 @@
 // Taking a choice: "A chosen move is taken exactly if it is such a transition and its plan fits."
 ghost use mathlib.Core.Path.{_≡_};
 ghost use Rattle.runs.specs.Step.{stepBy};
-ghost use Rattle.meaning.specs.Card.{agentFor};
-ghost use Rattle.meaning.specs.Configurations.{stateOf};
+ghost use Rattle.door.specs.Words.{agentFor, stateOf, configured, Ready, replyWith};
 ghost use Rattle.meaning.specs.declared.Refusal.{Refusal};
 ghost use Rattle.meaning.specs.Why.{whyClosed};
 ghost use Rattle.meaning.specs.Calls.{choice, takes};
-ghost use Rattle.layout.specs.PlaceParts.{lent};
-ghost use Rattle.choices.specs.Ready.{Ready, Judged};
-ghost use Rattle.choices.specs.InPlace.{replyWith};
+ghost use Rattle.choices.specs.Judged.{Judged};
 ghost use Rattle.moves.specs.Steps.{answerTo, askedFor, answerAsked, takenBy};
 use crate::step::Transition;
 use crate::step::step;
 use card::check::answer_of;
-use card::check::check;
-use choices::ask::Asked;
 use choices::ask::ask;
-use choices::configuration::judge_configuration;
-use choices::in_place::ReplyInPlace;
 use choices::settler::false_condition;
+use choices::truth::Marks;
 use choices::truth::judge_nodes;
 use choices::truth::no_marks;
+use door::admit::admit;
+use door::asked::Asked;
+use door::in_place::ReplyInPlace;
 use meaning::Answer;
 use meaning::Checked;
 use meaning::Layout;
 use meaning::Mind;
+use meaning::Plan;
 use meaning::Refusal;
 
 // The choice of a code: "256 times the kind … plus the number". There is no kind past 2.
-fn ask_code(
-    card: &[u8],
-    l: Layout,
-    m: Mind,
-    plan: &[u8; 1024],
-    marks: &[bool; 256],
-    code: u16,
-) -> Asked
-    requires { ⌜ Judged l (now card) (lent m (now plan)) (now marks) ⌝ }
-    ensures { λ r. ⌜ r ≡ askedFor (agentFor l (now (card .entry))) (stateOf (lent m (now (plan .entry))) .mental) (choice code) ⌝ }
+fn ask_code(card: &[u8], l: Layout, m: Mind, plan: &Plan, marks: &Marks, code: u16) -> Asked
+    requires { ⌜ Judged l (now card) (configured m (now plan)) (now marks) ⌝ }
+    ensures { λ r. ⌜ r ≡ askedFor (agentFor l (now (card .entry))) (stateOf (configured m (now (plan .entry))) .mental) (choice code) ⌝ }
 {
     let kind = code / 256;
     if 2 < kind {
@@ -47,22 +38,22 @@ fn ask_code(
 }
 
 // 02, Wish 1: "Refusals: 10 gives way to three in its place and this order": done where the choice of a code, which was asked
-// for, is open.
+// for, is enabled.
 fn answer_asked(
     card: &[u8],
     l: Layout,
     m: Mind,
-    plan: &[u8; 1024],
-    marks: &[bool; 256],
+    plan: &Plan,
+    marks: &Marks,
     asked: Asked,
     code: u16,
 ) -> Answer
-    requires { ⌜ Judged l (now card) (lent m (now plan)) (now marks) ⌝ }
-    requires { ⌜ asked ≡ askedFor (agentFor l (now card)) (stateOf (lent m (now plan)) .mental) (choice code) ⌝ }
-    ensures { λ r. ⌜ r ≡ answerAsked asked (whyClosed l (now (card .entry)) (stateOf (lent m (now (plan .entry))) .mental) (choice code)) ⌝ }
+    requires { ⌜ Judged l (now card) (configured m (now plan)) (now marks) ⌝ }
+    requires { ⌜ asked ≡ askedFor (agentFor l (now card)) (stateOf (configured m (now plan)) .mental) (choice code) ⌝ }
+    ensures { λ r. ⌜ r ≡ answerAsked asked (whyClosed l (now (card .entry)) (stateOf (configured m (now (plan .entry))) .mental) (choice code)) ⌝ }
 {
     match asked {
-        Asked::Open => Answer::Done,
+        Asked::Enabled => Answer::Done,
         Asked::NoRule => Answer::Refused(Refusal::NoRule),
         Asked::Front => Answer::Refused(Refusal::Front),
         Asked::Condition => {
@@ -73,7 +64,7 @@ fn answer_asked(
     }
 }
 
-// Row 11: what is answered of what a transition comes to. Of an open choice there is one, and done or 11 is answered.
+// Row 11: what is answered of what a transition comes to. Of an enabled choice there is one, and done or 11 is answered.
 fn answer_to(transition: Transition) -> Answer
     ensures { λ r. ⌜ r ≡ answerTo Refusal.NoRule transition ⌝ }
 {
@@ -84,12 +75,12 @@ fn answer_to(transition: Transition) -> Answer
     }
 }
 
-// A choice is asked for by its code and, where it is open and its plan fits, made: rows 10 and 11.
-fn take_choice(card: &[u8], l: Layout, m: Mind, plan: &mut [u8; 1024], code: u16) -> ReplyInPlace
-    requires { ⌜ Ready l (now card) (lent m (now plan)) ⌝ }
+// A choice is asked for by its code and, where it is enabled and its plan fits, made: rows 10 and 11.
+fn take_choice(card: &[u8], l: Layout, m: Mind, plan: &mut Plan, code: u16) -> ReplyInPlace
+    requires { ⌜ Ready l (now card) (configured m (now plan)) ⌝ }
     ensures { λ r. ⌜ replyWith r (now (plan .exit))
-        ≡ takenBy (whyClosed l (now (card .entry)) (stateOf (lent m (now (plan .entry))) .mental) (choice code))
-        (stepBy (agentFor l (now (card .entry))) (stateOf (lent m (now (plan .entry)))) (choice code)) (lent m (now (plan .entry))) ⌝ }
+        ≡ takenBy (whyClosed l (now (card .entry)) (stateOf (configured m (now (plan .entry))) .mental) (choice code))
+        (stepBy (agentFor l (now (card .entry))) (stateOf (configured m (now (plan .entry)))) (choice code)) (configured m (now (plan .entry))) ⌝ }
 {
     let mut marks = no_marks();
     judge_nodes(card, l, m, &mut marks);
@@ -104,34 +95,20 @@ fn take_choice(card: &[u8], l: Layout, m: Mind, plan: &mut [u8; 1024], code: u16
     let s = step(card, l, m, plan, (code / 256) as u8, (code % 256) as usize);
     let transition = s.transition;
     let after = s.mind;
-    let made = answer_to(transition);
-    let Answer::Done = made else {
-        return ReplyInPlace {
-            answer: made,
-            mind: m,
-        };
-    };
     ReplyInPlace {
-        answer: Answer::Done,
+        answer: answer_to(transition),
         mind: after,
     }
 }
 
 // The chosen move, in place; what is not taken is as it came in.
-pub fn take(card: &[u8], m: Mind, plan: &mut [u8; 1024], choice: u16) -> ReplyInPlace
-    ensures { λ r. ⌜ replyWith r (now (plan .exit)) ≡ takes (now (card .entry)) (lent m (now (plan .entry))) choice ⌝ }
+pub fn take(card: &[u8], m: Mind, plan: &mut Plan, choice: u16) -> ReplyInPlace
+    ensures { λ r. ⌜ replyWith r (now (plan .exit)) ≡ takes (now (card .entry)) (configured m (now (plan .entry))) choice ⌝ }
 {
-    let checked = check(card);
-    let Checked::Good(l) = checked else {
+    let admitted = admit(card, m, plan);
+    let Checked::Good(l) = admitted else {
         return ReplyInPlace {
-            answer: answer_of(checked),
-            mind: m,
-        };
-    };
-    let judged = judge_configuration(l, m, plan);
-    let Answer::Done = judged else {
-        return ReplyInPlace {
-            answer: judged,
+            answer: answer_of(admitted),
             mind: m,
         };
     };

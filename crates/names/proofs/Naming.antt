@@ -8,6 +8,7 @@ use native.Mathlib.Omega.{arith}
 use borrow.Author.Tests.{lt-ltb, le-ltb, ltb-true, ltb-false, not-false}
 use lib.Dec.{ltb}
 use lib.ListN.{length, take, drop}
+use Rattle.paper.specs.Next.{if}
 use Rattle.meaning.specs.declared.Refusal.{Refusal}
 use Rattle.meaning.specs.declared.Answer.{Answer}
 use Rattle.meaning.specs.declared.Answer.the-variants.{Done, Refused}
@@ -20,21 +21,20 @@ use Rattle.meaning.specs.Calls.{checks}
 use Rattle.meaning.proofs.Tables.{passes, done≢refused}
 use Rattle.meaning.proofs.Calls.{good-judged, refused-judged}
 use Rattle.card.proofs.GoodCard.{good-card}
-use Rattle.utf8.specs.Characters.{if}
 use Rattle.names.specs.declared.Named.{Named}
 use Rattle.names.specs.Sheets.{nameSpan, bytesOf, shedGood, masterGood}
-use Rattle.names.specs.Naming.{Asked, nameTable, nameAnswer, named, refusedName, found, answered, names, sheetOf, nameOf, placeOf}
-use Rattle.names.specs.Working.{Ready}
+use Rattle.names.specs.Naming.{Question, nameTable, nameAnswer, named, refusedName, found, answered, names, sheetOf, nameOf, placeOf}
+use Rattle.names.specs.Working.{SheetsReady}
 use Rattle.names.specs.Theorems.{Sheet, PartOf, OnDone, OnRefusal}
 use Rattle.names.proofs.Rules.{rules-of, shed-rules, end-within, sheet-holds, shed-holds}
 
 -- the rows, once all are passed
-pub record Passed (n : ℕ) (q : Asked) : Type 0 where
+pub record SheetsPass (n : ℕ) (q : Question) : Type 0 where
   pub shed : shedGood n (q .shed) ≡ true
   pub master : masterGood n (q .master) ≡ true
   pub known : q .action < n
 
-pub passed : (n : ℕ) (q : Asked) → firstGiven (nameTable n) q ≡ Done → Passed n q
+pub passed : (n : ℕ) (q : Question) → firstGiven (nameTable n) q ≡ Done → SheetsPass n q
 unfolding nameTable
 passed n q e =
     let (s, f) = passes _ _ q e in
@@ -42,7 +42,7 @@ passed n q e =
     let (a, h) = passes _ _ q g in
     record { shed = not-false _ s; master = not-false _ m; known = ltb-true _ _ (not-false _ a) }
 
-pub ready : (n : ℕ) (q : Asked) → n ≤ 256 → firstGiven (nameTable n) q ≡ Done → Ready (q .shed) (q .master) (q .action)
+pub ready : (n : ℕ) (q : Question) → n ≤ 256 → firstGiven (nameTable n) q ≡ Done → SheetsReady (q .shed) (q .master) (q .action)
 unfolding masterGood
 ready n q h e =
     let p = passed n q e in
@@ -55,7 +55,7 @@ ready n q h e =
 
 -- ---- what is found
 
-module _ (q : Asked) where
+module _ (q : Question) where
   abbrev pub either : Bool → Named
   either t = if t (named Done 1 (nameSpan (q .shed) (q .action))) (named Done 0 (nameSpan (q .master) (q .action)))
 
@@ -75,7 +75,7 @@ empty-part n a e = subst (λ (n : Named). n .part .start + n .part .length ≤ 6
 pub few-actions : (b : Bytes) (l : Layout) → checks b ≡ Checked.Good l → l .actions ≤ 256
 few-actions b l e = let (d, s) = good-judged b l e in good-card l b d s .layout .actions
 
-module _ (b : Bytes) (q : Asked) where
+module _ (b : Bytes) (q : Question) where
   pub card-refuses : (r : Refusal) → checks b ≡ Checked.Refused r → refusedName (Refused r) ≡ names b q
   unfolding names nameAnswer
   card-refuses r e = sym (ap (λ a. answered (andThen a (firstGiven (nameTable (layout b .actions)) q)) q) (refused-judged b r e))
@@ -110,7 +110,7 @@ module _ (b : Bytes) (q : Asked) where
 
 -- ---- the parts
 
-part-own : (n : ℕ) (q : Asked) → Passed n q → 0 < nameSpan (q .shed) (q .action) .length → PartOf q (named Done 1 (nameSpan (q .shed) (q .action)))
+part-own : (n : ℕ) (q : Question) → SheetsPass n q → 0 < nameSpan (q .shed) (q .action) .length → PartOf q (named Done 1 (nameSpan (q .shed) (q .action)))
 part-own n q p h = go (shed-rules n (q .shed) (p .shed))
   where
     go : (q .shed ≡ []) ⊎ Sheet 0 n (q .shed) → PartOf q (named Done 1 (nameSpan (q .shed) (q .action)))
@@ -120,7 +120,7 @@ part-own n q p h = go (shed-rules n (q .shed) (p .shed))
         let f = r .never-fall (q .action) (p .known) in
         record { within = omega (arith, w, f); some = h; in-utf8 = r .in-utf8 (q .action) (p .known) }
 
-part-other : (n : ℕ) (q : Asked) → Passed n q → PartOf q (named Done 0 (nameSpan (q .master) (q .action)))
+part-other : (n : ℕ) (q : Question) → SheetsPass n q → PartOf q (named Done 0 (nameSpan (q .master) (q .action)))
 unfolding masterGood
 part-other n q p =
     let r = rules-of 1 n (q .master) (p .master) in
@@ -128,7 +128,7 @@ part-other n q p =
     let f = r .never-fall (q .action) (p .known) in
     record { within = omega (arith, w, f); some = omega (arith, f); in-utf8 = r .in-utf8 (q .action) (p .known) }
 
-pub part-found : (n : ℕ) (q : Asked) → Passed n q → PartOf q (found q)
+pub part-found : (n : ℕ) (q : Question) → SheetsPass n q → PartOf q (found q)
 part-found n q p = go (ltb 0 (nameSpan (q .shed) (q .action) .length)) refl
   where
     go : (t : Bool) → ltb 0 (nameSpan (q .shed) (q .action) .length) ≡ t → PartOf q (found q)
@@ -151,7 +151,7 @@ unfolding names
 on-refusal b q r e = ap (λ a. answered a q) e
 
 -- the part is within its sheet, in a refusal too
-pub part-within : (b : Bytes) (q : Asked) → names b q .part .start + names b q .part .length ≤ length (sheetOf (names b q) (q .shed) (q .master))
+pub part-within : (b : Bytes) (q : Question) → names b q .part .start + names b q .part .length ≤ length (sheetOf (names b q) (q .shed) (q .master))
 part-within b q = go (nameAnswer b q) refl
   where
     go : (a : Answer) → nameAnswer b q ≡ a → names b q .part .start + names b q .part .length ≤ length (sheetOf (names b q) (q .shed) (q .master))
@@ -160,7 +160,7 @@ part-within b q = go (nameAnswer b q) refl
 
 -- ---- what is handed back, of an answer n
 
-module _ (b : Bytes) (q : Asked) (n : Named) (e : n ≡ names b q) where
+module _ (b : Bytes) (q : Question) (n : Named) (e : n ≡ names b q) where
   pub own-sheet : {X : Type 0} (x y : X) → 0 < n .sheet → sheetOf (names b q) x y ≡ x
   own-sheet x y h = ap (λ n. sheetOf n x y) (sym e) ∙ ap (λ t. if t x y) (lt-ltb 0 (n .sheet) h)
 

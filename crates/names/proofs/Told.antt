@@ -15,7 +15,7 @@ use Rattle.meaning.specs.Numbers.{sheetNumber}
 use Rattle.meaning.proofs.Tables.{given, not-given}
 use Rattle.names.specs.declared.Named.{Named}
 use Rattle.names.specs.Sheets.{nameSpan}
-use Rattle.names.specs.Naming.{Asked, nameTable, nameAnswer, found, names}
+use Rattle.names.specs.Naming.{Question, nameTable, nameAnswer, found, names}
 use Rattle.names.proofs.Naming.{either, names-found, on-refusal}
 
 -- a table whose refusals carry 0 or 1
@@ -36,15 +36,15 @@ then-small : (a c : Answer) → answerCarried a ≤ 1 → answerCarried c ≤ 1 
 then-small Done c h k = k
 then-small (Refused r) c h k = h
 
-answer-small : (b : Bytes) (q : Asked) → answerCarried (nameAnswer b q) ≤ 1
+answer-small : (b : Bytes) (q : Question) → answerCarried (nameAnswer b q) ≤ 1
 unfolding nameAnswer cardAnswer cardTable nameTable small carried
 answer-small b q = then-small (cardAnswer b) _ (table-small cardTable b refl) (table-small (nameTable (layout b .actions)) q refl)
 
-found-told : (q : Asked) → sheetNumber (found q .answer) (found q .sheet) ≤ 1
+found-told : (q : Question) → sheetNumber (found q .answer) (found q .sheet) ≤ 1
 unfolding found sheetNumber
 found-told q = elim (ltb 0 (nameSpan (q .shed) (q .action) .length)) as (λ t. sheetNumber (either q t .answer) (either q t .sheet) ≤ 1) [ true ↦ omega arith | false ↦ omega arith ]
 
-pub sheet-told : (b : Bytes) (q : Asked) (n : Named) → n ≡ names b q → sheetNumber (n .answer) (n .sheet) ≤ 1
+pub sheet-told : (b : Bytes) (q : Question) (n : Named) → n ≡ names b q → sheetNumber (n .answer) (n .sheet) ≤ 1
 unfolding answerCarried sheetNumber
 sheet-told b q n told = go (nameAnswer b q) refl
   where

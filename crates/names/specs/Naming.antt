@@ -3,29 +3,29 @@ use mathlib.Core.Bool.{not}
 use mathlib.Core.List.{List, [], _∷_}
 use Prim.Native.Nat.{ℕ, _+_}
 use lib.Dec.{ltb}
+use Rattle.paper.specs.Next.{if}
 use Rattle.meaning.specs.declared.Refusal.{Refusal}
 use Rattle.meaning.specs.declared.Answer.{Answer}
 use Rattle.meaning.specs.declared.Answer.the-variants.{Done, Refused}
 use Rattle.meaning.specs.declared.Span.{Span}
 use Rattle.meaning.specs.Card.{Bytes, layout}
 use Rattle.meaning.specs.Refusals.{Row, _given-when_, firstGiven, andThen, cardAnswer}
-use Rattle.utf8.specs.Characters.{if}
 use Rattle.names.specs.declared.Named.{Named}
 use Rattle.names.specs.Sheets.{nameSpan, bytesOf, shedGood, masterGood}
 
 -- 02, Wish 8: "a master sheet of move names and may have one in its own language", "Asked for an action": what is asked beside the
 -- card.
-pub record Asked : Type 0 where
+pub record Question : Type 0 where
   pub shed : Bytes
   pub master : Bytes
   pub action : ℕ
 
-abbrev pub asked : Bytes → Bytes → ℕ → Asked
+abbrev pub asked : Bytes → Bytes → ℕ → Question
 asked s m a = record { shed = s; master = m; action = a }
 
 -- 02, Wish 8: "Refusals, …: 20 a sheet breaking these rules, the shed's before the master; then 21 unknown action." "Both are
 -- checked whole; both counts must equal the card's".
-unfoldable pub nameTable : ℕ → List (Row Asked)
+unfoldable pub nameTable : ℕ → List (Row Question)
 nameTable n =
     (Refusal.Sheet 1 given-when (λ q. not (shedGood n (q .shed))))
     ∷ ((Refusal.Sheet 0 given-when (λ q. not (masterGood n (q .master))))
@@ -33,7 +33,7 @@ nameTable n =
     ∷ []))
 
 -- 01, "Numbers the guide may answer": "the card first with 1 to 9, then" these.
-unfoldable pub nameAnswer : Bytes → Asked → Answer
+unfoldable pub nameAnswer : Bytes → Question → Answer
 nameAnswer b q = andThen (cardAnswer b) (firstGiven (nameTable (layout b .actions)) q)
 
 -- An answer with a part of the master's sheet, 0, or of the shed's, 1.
@@ -46,18 +46,18 @@ refusedName a = named a 0 (record { start = 0; length = 0 })
 
 -- 02, Wish 8: "hands back the part of the shed's sheet that holds its name, or the part of the master sheet where the shed's name
 -- is empty".
-unfoldable pub found : Asked → Named
+unfoldable pub found : Question → Named
 found q =
     if (ltb 0 (nameSpan (q .shed) (q .action) .length))
     (named Done 1 (nameSpan (q .shed) (q .action)))
     (named Done 0 (nameSpan (q .master) (q .action)))
 
 -- What the call answers.
-abbrev pub answered : Answer → Asked → Named
+abbrev pub answered : Answer → Question → Named
 answered Done q = found q
 answered (Refused r) q = refusedName (Refused r)
 
-unfoldable pub names : Bytes → Asked → Named
+unfoldable pub names : Bytes → Question → Named
 names b q = answered (nameAnswer b q) q
 
 -- The sheet that an answer's part lies in.

@@ -11,7 +11,7 @@ use Rattle.meaning.specs.Card.{Bytes, layout, numberAt}
 use Rattle.utf8.specs.Grammar.{UTF8-octets}
 use Rattle.names.specs.declared.Named.{Named}
 use Rattle.names.specs.Sheets.{offsetAt, nameSpan, bytesOf, shedGood, masterGood}
-use Rattle.names.specs.Naming.{Asked, nameAnswer, refusedName, named, names, sheetOf, nameOf}
+use Rattle.names.specs.Naming.{Question, nameAnswer, refusedName, named, names, sheetOf, nameOf}
 
 -- 02, Wish 8: "A sheet has a count n, n + 1 offsets that never fall (two bytes each, the first 2n + 4, the last the sheet's
 -- length), then the names, each in UTF-8 as RFC 3629 defines it." Each has so many bytes at least: 0, or 1 where none is empty.
@@ -31,21 +31,21 @@ SheetsExactly = (n : ℕ) (s : Bytes)
     × (Sheet 1 n s → masterGood n s ≡ true)
 
 -- A part that lies within its sheet, is not empty, and holds a name, in UTF-8.
-pub record PartOf (q : Asked) (n : Named) : Type 0 where
+pub record PartOf (q : Question) (n : Named) : Type 0 where
   pub within : n .part .start + n .part .length ≤ length (sheetOf n (q .shed) (q .master))
   pub some : 0 < n .part .length
   pub in-utf8 : UTF8-octets (nameOf n (q .shed) (q .master))
 
 -- What an answer "done" has: a known action, such a part, and the shed's exactly if that name is there and not empty.
-pub record DoneName (b : Bytes) (q : Asked) : Type 0 where
+pub record DoneName (b : Bytes) (q : Question) : Type 0 where
   pub known : q .action < layout b .actions
   pub part : PartOf q (names b q)
   pub own : 0 < nameSpan (q .shed) (q .action) .length → names b q ≡ named Done 1 (nameSpan (q .shed) (q .action))
   pub other : nameSpan (q .shed) (q .action) .length ≡ 0 → names b q ≡ named Done 0 (nameSpan (q .master) (q .action))
 
 abbrev pub OnDone : Type 0
-OnDone = (b : Bytes) (q : Asked) → nameAnswer b q ≡ Done → DoneName b q
+OnDone = (b : Bytes) (q : Question) → nameAnswer b q ≡ Done → DoneName b q
 
 -- 02, Wish 8: "Refusals, with an empty part of the master"
 abbrev pub OnRefusal : Type 0
-OnRefusal = (b : Bytes) (q : Asked) (r : Refusal) → nameAnswer b q ≡ Refused r → names b q ≡ refusedName (Refused r)
+OnRefusal = (b : Bytes) (q : Question) (r : Refusal) → nameAnswer b q ≡ Refused r → names b q ≡ refusedName (Refused r)

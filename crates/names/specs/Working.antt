@@ -9,7 +9,7 @@ abbrev pub Holds : Bytes → ℕ → Type 0
 Holds s a = 1 ≤ length s → (2 * a + 6 ≤ length s) × (offsetAt s a ≤ offsetAt s (a + 1))
 
 -- two sheets that hold an action's name
-pub record Ready (shed master : Bytes) (a : ℕ) : Type 0 where
+pub record SheetsReady (shed master : Bytes) (a : ℕ) : Type 0 where
   pub own : Holds shed a
   pub other : Holds master a
   pub small : a ≤ 256

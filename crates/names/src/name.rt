@@ -3,7 +3,7 @@ ghost use mathlib.Core.Path.{_≡_};
 ghost use Prim.Native.Nat.{_+_, _≤_};
 ghost use Rattle.meaning.specs.Refusals.{firstGiven};
 ghost use Rattle.names.specs.Naming.{asked, nameTable, refusedName, found, names, nameOf, placeOf};
-ghost use Rattle.names.specs.Working.{Ready};
+ghost use Rattle.names.specs.Working.{SheetsReady};
 use crate::Named;
 use crate::sheet::master_good;
 use crate::sheet::name_span;
@@ -48,7 +48,7 @@ fn refused_name(a: Answer) -> Named
 
 // "the part of the shed's sheet that holds its name, or the part of the master sheet where the shed's name is empty"
 fn find(shed: &[u8], master: &[u8], action: usize) -> Named
-    requires { ⌜ Ready (now shed) (now master) action ⌝ }
+    requires { ⌜ SheetsReady (now shed) (now master) action ⌝ }
     ensures { λ r. ⌜ r ≡ found (asked (now (shed .entry)) (now (master .entry)) action) ⌝ }
     ensures { λ r. ⌜ r .part .start + r .part .length ≤ 65535 ⌝ }
 {

@@ -11,8 +11,8 @@ use Rattle.notation.specs.Words.{word, LF}
 use Rattle.notation.specs.Words as Words
 use Rattle.notation.specs.Conditions as Conditions
 use Rattle.notation.specs.Lines as Lines
-use Rattle.notation.proofs.Scanning.{Start, first, actions, dos, selects, revises, ending, State, lines, rest, number, digits, list, spaced, list-end, spaced-end, end, remark, unit, after, digit, when, from-begin, from-revise, from-select, from-do, line, step}
-use Rattle.notation.proofs.Following.{Stops, From, finished, counted, begun, revisable, nothing, After, Lang}
+use Rattle.notation.specs.Scanning.{Start, first, actions, dos, selects, revises, ending, ScanState, lines, rest, number, digits, list, spaced, list-end, spaced-end, end, remark, unit, after, digit, when, from-begin, from-revise, from-select, from-do, line, step}
+use Rattle.notation.proofs.Following.{Stops, LinesFrom, finished, counted, begun, revisable, nothing, After, Lang}
 
 -- ---- a text for each state
 
@@ -31,7 +31,7 @@ unfoldable pub closed : ℕ → Bytes → Bytes
 closed zero t = 32 ∷ t
 closed (suc n) t = 41 ∷ closed n t
 
-unfoldable pub example : State → Bytes
+unfoldable pub example : ScanState → Bytes
 example (lines s) = ends s
 example (rest w k) = w ++ example k
 example (number k) = 48 ∷ example k
@@ -46,7 +46,7 @@ example (unit n w k) = 84 ∷ closed n (w ++ example k)
 example (after n w k) = closed n (w ++ example k)
 
 -- what is asked of a state for that
-unfoldable pub Alive : State → Type 0
+unfoldable pub Alive : ScanState → Type 0
 Alive (lines s) = Stops []
 Alive (rest w k) = Alive k
 Alive (number k) = Alive k × Stops (example k)
@@ -60,10 +60,10 @@ Alive (remark k) = Alive k
 Alive (unit n w k) = Alive k
 Alive (after n w k) = Alive k
 
-begins-so : (s : Start) → revisable s ≡ true → From s begin-only
+begins-so : (s : Start) → revisable s ≡ true → LinesFrom s begin-only
 begins-so s m = begun {t = []} m (Lines.begins Words.none Words.none Words.none Lines.plain) finished
 
-ends-so : (s : Start) → From s (ends s)
+ends-so : (s : Start) → LinesFrom s (ends s)
 ends-so first = counted {t = begin-only} (Lines.counts (Words.digits 0 (omega arith) Words.none) Lines.plain) (begins-so actions refl)
 ends-so actions = begins-so actions refl
 ends-so dos = begins-so dos refl
@@ -71,12 +71,12 @@ ends-so selects = begins-so selects refl
 ends-so revises = begins-so revises refl
 ends-so ending = finished
 
-closed-so : (n : ℕ) (w : Bytes) (k : State) → Lang k (example k) → After n w (Lang k) (closed n (w ++ example k))
+closed-so : (n : ℕ) (w : Bytes) (k : ScanState) → Lang k (example k) → After n w (Lang k) (closed n (w ++ example k))
 unfolding After closed
 closed-so zero w k l = ([], (32 ∷ (w ++ example k), (refl, (nothing, (example k, (refl, l))))))
 closed-so (suc n) w k l = ([], (41 ∷ closed n (w ++ example k), (refl, (nothing, (closed n (w ++ example k), (refl, closed-so n w k l))))))
 
-pub follows : (q : State) → Alive q → Lang q (example q)
+pub follows : (q : ScanState) → Alive q → Lang q (example q)
 unfolding Lang example Alive
 follows (lines s) a = ends-so s
 follows (rest w k) a = (example k, (refl, follows k a))
@@ -93,11 +93,11 @@ follows (after n w k) a = closed-so n w k (follows k a)
 
 -- ---- and so has the next state
 
-unfoldable pub AliveBy : Option State → Type 0
+unfoldable pub AliveBy : Option ScanState → Type 0
 AliveBy none = Stops []
 AliveBy (some q) = Alive q
 
-alive-when : (b : Bool) (q : State) (o : Option State) → Alive q → AliveBy o → AliveBy (when b q o)
+alive-when : (b : Bool) (q : ScanState) (o : Option ScanState) → Alive q → AliveBy o → AliveBy (when b q o)
 unfolding AliveBy
 alive-when true q o a h = a
 alive-when false q o a h = h
@@ -137,7 +137,7 @@ module _ (x : ℕ) where
   alive-line revises = alive-revise
   alive-line ending = dead
 
-  pub alive-step : (q : State) → Alive q → AliveBy (step q x)
+  pub alive-step : (q : ScanState) → Alive q → AliveBy (step q x)
   unfolding Alive AliveBy example step
   alive-step (lines s) a = alive-when (eqb x LF) _ _ refl (alive-when (eqb x 35) _ _ refl (alive-line s))
   alive-step (rest [] k) a = alive-step k a

@@ -15,7 +15,7 @@ use Rattle.meaning.specs.Card.{Bytes}
 use Rattle.meaning.proofs.Every.{both-true}
 use Rattle.notation.specs.Words.{Digits, Number, Numbers}
 use Rattle.notation.specs.Words as Words
-use Rattle.notation.proofs.Scanning.{State, rest, number, digits, list, spaced, digit, when, step}
+use Rattle.notation.specs.Scanning.{ScanState, rest, number, digits, list, spaced, digit, when, step}
 use Rattle.notation.proofs.Following.{Stops, Lang}
 
 -- ---- bytes
@@ -56,11 +56,11 @@ digit-of x e =
 
 -- ---- what a state asks of the rest
 
-abbrev pub By : Option State → Bytes → Type 0
+abbrev pub By : Option ScanState → Bytes → Type 0
 By none t = ⊥
 By (some q) t = Lang q t
 
-module _ (q : State) (o : Option State) (t : Bytes) where
+module _ (q : ScanState) (o : Option ScanState) (t : Bytes) where
   pub by-yes : {b : Bool} → b ≡ true → Lang q t → By (when b q o) t
   by-yes e h = subst (λ (b : Bool). By (when b q o) t) (sym e) h
 
@@ -72,12 +72,12 @@ module _ (q : State) (o : Option State) (t : Bytes) where
   split false f g h = g refl h
 
 -- what a state that comes last asks, which is shown before
-abbrev pub Derives : State → Type 0
+abbrev pub Derives : ScanState → Type 0
 Derives k = (x : ℕ) (t : Bytes) → Lang k (x ∷ t) ↔ By (step k x) t
 
 -- ---- words
 
-module _ (k : State) where
+module _ (k : ScanState) where
   rest-none : Derives k → Derives (rest [] k)
   unfolding Lang step
   rest-none ih x t = (λ (v, (e, h)). ih x t .0 (subst (Lang k) (sym e) h), λ h. (x ∷ t, (refl, ih x t .1 h)))
@@ -142,7 +142,7 @@ space-stops : {u : Bytes} (y : Bytes) {ns : List ℕ} → Numbers u ns → Stops
 space-stops y Words.none = refl
 space-stops y (Words.more n ns) = refl
 
-module _ (w : Bytes) (k : State) where
+module _ (w : Bytes) (k : ScanState) where
   pub list-more : Derives (list w k)
   unfolding Lang step
   list-more x t = (

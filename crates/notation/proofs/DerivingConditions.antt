@@ -9,7 +9,7 @@ use borrow.Author.Tests.{eqb-true}
 use lib.Dec.{eqb}
 use Rattle.meaning.specs.Card.{Bytes}
 use Rattle.notation.specs.Conditions.{Condition, joined, and, or, Unit, T, B, G, !, brackets, units, AndMore, last-unit, next-unit, OrList, and-lists, OrMore, last-list, next-list}
-use Rattle.notation.proofs.Scanning.{State, rest, number, unit, after, digit, when, step}
+use Rattle.notation.specs.Scanning.{ScanState, rest, number, unit, after, digit, when, step}
 use Rattle.notation.proofs.Following.{Stops, More, nothing, and-unit, or-unit, Behind, After, Lang}
 use Rattle.notation.proofs.Deriving.{same-head, same-tail, eqb-same, By, by-yes, by-no, split, Derives}
 
@@ -42,7 +42,7 @@ split-list (and-lists {v = v} (units {u = x} {v = y} {c = c} a r) m) =
     record { unit-bytes = x; more-bytes = y ++ v; condition = c; whole = append-assoc x y v; begins = a; goes-on = more-append (and-more r) (or-more m) }
 
 -- and back: the rest of an and-list, and of the or-list
-record Parts (m : Bytes) (c : Condition) : Type 0 where
+record UnitParts (m : Bytes) (c : Condition) : Type 0 where
   ands : Bytes
   ors : Bytes
   left : Condition
@@ -50,7 +50,7 @@ record Parts (m : Bytes) (c : Condition) : Type 0 where
   and-part : AndMore ands c left
   or-part : (l : Condition) → (e : Condition) × OrMore ors l e
 
-parts : {m : Bytes} → More m → (c : Condition) → Parts m c
+parts : {m : Bytes} → More m → (c : Condition) → UnitParts m c
 parts nothing c = record { ands = []; ors = []; left = c; whole = refl; and-part = last-unit; or-part = λ l. (l, last-list) }
 parts (and-unit {u = u} {c = d} x r) c =
     let p = parts r (joined and c d) in
@@ -96,7 +96,7 @@ module _ {Z : Bytes → Type 0} (tail : Tail Z) where
       go (and-unit x r) e = subst Stops (sym e) refl
       go (or-unit x r) e = subst Stops (sym e) refl
 
-  module _ (q : State) (p : Option State) (x : ℕ) (t : Bytes)
+  module _ (q : ScanState) (p : Option ScanState) (x : ℕ) (t : Bytes)
       (begun : Lang q t ↔ ((u : Bytes) × ((v : Bytes) × ((c : Condition) × ((t ≡ u ++ v) × (Unit u c × Behind Z v))))))
       (ended : Z (x ∷ t) ↔ By p t) where
     behind-more : Behind Z (x ∷ t) ↔ By (when (eqb x 38) q (when (eqb x 124) q p)) t
@@ -124,7 +124,7 @@ module _ {Z : Bytes → Type 0} (tail : Tail Z) where
             let (u, (y, (c, (e, (h, (v, (z, (e2, (r, i))))))))) = begun .0 l in
             (124 ∷ (u ++ v), (z, ((λ j. eqb-true x 124 f j ∷ (e ∙ ap (λ s. u ++ s) e2 ∙ sym (append-assoc u v z)) j), (or-unit h r, i))))
 
-module _ (w : Bytes) (k : State) where
+module _ (w : Bytes) (k : ScanState) where
   leaves : Tail (λ z. (v : Bytes) × ((z ≡ 32 ∷ (w ++ v)) × Lang k v))
   leaves = record { byte = 32; plain = (refl, refl, refl); begins = λ z (v, (e, l)). (w ++ v, e) }
 
@@ -151,21 +151,21 @@ module _ (w : Bytes) (k : State) where
 
 -- ---- a unit
 
-module _ (w : Bytes) (k : State) where
+module _ (w : Bytes) (k : ScanState) where
   pub unit-more : (n : ℕ) → Derives (unit n w k)
   unfolding Lang After step
   unit-more n x t = (λ (u, (v, (c, (e, (h, a))))). go v h e a, split (after n w k) o1 t (eqb x 84) is-T (λ f. split (number (after n w k)) o2 t (eqb x 66) is-B (λ f. split (number (after n w k)) o3 t (eqb x 71) is-G (λ f. split (unit n w k) o4 t (eqb x 33) is-not (λ f. split (unit (suc n) w k) none t (eqb x 40) is-open (λ f h. absurd h))))))
     where
-      o4 : Option State
+      o4 : Option ScanState
       o4 = when (eqb x 40) (unit (suc n) w k) none
 
-      o3 : Option State
+      o3 : Option ScanState
       o3 = when (eqb x 33) (unit n w k) o4
 
-      o2 : Option State
+      o2 : Option ScanState
       o2 = when (eqb x 71) (number (after n w k)) o3
 
-      o1 : Option State
+      o1 : Option ScanState
       o1 = when (eqb x 66) (number (after n w k)) o2
 
       go : {u : Bytes} {c : Condition} (v : Bytes) → Unit u c → x ∷ t ≡ u ++ v → After n w (Lang k) v → By (when (eqb x 84) (after n w k) o1) t

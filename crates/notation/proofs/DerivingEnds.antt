@@ -12,11 +12,11 @@ use Rattle.notation.specs.Words.{word, LF, Numbers}
 use Rattle.notation.specs.Words as Words
 use Rattle.notation.specs.Lines.{Remark, End}
 use Rattle.notation.specs.Lines as Lines
-use Rattle.notation.proofs.Scanning.{State, rest, digits, list-end, spaced-end, end, remark, digit, when, step}
+use Rattle.notation.specs.Scanning.{ScanState, rest, digits, list-end, spaced-end, end, remark, digit, when, step}
 use Rattle.notation.proofs.Following.{Stops, Lang}
 use Rattle.notation.proofs.Deriving.{same-head, same-tail, eqb-same, is-digit, digit-of, rebased, By, by-yes, by-no, split, Derives, derive-rest}
 
-module _ (k : State) where
+module _ (k : ScanState) where
   pub remark-more : Derives (remark k)
   unfolding Lang step
   remark-more x t = (

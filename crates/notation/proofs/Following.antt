@@ -8,7 +8,7 @@ use Rattle.meaning.specs.Card.{Bytes}
 use Rattle.notation.specs.Words.{LF, Digits, Number, Numbers}
 use Rattle.notation.specs.Conditions.{Condition, Unit}
 use Rattle.notation.specs.Lines.{Do, Select, Revise, Begin, Remark, Note, End, AtomsLine, ActionLine, DoLine, SelectLine, ReviseLine, BeginLine}
-use Rattle.notation.proofs.Scanning.{Start, first, actions, dos, selects, revises, ending, State, lines, rest, number, digits, list, spaced, list-end, spaced-end, end, remark, unit, after, digit}
+use Rattle.notation.specs.Scanning.{Start, first, actions, dos, selects, revises, ending, ScanState, lines, rest, number, digits, list, spaced, list-end, spaced-end, end, remark, unit, after, digit}
 
 -- a text that does not begin with a digit
 abbrev pub goes-on : Bytes → Bool
@@ -51,15 +51,15 @@ revisable selects = true
 revisable revises = true
 revisable ending = false
 
-pub data From : Start → Bytes → Type 0 where
-  finished : From ending []
-  noted : {s : Start} {u t : Bytes} → Note u → From s t → From s (u ++ t)
-  counted : {u t : Bytes} {n : ℕ} → AtomsLine u n → From actions t → From first (u ++ t)
-  weighed : {u t : Bytes} {n : ℕ} → ActionLine u n → From actions t → From actions (u ++ t)
-  done : {s : Start} {u t : Bytes} {d : Do} → doable s ≡ true → DoLine u d → From dos t → From s (u ++ t)
-  selected : {s : Start} {u t : Bytes} {d : Select} → selectable s ≡ true → SelectLine u d → From selects t → From s (u ++ t)
-  revised : {s : Start} {u t : Bytes} {d : Revise} → revisable s ≡ true → ReviseLine u d → From revises t → From s (u ++ t)
-  begun : {s : Start} {u t : Bytes} {d : Begin} → revisable s ≡ true → BeginLine u d → From ending t → From s (u ++ t)
+pub data LinesFrom : Start → Bytes → Type 0 where
+  finished : LinesFrom ending []
+  noted : {s : Start} {u t : Bytes} → Note u → LinesFrom s t → LinesFrom s (u ++ t)
+  counted : {u t : Bytes} {n : ℕ} → AtomsLine u n → LinesFrom actions t → LinesFrom first (u ++ t)
+  weighed : {u t : Bytes} {n : ℕ} → ActionLine u n → LinesFrom actions t → LinesFrom actions (u ++ t)
+  done : {s : Start} {u t : Bytes} {d : Do} → doable s ≡ true → DoLine u d → LinesFrom dos t → LinesFrom s (u ++ t)
+  selected : {s : Start} {u t : Bytes} {d : Select} → selectable s ≡ true → SelectLine u d → LinesFrom selects t → LinesFrom s (u ++ t)
+  revised : {s : Start} {u t : Bytes} {d : Revise} → revisable s ≡ true → ReviseLine u d → LinesFrom revises t → LinesFrom s (u ++ t)
+  begun : {s : Start} {u t : Bytes} {d : Begin} → revisable s ≡ true → BeginLine u d → LinesFrom ending t → LinesFrom s (u ++ t)
 
 -- ---- states
 
@@ -72,8 +72,8 @@ unfoldable pub After : ℕ → Bytes → (Bytes → Type 0) → Bytes → Type 0
 After zero w K t = Behind (λ z. (v : Bytes) × ((z ≡ code " " ∷ (w ++ v)) × K v)) t
 After (suc n) w K t = Behind (λ z. (v : Bytes) × ((z ≡ code ")" ∷ v) × After n w K v)) t
 
-unfoldable pub Lang : State → Bytes → Type 0
-Lang (lines s) t = From s t
+unfoldable pub Lang : ScanState → Bytes → Type 0
+Lang (lines s) t = LinesFrom s t
 Lang (rest w k) t = (v : Bytes) × ((t ≡ w ++ v) × Lang k v)
 Lang (number k) t = (u : Bytes) × ((v : Bytes) × ((n : ℕ) × ((t ≡ u ++ v) × (Number u n × (Stops v × Lang k v)))))
 Lang (digits k) t = (u : Bytes) × ((v : Bytes) × ((n : ℕ) × ((t ≡ u ++ v) × (Digits u 0 n × (Stops v × Lang k v)))))

@@ -15,18 +15,14 @@ use Rattle.meaning.specs.declared.Answer.the-variants.{Done, Refused}
 use Rattle.meaning.specs.Card.{Bytes}
 use Rattle.meaning.specs.Refusals.{numberOf, answerNumber, carried, Row, firstGiven, andThen, all, cardTable, cardAnswer}
 use Rattle.meaning.specs.Calls.{over, roomFor}
-use Rattle.meaning.proofs.Tables.{done≢refused}
+use Rattle.meaning.proofs.Tables.{done≢refused, refused-inj}
 use Rattle.notation.specs.Lines.{Said, Text}
 use Rattle.notation.specs.Built.{built}
 use Rattle.notation.specs.Reading.{Derived, Begins, WrongAt, shallow, numbersFit, entriesFit, textTable, saidAnswer, Reads, no-text, refused, done}
 use Rattle.notation.specs.Theorems.{WithinLimits, ReadLaw, ReadDetermined}
-use Rattle.notation.proofs.Scanning.{lines, first}
-use Rattle.notation.proofs.Scan.{judge}
+use Rattle.notation.specs.Scanning.{lines, first, judge}
 use Rattle.notation.proofs.Texts.{Scanned, scanned}
 use Rattle.notation.proofs.ReadingOnce.{unambiguous}
-
-refused-inj : {r q : Refusal} → Refused r ≡ Refused q → r ≡ q
-refused-inj e = cc
 
 -- ---- the refusals of a card are 1 to 9
 
@@ -47,30 +43,30 @@ card-below b q e = rows-below b cardTable q refl e
 
 -- ---- what a text within the grammar is answered, by cases
 
-data Judged (s : Said) (out : Bytes) : Answer → Type 0 where
-  is-nested : shallow s ≡ false → Judged s out (Refused Refusal.Nested)
-  is-large : shallow s ≡ true → (numbersFit s && entriesFit s) ≡ false → Judged s out (Refused Refusal.Large)
+data SaidJudged (s : Said) (out : Bytes) : Answer → Type 0 where
+  is-nested : shallow s ≡ false → SaidJudged s out (Refused Refusal.Nested)
+  is-large : shallow s ≡ true → (numbersFit s && entriesFit s) ≡ false → SaidJudged s out (Refused Refusal.Large)
   of-card : {q : Refusal} → shallow s ≡ true → (numbersFit s && entriesFit s) ≡ true → cardAnswer (built s) ≡ Refused q → numberOf q ≤ 9
-      → Judged s out (Refused q)
+      → SaidJudged s out (Refused q)
   no-room : shallow s ≡ true → (numbersFit s && entriesFit s) ≡ true → cardAnswer (built s) ≡ Done → length out < length (built s)
-      → Judged s out (Refused Refusal.NoRoom)
+      → SaidJudged s out (Refused Refusal.NoRoom)
   all-good : shallow s ≡ true → (numbersFit s && entriesFit s) ≡ true → cardAnswer (built s) ≡ Done → length (built s) ≤ length out
-      → Judged s out Done
+      → SaidJudged s out Done
 
 -- the same by what each row says
 judge-by : (s : Said) (out : Bytes) (n f : Bool) (c : Answer) (r : Bool) → shallow s ≡ n → (numbersFit s && entriesFit s) ≡ f → cardAnswer (built s) ≡ c
     → leb (length (built s)) (length out) ≡ r
-    → Judged s out (elim (not n) [ true ↦ Refused Refusal.Nested | false ↦ elim (not f) [ true ↦ Refused Refusal.Large | false ↦ andThen c (elim r [ true ↦ Done | false ↦ Refused Refusal.NoRoom ]) ] ])
+    → SaidJudged s out (elim (not n) [ true ↦ Refused Refusal.Nested | false ↦ elim (not f) [ true ↦ Refused Refusal.Large | false ↦ andThen c (elim r [ true ↦ Done | false ↦ Refused Refusal.NoRoom ]) ] ])
 judge-by s out false f c r en ef ec er = is-nested en
 judge-by s out true false c r en ef ec er = is-large en ef
 judge-by s out true true (Refused q) r en ef ec er = of-card en ef ec (card-below (built s) q ec)
 judge-by s out true true Done true en ef ec er = all-good en ef ec (leb-true _ _ er)
 judge-by s out true true Done false en ef ec er = no-room en ef ec (leb-false _ _ er)
 
-judged-said : (s : Said) (out : Bytes) → Judged s out (saidAnswer s out)
+judged-said : (s : Said) (out : Bytes) → SaidJudged s out (saidAnswer s out)
 unfolding saidAnswer textTable firstGiven
 judged-said s out =
-    subst (Judged s out) (in-order (not (shallow s)) (not (numbersFit s && entriesFit s)))
+    subst (SaidJudged s out) (in-order (not (shallow s)) (not (numbersFit s && entriesFit s)))
     (judge-by s out (shallow s) (numbersFit s && entriesFit s) (cardAnswer (built s)) (leb (length (built s)) (length out)) refl refl refl refl)
   where
     in-order : (n f : Bool)
@@ -87,14 +83,14 @@ same-number : {a b : Answer} → a ≡ b → answerNumber a ≡ answerNumber b
 same-number e = ap answerNumber e
 
 module _ {s : Said} {out : Bytes} where
-  when-nested : {a : Answer} → Judged s out a → shallow s ≡ false → a ≡ Refused Refusal.Nested
+  when-nested : {a : Answer} → SaidJudged s out a → shallow s ≡ false → a ≡ Refused Refusal.Nested
   when-nested (is-nested e) f = refl
   when-nested (is-large e g) f = absurd (false≢true (sym f ∙ e))
   when-nested (of-card e g h i) f = absurd (false≢true (sym f ∙ e))
   when-nested (no-room e g h i) f = absurd (false≢true (sym f ∙ e))
   when-nested (all-good e g h i) f = absurd (false≢true (sym f ∙ e))
 
-  nested-when : {a : Answer} → Judged s out a → a ≡ Refused Refusal.Nested → shallow s ≡ false
+  nested-when : {a : Answer} → SaidJudged s out a → a ≡ Refused Refusal.Nested → shallow s ≡ false
   unfolding answerNumber numberOf
   nested-when (is-nested e) f = e
   nested-when (is-large e g) f = let z : _≡_ {A = ℕ} 25 18 = same-number f in absurd (omega arith)
@@ -102,14 +98,14 @@ module _ {s : Said} {out : Bytes} where
   nested-when (no-room e g h i) f = let z : _≡_ {A = ℕ} 12 18 = same-number f in absurd (omega arith)
   nested-when (all-good e g h i) f = absurd (done≢refused f)
 
-  when-large : {a : Answer} → Judged s out a → shallow s ≡ true → (numbersFit s && entriesFit s) ≡ false → a ≡ Refused Refusal.Large
+  when-large : {a : Answer} → SaidJudged s out a → shallow s ≡ true → (numbersFit s && entriesFit s) ≡ false → a ≡ Refused Refusal.Large
   when-large (is-nested e) f k = absurd (false≢true (sym e ∙ f))
   when-large (is-large e g) f k = refl
   when-large (of-card e g h i) f k = absurd (false≢true (sym k ∙ g))
   when-large (no-room e g h i) f k = absurd (false≢true (sym k ∙ g))
   when-large (all-good e g h i) f k = absurd (false≢true (sym k ∙ g))
 
-  large-when : {a : Answer} → Judged s out a → a ≡ Refused Refusal.Large → (shallow s ≡ true) × ((numbersFit s && entriesFit s) ≡ false)
+  large-when : {a : Answer} → SaidJudged s out a → a ≡ Refused Refusal.Large → (shallow s ≡ true) × ((numbersFit s && entriesFit s) ≡ false)
   unfolding answerNumber numberOf
   large-when (is-nested e) f = let z : _≡_ {A = ℕ} 18 25 = same-number f in absurd (omega arith)
   large-when (is-large e g) f = (e, g)
@@ -118,7 +114,7 @@ module _ {s : Said} {out : Bytes} where
   large-when (all-good e g h i) f = absurd (done≢refused f)
 
   -- within the limits the card answers
-  when-within : {a : Answer} → Judged s out a → shallow s ≡ true → (numbersFit s && entriesFit s) ≡ true
+  when-within : {a : Answer} → SaidJudged s out a → shallow s ≡ true → (numbersFit s && entriesFit s) ≡ true
       → a ≡ andThen (cardAnswer (built s)) (roomFor (built s) out)
   when-within (is-nested e) f k = absurd (false≢true (sym e ∙ f))
   when-within (is-large e g) f k = absurd (false≢true (sym g ∙ k))
@@ -132,7 +128,7 @@ module _ {s : Said} {out : Bytes} where
       enough : leb (length (built s)) (length out) ≡ true → roomFor (built s) out ≡ Done
       enough e = rw (e, roomFor)
 
-  card-when : {a : Answer} → Judged s out a → (q : Refusal) → numberOf q ≤ 9 → a ≡ Refused q
+  card-when : {a : Answer} → SaidJudged s out a → (q : Refusal) → numberOf q ≤ 9 → a ≡ Refused q
       → (shallow s ≡ true) × ((numbersFit s && entriesFit s) ≡ true) × (cardAnswer (built s) ≡ Refused q)
   unfolding answerNumber numberOf
   card-when (is-nested e) q l f = let z : 18 ≡ numberOf q = same-number f in absurd (omega arith)
@@ -141,7 +137,7 @@ module _ {s : Said} {out : Bytes} where
   card-when (no-room e g h i) q l f = let z : 12 ≡ numberOf q = same-number f in absurd (omega arith)
   card-when (all-good e g h i) q l f = absurd (done≢refused f)
 
-  room-when : {a : Answer} → Judged s out a → a ≡ Refused Refusal.NoRoom
+  room-when : {a : Answer} → SaidJudged s out a → a ≡ Refused Refusal.NoRoom
       → (shallow s ≡ true) × ((numbersFit s && entriesFit s) ≡ true) × (cardAnswer (built s) ≡ Done) × (length out < length (built s))
   unfolding answerNumber numberOf
   room-when (is-nested e) f = let z : _≡_ {A = ℕ} 18 12 = same-number f in absurd (omega arith)
@@ -150,7 +146,7 @@ module _ {s : Said} {out : Bytes} where
   room-when (no-room e g h i) f = (e, g, h, i)
   room-when (all-good e g h i) f = absurd (done≢refused f)
 
-  done-when : {a : Answer} → Judged s out a → a ≡ Done
+  done-when : {a : Answer} → SaidJudged s out a → a ≡ Done
       → (shallow s ≡ true) × ((numbersFit s && entriesFit s) ≡ true) × (cardAnswer (built s) ≡ Done) × (length (built s) ≤ length out)
   done-when (is-nested e) f = absurd (done≢refused (sym f))
   done-when (is-large e g) f = absurd (done≢refused (sym f))
@@ -158,7 +154,7 @@ module _ {s : Said} {out : Bytes} where
   done-when (no-room e g h i) f = absurd (done≢refused (sym f))
   done-when (all-good e g h i) f = (e, g, h, i)
 
-  never-text : {a : Answer} → Judged s out a → (p : ℕ) → a ≡ Refused (Refusal.Text p) → ⊥
+  never-text : {a : Answer} → SaidJudged s out a → (p : ℕ) → a ≡ Refused (Refusal.Text p) → ⊥
   unfolding answerNumber numberOf
   never-text (is-nested e) p f = let z : _≡_ {A = ℕ} 18 17 = same-number f in omega arith
   never-text (is-large e g) p f = let z : _≡_ {A = ℕ} 25 17 = same-number f in omega arith
@@ -169,20 +165,20 @@ module _ {s : Said} {out : Bytes} where
 -- ---- what an answer is of
 
 -- no text, with its place; or what a text says
-data Found (t out : Bytes) (a : Answer) : Type 0 where
-  wrong-at : (p : ℕ) → a ≡ Refused (Refusal.Text p) → WrongAt t p → Found t out a
-  says : (s : Said) → Text t s → Judged s out a → Found t out a
+data TextFound (t out : Bytes) (a : Answer) : Type 0 where
+  wrong-at : (p : ℕ) → a ≡ Refused (Refusal.Text p) → WrongAt t p → TextFound t out a
+  says : (s : Said) → Text t s → SaidJudged s out a → TextFound t out a
 
-found : {t out left : Bytes} {a : Answer} {n : ℕ} → Reads t out a n left → Found t out a
+found : {t out left : Bytes} {a : Answer} {n : ℕ} → Reads t out a n left → TextFound t out a
 found (no-text {p = p} w) = wrong-at p refl w
-found {out = out} (refused {s = s} x e) = says s x (subst (Judged s out) e (judged-said s out))
-found {out = out} (done {s = s} x e) = says s x (subst (Judged s out) e (judged-said s out))
+found {out = out} (refused {s = s} x e) = says s x (subst (SaidJudged s out) e (judged-said s out))
+found {out = out} (done {s = s} x e) = says s x (subst (SaidJudged s out) e (judged-said s out))
 
 -- the answer to a text is that of the one thing that it says
-answer-of : {t out left : Bytes} {a : Answer} {n : ℕ} → Reads t out a n left → (s : Said) → Text t s → Judged s out a
+answer-of : {t out left : Bytes} {a : Answer} {n : ℕ} → Reads t out a n left → (s : Said) → Text t s → SaidJudged s out a
 answer-of (no-text w) s x = absurd (w .not-derived (s, x))
-answer-of {t} {out} {a = a} (refused {s = s′} x′ e) s x = subst (λ z. Judged z out a) (unambiguous .text t s′ s x′ x) (subst (Judged s′ out) e (judged-said s′ out))
-answer-of {t} {out} {a = a} (done {s = s′} x′ e) s x = subst (λ z. Judged z out a) (unambiguous .text t s′ s x′ x) (subst (Judged s′ out) e (judged-said s′ out))
+answer-of {t} {out} {a = a} (refused {s = s′} x′ e) s x = subst (λ z. SaidJudged z out a) (unambiguous .text t s′ s x′ x) (subst (SaidJudged s′ out) e (judged-said s′ out))
+answer-of {t} {out} {a = a} (done {s = s′} x′ e) s x = subst (λ z. SaidJudged z out a) (unambiguous .text t s′ s x′ x) (subst (SaidJudged s′ out) e (judged-said s′ out))
 
 -- the same as an equation
 said-by-answer : {t out left : Bytes} {a : Answer} {n : ℕ} → Reads t out a n left → (s : Said) → Text t s → saidAnswer s out ≡ a
@@ -228,43 +224,43 @@ short : (s : Said) (out : Bytes) → cardAnswer (built s) ≡ Done → length ou
 short s out c h = let e = lt-leb (length (built s)) (length out) h in rw (c, roomFor, e)
 
 module _ {t out : Bytes} {a : Answer} where
-  done-to : Found t out a → a ≡ Done → (s : Said) × (WithinLimits t s × ((cardAnswer (built s) ≡ Done) × (length (built s) ≤ length out)))
+  done-to : TextFound t out a → a ≡ Done → (s : Said) × (WithinLimits t s × ((cardAnswer (built s) ≡ Done) × (length (built s) ≤ length out)))
   done-to (wrong-at p f w) e = absurd (done≢refused (sym e ∙ f))
   done-to (says s x j) e = let d = done-when j e in (s, (within x (d .0) (d .1), (d .2, d .3)))
 
-  text-not : Found t out a → (p : ℕ) → a ≡ Refused (Refusal.Text p) → Derived t → ⊥
+  text-not : TextFound t out a → (p : ℕ) → a ≡ Refused (Refusal.Text p) → Derived t → ⊥
   text-not (wrong-at p f w) q e d = w .not-derived d
   text-not (says s x j) q e d = never-text j q e
 
-  text-to : Found t out a → (Derived t → ⊥) → (p : ℕ) × (a ≡ Refused (Refusal.Text p))
+  text-to : TextFound t out a → (Derived t → ⊥) → (p : ℕ) × (a ≡ Refused (Refusal.Text p))
   text-to (wrong-at p f w) d = (p, f)
   text-to (says s x j) d = absurd (d (s, x))
 
-  place-to : Found t out a → (p : ℕ) → a ≡ Refused (Refusal.Text p) → WrongAt t p
+  place-to : TextFound t out a → (p : ℕ) → a ≡ Refused (Refusal.Text p) → WrongAt t p
   unfolding carried
   place-to (wrong-at q f w) p e = subst (WrongAt t) (ap carried (refused-inj (sym f ∙ e))) w
   place-to (says s x j) p e = absurd (never-text j p e)
 
-  place-from : Found t out a → (p : ℕ) → WrongAt t p → a ≡ Refused (Refusal.Text p)
+  place-from : TextFound t out a → (p : ℕ) → WrongAt t p → a ≡ Refused (Refusal.Text p)
   place-from (wrong-at q f w) p v = f ∙ ap (λ z. Refused (Refusal.Text z)) (same-place w v)
   place-from (says s x j) p v = absurd (v .not-derived (s, x))
 
-  nested-to : Found t out a → a ≡ Refused Refusal.Nested → (s : Said) × (Text t s × (shallow s ≡ false))
+  nested-to : TextFound t out a → a ≡ Refused Refusal.Nested → (s : Said) × (Text t s × (shallow s ≡ false))
   unfolding answerNumber numberOf
   nested-to (wrong-at p f w) e = let z : _≡_ {A = ℕ} 17 18 = same-number (sym f ∙ e) in absurd (omega arith)
   nested-to (says s x j) e = (s, (x, nested-when j e))
 
-  large-to : Found t out a → a ≡ Refused Refusal.Large → (s : Said) × (Text t s × ((shallow s ≡ true) × ((numbersFit s && entriesFit s) ≡ false)))
+  large-to : TextFound t out a → a ≡ Refused Refusal.Large → (s : Said) × (Text t s × ((shallow s ≡ true) × ((numbersFit s && entriesFit s) ≡ false)))
   unfolding answerNumber numberOf
   large-to (wrong-at p f w) e = let z : _≡_ {A = ℕ} 17 25 = same-number (sym f ∙ e) in absurd (omega arith)
   large-to (says s x j) e = (s, (x, large-when j e))
 
-  card-to : Found t out a → (q : Refusal) → numberOf q ≤ 9 → a ≡ Refused q → (s : Said) × (WithinLimits t s × (cardAnswer (built s) ≡ Refused q))
+  card-to : TextFound t out a → (q : Refusal) → numberOf q ≤ 9 → a ≡ Refused q → (s : Said) × (WithinLimits t s × (cardAnswer (built s) ≡ Refused q))
   unfolding answerNumber numberOf
   card-to (wrong-at p f w) q h e = let z : 17 ≡ numberOf q = same-number (sym f ∙ e) in absurd (omega arith)
   card-to (says s x j) q h e = let d = card-when j q h e in (s, (within x (d .0) (d .1), d .2))
 
-  room-to : Found t out a → a ≡ Refused Refusal.NoRoom → (s : Said) × (WithinLimits t s × ((cardAnswer (built s) ≡ Done) × (length out < length (built s))))
+  room-to : TextFound t out a → a ≡ Refused Refusal.NoRoom → (s : Said) × (WithinLimits t s × ((cardAnswer (built s) ≡ Done) × (length out < length (built s))))
   unfolding answerNumber numberOf
   room-to (wrong-at p f w) e = let z : _≡_ {A = ℕ} 17 12 = same-number (sym f ∙ e) in absurd (omega arith)
   room-to (says s x j) e = let d = room-when j e in (s, (within x (d .0) (d .1), (d .2, d .3)))

@@ -1,4 +1,3 @@
-pub mod Scanning
 pub mod Following
 pub mod Deriving
 pub mod DerivingEnds
@@ -7,8 +6,6 @@ pub mod DerivingLines
 pub mod Alive
 pub mod Scan
 pub mod Texts
-pub mod Values
-pub mod Making
 pub mod ReadingTests
 pub mod ReadingNumbers
 pub mod ReadingLists

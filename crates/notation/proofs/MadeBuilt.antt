@@ -7,6 +7,7 @@ use Prim.Native.Nat.{ℕ, _+_, _-_, _*_, _/_, _≤_}
 use native.Mathlib.Omega.{arith}
 use borrow.Author.Tests.{leb-true}
 use lib.ListN.{length, length-append}
+use Rattle.paper.specs.Next.{if}
 use Rattle.paper.proofs.Relation.{both}
 use Rattle.meaning.specs.Card.{Bytes}
 use Rattle.meaning.specs.Place.{twoBytes}
@@ -15,8 +16,7 @@ use Rattle.notation.specs.Conditions.{treesOf}
 use Rattle.notation.specs.Lines.{Said, conditions}
 use Rattle.notation.specs.Built.{sizes, allNodes, setOf, pool, specifications, selections, revisions, built}
 use Rattle.notation.specs.Reading.{numbersFit, entriesFit}
-use Rattle.notation.proofs.Values.{if}
-use Rattle.notation.proofs.Making.{Made, nothingMade, bind, setFits, itemsIn, itemsSaid, headerOf, sectionsOf, cardOf}
+use Rattle.notation.specs.Making.{Sections, nothingMade, bind, setFits, itemsIn, itemsSaid, headerOf, sectionsOf, cardOf}
 use Rattle.notation.proofs.MadeExactly.{Exactly, holds, fails, exactly-equal}
 use Rattle.notation.proofs.MadeNodes.{all-nodes-counted, all-nodes-length}
 use Rattle.notation.proofs.MadeSelects.{selectPlans}
@@ -35,7 +35,7 @@ unfolding headerOf assembled
 assembled-as atoms weights nodes specifications selections revisions pool beliefs goals start len = rw (append-assoc beliefs goals)
 
 -- what keeps to its room
-pub record Kept (m : Made) : Type 0 where
+pub record SectionsKept (m : Sections) : Type 0 where
   pub atoms : m .atoms ≤ 65535
   pub weights : length (m .weights) ≤ 512
   pub nodes : length (m .nodes) ≤ 1024
@@ -51,7 +51,7 @@ pub header-length : (atoms actions nodes specifications selections revisions poo
 unfolding headerOf flatten
 header-length atoms actions nodes specifications selections revisions pool start len = refl
 
-pub card-length : (m : Made) → length (m .sets) ≡ 32
+pub card-length : (m : Sections) → length (m .sets) ≡ 32
     → length (cardOf m) ≡ 64 + length (m .weights) + length (m .nodes) + length (m .specifications) + length (m .selections)
     + length (m .revisions) + length (m .pool)
 unfolding cardOf sectionsOf
@@ -112,7 +112,7 @@ module _ (s : Said) (n : numbersFit s ≡ true) (e : entriesFit s ≡ true) wher
 
   -- ---- its room
 
-  pub made-kept : Kept (madeSaid s)
+  pub made-kept : SectionsKept (madeSaid s)
   unfolding madeSaid
   made-kept =
       let b : (setFits (s .begin .beliefs) ≡ true) × (setFits (s .begin .goals) ≡ true) =

@@ -14,13 +14,13 @@ use Rattle.meaning.specs.declared.Answer.the-variants.{Refused}
 use Rattle.meaning.specs.Card.{Bytes, layout}
 use Rattle.meaning.specs.Refusals.{numberOf, Row, firstGiven, all, cardLongEnough, cardMarkGood, offsetsGood, cardTable, cardAnswer}
 use Rattle.meaning.specs.Theorems.{rowNumbers}
-use Rattle.meaning.proofs.Tables.{done≢refused, given, not-given}
+use Rattle.meaning.proofs.Tables.{done≢refused, refused-inj, given, not-given}
 use Rattle.notation.specs.Conditions.{treesOf}
 use Rattle.notation.specs.Lines.{Said, conditions}
 use Rattle.notation.specs.Built.{sizes, pool, built}
 use Rattle.notation.specs.Reading.{numbersFit, entriesFit}
 use Rattle.notation.specs.Theorems.{rowsOfText, BuiltLaws, BuiltLaw, TextRowsLaw}
-use Rattle.notation.proofs.Making.{headerOf, sectionsOf}
+use Rattle.notation.specs.Making.{headerOf, sectionsOf}
 use Rattle.notation.proofs.MadeLists.{six-true}
 use Rattle.notation.proofs.MadeBuilt.{built-length, built-room, built-header}
 use Rattle.notation.proofs.MadeWhole.{madeSaid}
@@ -118,9 +118,6 @@ third-alone p q r t rows b e f g =
     by-third : (v : Bool) → r .when b ≡ v → firstGiven (r ∷ t ∷ rows) b ≡ firstGiven (r ∷ rows) b
     by-third true h = given r (t ∷ rows) b h ∙ sym (given r rows b h)
     by-third false h = not-given r (t ∷ rows) b h ∙ not-given t rows b g ∙ sym (not-given r rows b h)
-
-refused-inj : {r q : Refusal} → Refused r ≡ Refused q → r ≡ q
-refused-inj e = cc
 
 -- a number that no row has is not answered
 not-among : (rows : List (Row Bytes)) (b : Bytes) (r : Refusal) → all (λ n. not (eqb n (numberOf r))) (rowNumbers rows b) ≡ true

@@ -6,6 +6,7 @@ use native.Mathlib.Omega.{arith}
 use lib.ListN.{length, getD, length-append}
 use lib.Seq.{getD-at}
 use Rattle.meaning.specs.declared.Node.{Node}
+use Rattle.meaning.specs.Kinds.{nodeKind}
 use Rattle.meaning.specs.Card.{Bytes, passOn, pass}
 use Rattle.notation.specs.Conditions.{Tree, true, believes, goal, not, and, or}
 use Rattle.notation.specs.Built.{size, sizes, own, node, nodesFrom, allNodes}
@@ -59,13 +60,13 @@ abbrev pub nodeOf : Bytes → Node
 nodeOf e = record { kind = getD e 0 0; a = getD e 1 0; b = getD e 2 0; zero = getD e 3 0 }
 
 abbrev pub makeTree : ℕ → Node → (ℕ → Tree) → Tree
-makeTree i n tree = treeOf (n .kind) (n .a) (n .b) tree
+makeTree i n tree = treeOf (nodeKind (n .kind)) (n .a) (n .b) tree
 
 abbrev passTrees : List Tree → List Bytes → List Tree
 passTrees made es = passOn makeTree true made (map nodeOf es)
 
 -- an operator's node, behind two trees
-pass-operator : (kind : ℕ) (op : Tree → Tree → Tree) → ((a b : ℕ) (tree : ℕ → Tree) → treeOf kind a b tree ≡ op (tree a) (tree b))
+pass-operator : (kind : ℕ) (op : Tree → Tree → Tree) → ((a b : ℕ) (tree : ℕ → Tree) → treeOf (nodeKind kind) a b tree ≡ op (tree a) (tree b))
     → (l r : Tree) (k : ℕ) (made : List Tree) (rest : List Bytes) → length made ≡ k
     → ((es : List Bytes) → passTrees made (nodesFrom k l ++ es) ≡ passTrees (made ++ completed l) es)
     → ((es : List Bytes) → passTrees (made ++ completed l) (nodesFrom (k + size l) r ++ es) ≡ passTrees ((made ++ completed l) ++ completed r) es)
@@ -78,7 +79,7 @@ pass-operator kind op is l r k made rest h p q =
     let h₁ : length m₁ ≡ k + size l = length-append made (completed l) ∙ omega (arith, completed-counted l) in
     let one : getD m₂ (own k l) true ≡ l = own-tree made l (completed r) k h in
     let two : getD m₂ (own (k + size l) r) true ≡ r = own-last m₁ r (k + size l) h₁ in
-    let last : treeOf kind (own k l) (own (k + size l) r) (λ j. getD m₂ j true) ≡ op l r =
+    let last : treeOf (nodeKind kind) (own k l) (own (k + size l) r) (λ j. getD m₂ j true) ≡ op l r =
     is (own k l) (own (k + size l) r) (λ j. getD m₂ j true) ∙ ap₂ op one two in
     ap (passTrees made) (append-assoc (nodesFrom k l) (nodesFrom (k + size l) r ++ (e ∷ [])) rest)
     ∙ p ((nodesFrom (k + size l) r ++ (e ∷ [])) ++ rest)

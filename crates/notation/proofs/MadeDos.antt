@@ -15,8 +15,8 @@ use Rattle.notation.specs.Conditions.{treesOf}
 use Rattle.notation.specs.Lines.{Do}
 use Rattle.notation.specs.Built.{size, sizes, own, nodesFrom, allNodes, setOf, specifications}
 use Rattle.notation.specs.Reading.{atomsFit}
-use Rattle.notation.proofs.Values.{do-said}
-use Rattle.notation.proofs.Making.{Made, putNodes, putSpecifications, when, madeNodes, lastNode, setFits, treeIn, specificationIn, doIn, itemIn, itemsIn}
+use Rattle.notation.specs.Values.{do-said}
+use Rattle.notation.specs.Making.{Sections, putNodes, putSpecifications, when, madeNodes, lastNode, setFits, treeIn, specificationIn, doIn, itemIn, itemsIn}
 use Rattle.notation.proofs.MadeExactly.{Exactly, holds, exactly-as, exactly-if, exactly-when, and-then, when-none}
 use Rattle.notation.proofs.MadeLists.{flatten-append, each-true, three-true}
 use Rattle.notation.proofs.MadeTrees.{TreeFits, last-own, tree-grown}
@@ -36,7 +36,7 @@ doEntry n d = d .action ∷ n ∷ 0 ∷ 0 ∷ (setOf (d .add) ++ setOf (d .del))
 abbrev DoFits : ℕ → ℕ → Do → Type 0
 DoFits k j d = TreeFits k (d .condition .tree) × ((doNumbersFit d ≡ true) × (j + 1 ≤ 256))
 
-abbrev doMade : ℕ → Do → Made → Made
+abbrev doMade : ℕ → Do → Sections → Sections
 doMade k d m =
     putSpecifications (putNodes m (m .nodes ++ flatten (nodesFrom k (d .condition .tree))))
     (m .specifications ++ doEntry (own k (d .condition .tree)) d)
@@ -47,13 +47,13 @@ fits-each d e = each-true (leb (d .action) 255) (setFits (d .add)) (setFits (d .
 pub entry-length : (n : ℕ) (d : Do) → setFits (d .add) ≡ true → setFits (d .del) ≡ true → length (doEntry n d) ≡ 36
 entry-length n d e f = rw length-append (omega (arith, set-length (d .add) e, set-length (d .del) f))
 
-do-exactly : (d : Do) (k j : ℕ) (m : Made) → length (m .nodes) ≡ 4 * k → length (m .specifications) ≡ 36 * j
+do-exactly : (d : Do) (k j : ℕ) (m : Sections) → length (m .nodes) ≡ 4 * k → length (m .specifications) ≡ 36 * j
     → Exactly (DoFits k j d) (doMade k d m) (doIn d (some m))
 unfolding doIn treeIn specificationIn
 do-exactly d k j m h f =
     let t = d .condition .tree in
     let n : ℕ = length (m .nodes ++ flatten (nodesFrom k t)) / 4 - 1 in
-    let m₁ : Made = putNodes m (m .nodes ++ flatten (nodesFrom k t)) in
+    let m₁ : Sections = putNodes m (m .nodes ++ flatten (nodesFrom k t)) in
     let same : putSpecifications m₁ (m .specifications ++ doEntry n d) ≡ doMade k d m = rw (last-own k t (m .nodes) h) in
     exactly-as same
     (and-then (λ p. when (doNumbersFit d) (specificationIn (doEntry (lastNode (madeNodes p)) d) p)) (when-none (doNumbersFit d))
@@ -70,13 +70,13 @@ pub record DosFit (k j : ℕ) (ds : List Do) : Type 0 where
   pub nodes : k + sizes (treesOf (map (λ d. d .condition) ds)) ≤ 256
   pub entries : j + length ds ≤ 256
 
-abbrev pub dosMade : ℕ → List Do → Made → Made
+abbrev pub dosMade : ℕ → List Do → Sections → Sections
 dosMade k ds m =
     putSpecifications (putNodes m (m .nodes ++ flatten (allNodes k (treesOf (map (λ d. d .condition) ds)))))
     (m .specifications ++ flatten (specifications k ds))
 
 -- the first line, and then the others
-dos-put : (k : ℕ) (d : Do) (ds : List Do) (m : Made) → dosMade (k + size (d .condition .tree)) ds (doMade k d m) ≡ dosMade k (d ∷ ds) m
+dos-put : (k : ℕ) (d : Do) (ds : List Do) (m : Sections) → dosMade (k + size (d .condition .tree)) ds (doMade k d m) ≡ dosMade k (d ∷ ds) m
 unfolding flatten allNodes specifications
 dos-put k d ds m = simp (flatten-append, append-assoc)
 
@@ -111,7 +111,7 @@ dos-fit-each k j d ds p =
       record { actions = a .1; atoms = b .1; sets = c .2; nodes = omega (arith, p .nodes); entries = omega (arith, p .entries) },
     )
 
-pub dos-exactly : (ds : List Do) (k j : ℕ) (m : Made)
+pub dos-exactly : (ds : List Do) (k j : ℕ) (m : Sections)
     → length (m .nodes) ≡ 4 * k → k ≤ 256 → length (m .specifications) ≡ 36 * j → j ≤ 256
     → Exactly (DosFit k j ds) (dosMade k ds m) (itemsIn (map do-said ds) (some m))
 unfolding itemsIn itemIn flatten allNodes specifications sizes

@@ -8,8 +8,8 @@ use Rattle.meaning.specs.Place.{twoBytes}
 use Rattle.meaning.specs.Refusals.{all}
 use Rattle.notation.specs.Lines.{Do, Select, Revise}
 use Rattle.notation.specs.Built.{size, own, specifications, selections, revisions}
-use Rattle.notation.proofs.Making.{setFits}
-use Rattle.notation.proofs.MadeLists.{Sized, length-flatten, each-true}
+use Rattle.notation.specs.Making.{setFits}
+use Rattle.notation.proofs.MadeLists.{EntrySized, length-flatten, each-true}
 use Rattle.notation.proofs.MadeDos.{setsOf, entry-length}
 
 -- ---- how many
@@ -31,11 +31,11 @@ revisions-counted k p (r ∷ rs) = ap suc (revisions-counted (k + size (r .condi
 
 -- ---- of what size
 
-pub weights-sized : (ws : List ℕ) → Sized 2 (map twoBytes ws)
+pub weights-sized : (ws : List ℕ) → EntrySized 2 (map twoBytes ws)
 weights-sized [] = tt
 weights-sized (w ∷ ws) = (refl, weights-sized ws)
 
-pub specifications-sized : (k : ℕ) (ds : List Do) → all setFits (setsOf ds) ≡ true → Sized 36 (specifications k ds)
+pub specifications-sized : (k : ℕ) (ds : List Do) → all setFits (setsOf ds) ≡ true → EntrySized 36 (specifications k ds)
 unfolding specifications flatten
 specifications-sized k [] e = tt
 specifications-sized k (d ∷ ds) e =
@@ -43,12 +43,12 @@ specifications-sized k (d ∷ ds) e =
     each-true (setFits (d .add)) (setFits (d .del)) (all setFits (setsOf ds)) e in
     (entry-length (own k (d .condition .tree)) d (p .0) (p .1), specifications-sized (k + size (d .condition .tree)) ds (p .2))
 
-pub selections-sized : (k p : ℕ) (ss : List Select) → Sized 8 (selections k p ss)
+pub selections-sized : (k p : ℕ) (ss : List Select) → EntrySized 8 (selections k p ss)
 unfolding selections
 selections-sized k p [] = tt
 selections-sized k p (s ∷ ss) = (refl, selections-sized (k + size (s .belief .tree) + size (s .goal .tree)) (p + length (s .plan)) ss)
 
-pub revisions-sized : (k p : ℕ) (rs : List Revise) → Sized 12 (revisions k p rs)
+pub revisions-sized : (k p : ℕ) (rs : List Revise) → EntrySized 12 (revisions k p rs)
 unfolding revisions
 revisions-sized k p [] = tt
 revisions-sized k p (r ∷ rs) = (refl, revisions-sized (k + size (r .condition .tree)) (p + length (r .head) + length (r .body)) rs)

@@ -8,10 +8,10 @@ use native.Mathlib.Omega.{arith}
 use borrow.Author.Tests.{leb-true, leb-false}
 use lib.Dec.{leb}
 use lib.ListN.{length}
+use Rattle.paper.specs.Next.{if}
 use Rattle.paper.proofs.Relation.{false≢true}
 use Rattle.meaning.specs.Card.{Bytes}
-use Rattle.notation.proofs.Values.{if}
-use Rattle.notation.proofs.Making.{bind, when, added}
+use Rattle.notation.specs.Making.{bind, when, added}
 
 -- o is some x exactly if P holds, and else none
 pub data Exactly {X : Type 0} (P : Type 0) (x : X) (o : Option X) : Type 0 where

@@ -8,6 +8,7 @@ use native.Mathlib.Omega.{arith}
 use borrow.Author.Tests.{leb-true, le-leb}
 use lib.Dec.{leb}
 use lib.ListN.{length, length-append}
+use Rattle.paper.specs.Next.{if}
 use Rattle.paper.proofs.Relation.{both}
 use Rattle.meaning.specs.Refusals.{all}
 use Rattle.meaning.proofs.Every.{both-true}
@@ -15,8 +16,7 @@ use Rattle.notation.specs.Conditions.{Condition, treesOf}
 use Rattle.notation.specs.Lines.{Do, Said, conditions, plans, sets}
 use Rattle.notation.specs.Built.{sizes, pool}
 use Rattle.notation.specs.Reading.{atomsFit, numbersFit, entriesFit}
-use Rattle.notation.proofs.Values.{if}
-use Rattle.notation.proofs.Making.{nothingMade, setFits, itemsIn, itemsSaid}
+use Rattle.notation.specs.Making.{nothingMade, setFits, itemsIn, itemsSaid}
 use Rattle.notation.proofs.MadeExactly.{Exactly, exactly-if, exactly-equal}
 use Rattle.notation.proofs.MadeLists.{each-true, three-true, each-of-six, six-true, all-both, all-left, all-right}
 use Rattle.notation.proofs.MadeNodes.{sizes-append}

@@ -20,15 +20,15 @@ flatten-append (x ∷ xs) ys = rw (flatten-append xs ys) (sym (append-assoc x (f
 
 -- ---- entries of one size
 
-abbrev pub Sized : ℕ → List Bytes → Type 0
-Sized n [] = Unit {0}
-Sized n (e ∷ es) = (length e ≡ n) × Sized n es
+abbrev pub EntrySized : ℕ → List Bytes → Type 0
+EntrySized n [] = Unit {0}
+EntrySized n (e ∷ es) = (length e ≡ n) × EntrySized n es
 
-pub sized-append : (n : ℕ) (es fs : List Bytes) → Sized n es → Sized n fs → Sized n (es ++ fs)
+pub sized-append : (n : ℕ) (es fs : List Bytes) → EntrySized n es → EntrySized n fs → EntrySized n (es ++ fs)
 sized-append n [] fs s t = t
 sized-append n (e ∷ es) fs s t = (s .0, sized-append n es fs (s .1) t)
 
-pub length-flatten : (n : ℕ) (es : List Bytes) → Sized n es → length (flatten es) ≡ n * length es
+pub length-flatten : (n : ℕ) (es : List Bytes) → EntrySized n es → length (flatten es) ≡ n * length es
 unfolding flatten
 length-flatten n [] s = sym (mul-zero n)
 length-flatten n (e ∷ es) s = rw (length-append, mul-suc) (omega (arith, s .0, length-flatten n es (s .1)))

@@ -7,7 +7,7 @@ use native.Mathlib.Omega.{arith}
 use lib.ListN.{length, length-append}
 use Rattle.notation.specs.Conditions.{Tree}
 use Rattle.notation.specs.Built.{size, sizes, nodesFrom, allNodes}
-use Rattle.notation.proofs.MadeLists.{Sized, sized-append, length-flatten}
+use Rattle.notation.proofs.MadeLists.{EntrySized, sized-append, length-flatten}
 use Rattle.notation.proofs.MadeTrees.{nodes-sized, nodes-counted}
 
 pub sizes-append : (ts us : List Tree) → sizes (ts ++ us) ≡ sizes ts + sizes us
@@ -21,7 +21,7 @@ all-nodes-append k [] us = rw (add-zero k)
 all-nodes-append k (t ∷ ts) us =
     rw (all-nodes-append (k + size t) ts us, append-assoc, add-assoc)
 
-pub all-nodes-sized : (k : ℕ) (ts : List Tree) → Sized 4 (allNodes k ts)
+pub all-nodes-sized : (k : ℕ) (ts : List Tree) → EntrySized 4 (allNodes k ts)
 unfolding allNodes
 all-nodes-sized k [] = tt
 all-nodes-sized k (t ∷ ts) = sized-append 4 (nodesFrom k t) (allNodes (k + size t) ts) (nodes-sized k t) (all-nodes-sized (k + size t) ts)

@@ -17,8 +17,8 @@ use Rattle.notation.specs.Built.{sizes, allNodes, pool, built}
 use Rattle.notation.specs.Reading.{numbersFit, entriesFit}
 use Rattle.notation.specs.Printing.{trees}
 use Rattle.notation.specs.Theorems.{CompletedLaws, CompletedLaw}
-use Rattle.notation.proofs.Making.{headerOf, sectionsOf}
-use Rattle.notation.proofs.MadeLists.{Sized}
+use Rattle.notation.specs.Making.{headerOf, sectionsOf}
+use Rattle.notation.proofs.MadeLists.{EntrySized}
 use Rattle.notation.proofs.MadeNodes.{all-nodes-sized, all-nodes-counted}
 use Rattle.notation.proofs.MadeWhole.{madeSaid}
 use Rattle.notation.proofs.MadeBuilt.{header-length, made-kept, weights-made, built-header}
@@ -44,7 +44,7 @@ module _ (l : Layout) (b : Bytes) where
       let third : byte b (at + 3) ≡ getD e 3 0 = byte-behind front e behind at 3 h f (omega arith) in
       λ i. record { kind = zeroth i; a = first i; b = second i; zero = third i }
 
-  nodes-behind : (es : List Bytes) (front behind : Bytes) (i : ℕ) → Sized 4 es → b ≡ front ++ (flatten es ++ behind)
+  nodes-behind : (es : List Bytes) (front behind : Bytes) (i : ℕ) → EntrySized 4 es → b ≡ front ++ (flatten es ++ behind)
       → length front ≡ l .nodes .offset + 4 * i → map (nodeAt l b) (numbers i (length es)) ≡ map nodeOf es
   unfolding numbers flatten
   nodes-behind [] front behind i z h f = refl

@@ -8,12 +8,12 @@ use native.Mathlib.Omega.{arith}
 use borrow.Author.Tests.{leb-true, le-leb}
 use lib.Dec.{leb}
 use lib.ListN.{length, length-append}
+use Rattle.paper.specs.Next.{if}
 use Rattle.paper.proofs.Relation.{both}
 use Rattle.meaning.specs.Card.{Bytes}
 use Rattle.meaning.specs.Refusals.{all}
 use Rattle.meaning.proofs.Every.{both-true}
-use Rattle.notation.proofs.Values.{if}
-use Rattle.notation.proofs.Making.{withPlan}
+use Rattle.notation.specs.Making.{withPlan}
 use Rattle.notation.proofs.MadeExactly.{Exactly, holds, exactly-as, exactly-if, exactly-when, exactly-added, exactly-equal, and-then, when-none}
 
 abbrev pub actionsFit : List ℕ → Bool

@@ -15,8 +15,8 @@ use Rattle.notation.specs.Conditions.{Tree, Condition, treesOf}
 use Rattle.notation.specs.Lines.{Revise}
 use Rattle.notation.specs.Built.{size, sizes, own, nodesFrom, allNodes, revisions}
 use Rattle.notation.specs.Reading.{atomsFit}
-use Rattle.notation.proofs.Values.{revise-said}
-use Rattle.notation.proofs.Making.{Made, putNodes, putPool, putRevisions, madeNodes, lastNode, poolSize, treeIn, planIn, revisionIn, reviseIn, itemIn, itemsIn}
+use Rattle.notation.specs.Values.{revise-said}
+use Rattle.notation.specs.Making.{Sections, putNodes, putPool, putRevisions, madeNodes, lastNode, poolSize, treeIn, planIn, revisionIn, reviseIn, itemIn, itemsIn}
 use Rattle.notation.proofs.MadeExactly.{Exactly, holds, exactly-as, exactly-if, and-then}
 use Rattle.notation.proofs.MadeLists.{flatten-append, each-true, three-true}
 use Rattle.notation.proofs.MadeTrees.{TreeFits, last-own, tree-grown}
@@ -35,7 +35,7 @@ abbrev ReviseFits : ℕ → ℕ → ℕ → Revise → Type 0
 ReviseFits k p j r =
     PlanFits p (r .head) × (TreeFits k (r .condition .tree) × (PlanFits (p + length (r .head)) (r .body) × (j + 1 ≤ 256)))
 
-abbrev reviseMade : ℕ → Revise → Made → Made
+abbrev reviseMade : ℕ → Revise → Sections → Sections
 reviseMade k r m =
     putRevisions (putPool (putNodes m (m .nodes ++ flatten (nodesFrom k (r .condition .tree)))) ((m .pool ++ r .head) ++ r .body))
     (m .revisions ++ reviseEntry (own k (r .condition .tree)) (length (m .pool)) (length (r .head)) (length (m .pool) + length (r .head)) (length (r .body)))
@@ -43,7 +43,7 @@ reviseMade k r m =
 plan-fits-as : (ns : List ℕ) {p q : ℕ} → p ≡ q → PlanFits p ns → PlanFits q ns
 plan-fits-as ns e f = (f .0, rw e at (f .1))
 
-revise-exactly : (r : Revise) (k j : ℕ) (m : Made) → length (m .nodes) ≡ 4 * k → length (m .pool) ≤ 8192 → length (m .revisions) ≡ 12 * j
+revise-exactly : (r : Revise) (k j : ℕ) (m : Sections) → length (m .nodes) ≡ 4 * k → length (m .pool) ≤ 8192 → length (m .revisions) ≡ 12 * j
     → Exactly (ReviseFits k (length (m .pool)) j r) (reviseMade k r m) (reviseIn r (some m))
 unfolding reviseIn treeIn planIn revisionIn
 revise-exactly r k j m h l f =
@@ -52,9 +52,9 @@ revise-exactly r k j m h l f =
     let p₁ : Bytes = p₀ ++ r .head in
     let p₂ : Bytes = p₁ ++ r .body in
     let n₁ : Bytes = m .nodes ++ flatten (nodesFrom k c) in
-    let m₁ : Made = putPool m p₁ in
-    let m₂ : Made = putNodes m₁ n₁ in
-    let m₃ : Made = putPool m₂ p₂ in
+    let m₁ : Sections = putPool m p₁ in
+    let m₂ : Sections = putNodes m₁ n₁ in
+    let m₃ : Sections = putPool m₂ p₂ in
     let grown : length p₁ ≡ length p₀ + length (r .head) = length-append p₀ (r .head) in
     let e : Bytes = reviseEntry (length n₁ / 4 - 1) (length p₀) (length p₁ - length p₀) (length p₁) (length p₂ - length p₁) in
     let same : putRevisions m₃ (m .revisions ++ e) ≡ reviseMade k r m =
@@ -87,13 +87,13 @@ pub record RevisesFit (k p j : ℕ) (rs : List Revise) : Type 0 where
   pub pool : p + length (flatten (revisePlans rs)) ≤ 8192
   pub entries : j + length rs ≤ 256
 
-abbrev pub revisesMade : ℕ → List Revise → Made → Made
+abbrev pub revisesMade : ℕ → List Revise → Sections → Sections
 revisesMade k rs m =
     putRevisions (putPool (putNodes m (m .nodes ++ flatten (allNodes k (treesOf (reviseConditions rs))))) (m .pool ++ flatten (revisePlans rs)))
     (m .revisions ++ flatten (revisions k (length (m .pool)) rs))
 
 -- the first line, and then the others
-revises-put : (k : ℕ) (r : Revise) (rs : List Revise) (m : Made)
+revises-put : (k : ℕ) (r : Revise) (rs : List Revise) (m : Sections)
     → revisesMade (k + size (r .condition .tree)) rs (reviseMade k r m) ≡ revisesMade k (r ∷ rs) m
 unfolding flatten allNodes revisions
 revises-put k r rs m =
@@ -134,7 +134,7 @@ revises-fit-each k p j r rs f =
 revises-fit-as : {k p q j : ℕ} {rs : List Revise} → p ≡ q → RevisesFit k p j rs → RevisesFit k q j rs
 revises-fit-as e f = rw e at f
 
-pub revises-exactly : (rs : List Revise) (k j : ℕ) (m : Made)
+pub revises-exactly : (rs : List Revise) (k j : ℕ) (m : Sections)
     → length (m .nodes) ≡ 4 * k → k ≤ 256 → length (m .pool) ≤ 8192 → length (m .revisions) ≡ 12 * j → j ≤ 256
     → Exactly (RevisesFit k (length (m .pool)) j rs) (revisesMade k rs m) (itemsIn (map revise-said rs) (some m))
 unfolding itemsIn itemIn flatten allNodes revisions sizes

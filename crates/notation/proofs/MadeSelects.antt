@@ -15,8 +15,8 @@ use Rattle.notation.specs.Conditions.{Tree, Condition, treesOf}
 use Rattle.notation.specs.Lines.{Select}
 use Rattle.notation.specs.Built.{size, sizes, own, nodesFrom, allNodes, selections}
 use Rattle.notation.specs.Reading.{atomsFit}
-use Rattle.notation.proofs.Values.{select-said}
-use Rattle.notation.proofs.Making.{Made, putNodes, putPool, putSelections, madeNodes, lastNode, poolSize, treeIn, planIn, selectionIn, selectIn, itemIn, itemsIn}
+use Rattle.notation.specs.Values.{select-said}
+use Rattle.notation.specs.Making.{Sections, putNodes, putPool, putSelections, madeNodes, lastNode, poolSize, treeIn, planIn, selectionIn, selectIn, itemIn, itemsIn}
 use Rattle.notation.proofs.MadeExactly.{Exactly, holds, exactly-as, exactly-if, and-then}
 use Rattle.notation.proofs.MadeLists.{flatten-append, each-true, three-true}
 use Rattle.notation.proofs.MadeTrees.{TreeFits, last-own, tree-grown}
@@ -36,12 +36,12 @@ SelectFits k p j s = TreeFits k (s .belief .tree) × (TreeFits (k + size (s .bel
 abbrev selectNodes : ℕ → Select → Bytes → Bytes
 selectNodes k s n = (n ++ flatten (nodesFrom k (s .belief .tree))) ++ flatten (nodesFrom (k + size (s .belief .tree)) (s .goal .tree))
 
-abbrev selectMade : ℕ → Select → Made → Made
+abbrev selectMade : ℕ → Select → Sections → Sections
 selectMade k s m =
     putSelections (putPool (putNodes m (selectNodes k s (m .nodes))) (m .pool ++ s .plan))
     (m .selections ++ selectEntry (own k (s .belief .tree)) (own (k + size (s .belief .tree)) (s .goal .tree)) (length (m .pool)) (length (s .plan)))
 
-select-exactly : (s : Select) (k j : ℕ) (m : Made) → length (m .nodes) ≡ 4 * k → length (m .pool) ≤ 8192 → length (m .selections) ≡ 8 * j
+select-exactly : (s : Select) (k j : ℕ) (m : Sections) → length (m .nodes) ≡ 4 * k → length (m .pool) ≤ 8192 → length (m .selections) ≡ 8 * j
     → Exactly (SelectFits k (length (m .pool)) j s) (selectMade k s m) (selectIn s (some m))
 unfolding selectIn treeIn planIn selectionIn
 select-exactly s k j m h l f =
@@ -49,9 +49,9 @@ select-exactly s k j m h l f =
     let g : Tree = s .goal .tree in
     let n₁ : Bytes = m .nodes ++ flatten (nodesFrom k b) in
     let n₂ : Bytes = n₁ ++ flatten (nodesFrom (k + size b) g) in
-    let m₁ : Made = putNodes m n₁ in
-    let m₂ : Made = putNodes m n₂ in
-    let m₃ : Made = putPool m₂ (m .pool ++ s .plan) in
+    let m₁ : Sections = putNodes m n₁ in
+    let m₂ : Sections = putNodes m n₂ in
+    let m₃ : Sections = putPool m₂ (m .pool ++ s .plan) in
     let h₁ : length n₁ ≡ 4 * (k + size b) = tree-grown k b (m .nodes) h in
     let e : Bytes = selectEntry (length n₁ / 4 - 1) (length n₂ / 4 - 1) (length (m .pool)) (length (m .pool ++ s .plan) - length (m .pool)) in
     let same : putSelections m₃ (m .selections ++ e) ≡ selectMade k s m =
@@ -84,13 +84,13 @@ pub record SelectsFit (k p j : ℕ) (ss : List Select) : Type 0 where
   pub pool : p + length (flatten (selectPlans ss)) ≤ 8192
   pub entries : j + length ss ≤ 256
 
-abbrev pub selectsMade : ℕ → List Select → Made → Made
+abbrev pub selectsMade : ℕ → List Select → Sections → Sections
 selectsMade k ss m =
     putSelections (putPool (putNodes m (m .nodes ++ flatten (allNodes k (treesOf (selectConditions ss))))) (m .pool ++ flatten (selectPlans ss)))
     (m .selections ++ flatten (selections k (length (m .pool)) ss))
 
 -- the first line, and then the others
-selects-put : (k : ℕ) (s : Select) (ss : List Select) (m : Made)
+selects-put : (k : ℕ) (s : Select) (ss : List Select) (m : Sections)
     → selectsMade (k + size (s .belief .tree) + size (s .goal .tree)) ss (selectMade k s m) ≡ selectsMade k (s ∷ ss) m
 unfolding flatten allNodes selections
 selects-put k s ss m = simp (flatten-append, append-assoc, length-append)
@@ -130,7 +130,7 @@ selects-fit-each k p j s ss f =
 selects-fit-as : {k p q j : ℕ} {ss : List Select} → p ≡ q → SelectsFit k p j ss → SelectsFit k q j ss
 selects-fit-as e f = rw e at f
 
-pub selects-exactly : (ss : List Select) (k j : ℕ) (m : Made)
+pub selects-exactly : (ss : List Select) (k j : ℕ) (m : Sections)
     → length (m .nodes) ≡ 4 * k → k ≤ 256 → length (m .pool) ≤ 8192 → length (m .selections) ≡ 8 * j → j ≤ 256
     → Exactly (SelectsFit k (length (m .pool)) j ss) (selectsMade k ss m) (itemsIn (map select-said ss) (some m))
 unfolding itemsIn itemIn flatten allNodes selections sizes

@@ -10,7 +10,7 @@ use lib.ListN.{length, length-append, length-replicate}
 use Rattle.paper.proofs.Relation.{both}
 use Rattle.paper.proofs.Sets.{length-∪}
 use Rattle.notation.specs.Built.{single, setOf}
-use Rattle.notation.proofs.Making.{setFits}
+use Rattle.notation.specs.Making.{setFits}
 
 single-length : (n : ℕ) → n ≤ 127 → length (single n) ≡ 16
 single-length n h =

@@ -8,16 +8,16 @@ use native.Mathlib.Omega.{arith}
 use borrow.Author.Tests.{leb-true, le-leb}
 use lib.Dec.{leb}
 use lib.ListN.{length, length-append}
+use Rattle.paper.specs.Next.{if}
 use Rattle.paper.proofs.Relation.{both}
 use Rattle.meaning.specs.Card.{Bytes}
 use Rattle.meaning.proofs.Every.{both-true}
 use Rattle.notation.specs.Conditions.{Tree, believes, goal, not, and, or}
 use Rattle.notation.specs.Built.{size, own, node, nodesFrom}
 use Rattle.notation.specs.Reading.{atomsFit}
-use Rattle.notation.proofs.Values.{if}
-use Rattle.notation.proofs.Making.{added, addedTo, lastNode, withTree}
+use Rattle.notation.specs.Making.{added, addedTo, lastNode, withTree}
 use Rattle.notation.proofs.MadeExactly.{Exactly, exactly-as, exactly-if, exactly-when, exactly-added, exactly-equal, and-then, when-none}
-use Rattle.notation.proofs.MadeLists.{Sized, sized-append, length-flatten, flatten-append}
+use Rattle.notation.proofs.MadeLists.{EntrySized, sized-append, length-flatten, flatten-append}
 
 -- ---- how many nodes
 
@@ -39,7 +39,7 @@ nodes-counted k (not t) = simp length-append (omega (arith, nodes-counted k t))
 nodes-counted k (and l r) = simp length-append (omega (arith, nodes-counted k l, nodes-counted (k + size l) r))
 nodes-counted k (or l r) = simp length-append (omega (arith, nodes-counted k l, nodes-counted (k + size l) r))
 
-pub nodes-sized : (k : ℕ) (t : Tree) → Sized 4 (nodesFrom k t)
+pub nodes-sized : (k : ℕ) (t : Tree) → EntrySized 4 (nodesFrom k t)
 unfolding nodesFrom
 nodes-sized k Tree.true = (refl, tt)
 nodes-sized k (believes n) = (refl, tt)

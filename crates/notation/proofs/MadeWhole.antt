@@ -12,8 +12,8 @@ use Rattle.meaning.specs.Place.{twoBytes}
 use Rattle.notation.specs.Conditions.{Tree, treesOf}
 use Rattle.notation.specs.Lines.{Do, Select, Said, conditions}
 use Rattle.notation.specs.Built.{sizes, allNodes, setOf, pool, specifications, selections, revisions}
-use Rattle.notation.proofs.Values.{atoms-said, action-said, do-said, select-said, revise-said, begin-said}
-use Rattle.notation.proofs.Making.{Made, nothingMade, putAtoms, itemIn, itemsIn, itemsSaid}
+use Rattle.notation.specs.Values.{atoms-said, action-said, do-said, select-said, revise-said, begin-said}
+use Rattle.notation.specs.Making.{Sections, nothingMade, putAtoms, itemIn, itemsIn, itemsSaid}
 use Rattle.notation.proofs.MadeExactly.{Exactly, exactly-as, exactly-if, exactly-of, and-then}
 use Rattle.notation.proofs.MadeLists.{flatten-append}
 use Rattle.notation.proofs.MadeNodes.{all-nodes-append, all-nodes-length}
@@ -34,7 +34,7 @@ abbrev pub selectNodes : Said → ℕ
 selectNodes s = sizes (flatten (map (λ r. r .belief .tree ∷ r .goal .tree ∷ []) (s .selects)))
 
 -- The sections of the card that a text stands for, as bytes.
-unfoldable pub madeSaid : Said → Made
+unfoldable pub madeSaid : Said → Sections
 madeSaid s = record {
   atoms = s .atoms;
   weights = flatten (map twoBytes (s .weights));
@@ -70,22 +70,22 @@ pub record SaidFits (s : Said) : Type 0 where
   pub begin : BeginFits (length (flatten (selectPlans (s .selects)) ++ flatten (revisePlans (s .revises)))) (s .begin)
 
 module _ (s : Said) where
-  abbrev afterAtoms : Made
+  abbrev afterAtoms : Sections
   afterAtoms = putAtoms nothingMade (s .atoms)
 
-  abbrev afterWeights : Made
+  abbrev afterWeights : Sections
   afterWeights = weightsMade (s .weights) afterAtoms
 
-  abbrev afterDos : Made
+  abbrev afterDos : Sections
   afterDos = dosMade 0 (s .dos) afterWeights
 
-  abbrev afterSelects : Made
+  abbrev afterSelects : Sections
   afterSelects = selectsMade (doNodes s) (s .selects) afterDos
 
-  abbrev afterRevises : Made
+  abbrev afterRevises : Sections
   afterRevises = revisesMade (doNodes s + selectNodes s) (s .revises) afterSelects
 
-  abbrev after : Made
+  abbrev after : Sections
   after = beginMade (s .begin) afterRevises
 
   -- the kinds of lines in turn

@@ -14,14 +14,14 @@ use Rattle.meaning.specs.declared.Layout.{Layout}
 use borrow.Author.Tests.{ne-eqb, le-leb, lt-ltb}
 use Rattle.meaning.specs.Card.{Bytes, layout}
 use Rattle.meaning.specs.Refusals.{Row, _given-when_, firstGiven, andThen}
-use Rattle.meaning.specs.Calls.{roomFor}
+use Rattle.meaning.specs.Calls.{roomFor, leavesBy}
 use Rattle.meaning.proofs.Tables.{not-given}
 use Rattle.notation.specs.Words.{word, Digits, Number, digits}
 use Rattle.notation.specs.Words as Words
 use Rattle.notation.specs.Conditions.{Tree, true, believes, goal, and, or, Condition, plain, joined, Unit, T, B, G, AndList, units, AndMore, last-unit, next-unit, OrList, and-lists, OrMore, last-list, next-list}
 use Rattle.notation.specs.Conditions as Conditions
 use Rattle.notation.specs.Built.{size}
-use Rattle.notation.specs.Printing.{decimal, textAs, depthAs, deeperIf, decimalIn, depthOf, treeAt, printTable, printed, printAnswer, leavesBy, printLeaves}
+use Rattle.notation.specs.Printing.{decimal, textAs, depthAs, deeperIf, decimalIn, depthOf, treeAt, printTable, printed, printAnswer, printLeaves}
 use Rattle.notation.specs.Theorems.{brackets, PrintLaws, PrintsAny}
 use Rattle.notation.specs.Cases.{printCases, PrintCases}
 use Rattle.notation.proofs.Decimals.{number-decimal}

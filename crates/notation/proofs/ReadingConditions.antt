@@ -14,7 +14,7 @@ use Rattle.notation.specs.Conditions.{Tree, Condition, plain, negated, b
 use Rattle.notation.specs.Conditions as Conditions
 use Rattle.notation.proofs.Following.{Stops}
 use Rattle.notation.proofs.Deriving.{eqb-same}
-use Rattle.notation.proofs.Values.{Read, nested, got, then, more, several, unitOf, andListOf, orListOf, numberValue, digitsRest}
+use Rattle.notation.specs.Values.{Read, nested, got, then, more, several, unitOf, andListOf, orListOf, numberValue, digitsRest}
 use Rattle.notation.proofs.ReadingTests.{if-yes, if-no, within, then-deeper}
 use Rattle.notation.proofs.ReadingNumbers.{number-read, number-left}
 use Rattle.notation.proofs.ReadingLists.{shorter}

@@ -7,7 +7,7 @@ use Rattle.meaning.specs.Card.{Bytes}
 use Rattle.notation.specs.Words.{LF}
 use Rattle.notation.specs.Lines.{Remark, Note, End}
 use Rattle.notation.specs.Lines as Lines
-use Rattle.notation.proofs.Values.{listGoesOn, behindLine}
+use Rattle.notation.specs.Values.{listGoesOn, behindLine}
 use Rattle.notation.proofs.ReadingTests.{if-no}
 use Rattle.notation.proofs.ReadingLists.{ListStops}
 

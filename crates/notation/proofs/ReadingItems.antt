@@ -11,7 +11,7 @@ use Rattle.meaning.specs.Refusals.{all}
 use Rattle.notation.specs.Conditions.{Condition}
 use Rattle.notation.specs.Lines.{Do, Select, Revise, Begin, Note, Notes, Lines, AtomsLine, ActionLine, DoLine, SelectLine, ReviseLine, BeginLine, counts, weighs, does, selects, revises, begins}
 use Rattle.notation.specs.Lines as L
-use Rattle.notation.proofs.Values.{Read, got, then, Item, atoms-said, action-said, do-said, select-said, revise-said, begin-said, lineAt, itemsAt}
+use Rattle.notation.specs.Values.{Read, got, then, Item, atoms-said, action-said, do-said, select-said, revise-said, begin-said, lineAt, itemsAt}
 use Rattle.notation.proofs.ReadingTests.{within, then-within, then-made}
 use Rattle.notation.proofs.ReadingEnds.{behind-note}
 use Rattle.notation.proofs.ReadingLines.{fit, atoms-read, action-read, do-read, select-read, revise-read, begin-read}

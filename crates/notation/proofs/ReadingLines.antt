@@ -11,7 +11,7 @@ use Rattle.notation.specs.Words.{word}
 use Rattle.notation.specs.Words as Words
 use Rattle.notation.specs.Conditions.{Condition}
 use Rattle.notation.specs.Lines.{Do, Select, Revise, Begin, End, AtomsLine, ActionLine, DoLine, SelectLine, ReviseLine, BeginLine, counts, weighs, does, selects, revises, begins}
-use Rattle.notation.proofs.Values.{Read, got, then, Item, atoms-said, action-said, do-said, select-said, revise-said, begin-said, numberValue, digitsRest, listOf, behindList, behindLine, orListOf, numberItem, doItemAt, selectItemAt, reviseItemAt, beginItem}
+use Rattle.notation.specs.Values.{Read, got, then, Item, atoms-said, action-said, do-said, select-said, revise-said, begin-said, numberValue, digitsRest, listOf, behindList, behindLine, orListOf, numberItem, doItemAt, selectItemAt, reviseItemAt, beginItem}
 use Rattle.notation.proofs.ReadingTests.{within, then-within}
 use Rattle.notation.proofs.ReadingNumbers.{number-read, number-left}
 use Rattle.notation.proofs.ReadingLists.{ListStops, list-read, list-left}

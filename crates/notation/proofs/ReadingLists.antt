@@ -11,7 +11,7 @@ use Rattle.notation.specs.Words.{Number, Numbers}
 use Rattle.notation.specs.Words as Words
 use Rattle.notation.proofs.Following.{Stops}
 use Rattle.notation.proofs.Deriving.{is-digit}
-use Rattle.notation.proofs.Values.{digitsRest, listGoesOn, listValues, listRest, listOf, behindList}
+use Rattle.notation.specs.Values.{digitsRest, listGoesOn, listValues, listRest, listOf, behindList}
 use Rattle.notation.proofs.ReadingTests.{if-yes, if-no}
 use Rattle.notation.proofs.ReadingNumbers.{number-read, number-left}
 

@@ -8,7 +8,7 @@ use Rattle.notation.specs.Words.{Digits, Number}
 use Rattle.notation.specs.Words as Words
 use Rattle.notation.proofs.Following.{Stops}
 use Rattle.notation.proofs.Deriving.{is-digit}
-use Rattle.notation.proofs.Values.{digitsValue, digitsRest, numberValue}
+use Rattle.notation.specs.Values.{digitsValue, digitsRest, numberValue}
 use Rattle.notation.proofs.ReadingTests.{if-yes, if-no}
 
 -- ---- no digit comes

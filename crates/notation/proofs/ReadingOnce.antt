@@ -13,11 +13,11 @@ use Rattle.meaning.proofs.Every.{both-true}
 use Rattle.notation.specs.Conditions.{Condition, OrList}
 use Rattle.notation.specs.Lines.{Said, Text, conditions}
 use Rattle.notation.specs.Theorems.{Unambiguous}
-use Rattle.notation.proofs.Values.{nested, got, orListOf, itemsAt}
+use Rattle.notation.specs.Values.{nested, got, orListOf, itemsAt}
 use Rattle.notation.proofs.ReadingTests.{if-yes}
 use Rattle.notation.proofs.ReadingConditions.{OrStops, or-list-read}
 use Rattle.notation.proofs.ReadingLines.{fit}
-use Rattle.notation.proofs.Making.{itemsSaid}
+use Rattle.notation.specs.Making.{itemsSaid}
 use Rattle.notation.proofs.ReadingTexts.{text-reads}
 use Rattle.notation.proofs.ReadingSaid.{saidBy, said-by}
 

@@ -3,8 +3,8 @@ use mathlib.Core.Path.{_≡_, refl, ap}
 use mathlib.Core.List.{List, [], _∷_, _++_, map}
 use Prim.Native.Nat.{ℕ}
 use Rattle.notation.specs.Lines.{Do, Select, Revise, Begin, Said}
-use Rattle.notation.proofs.Values.{Item, atoms-said, action-said, do-said, select-said, revise-said, begin-said}
-use Rattle.notation.proofs.Making.{itemsSaid}
+use Rattle.notation.specs.Values.{Item, atoms-said, action-said, do-said, select-said, revise-said, begin-said}
+use Rattle.notation.specs.Making.{itemsSaid}
 
 -- an item more
 unfoldable pub add : Item → Said → Said

@@ -5,8 +5,9 @@ use Prim.Native.Nat.{ℕ, _≤_, _<_}
 use native.Mathlib.Omega.{arith}
 use borrow.Author.Tests.{leb-true, leb-false, lt-leb}
 use lib.Dec.{leb}
+use Rattle.paper.specs.Next.{if}
 use Rattle.meaning.specs.Card.{Bytes}
-use Rattle.notation.proofs.Values.{if, Read, nested, got, then}
+use Rattle.notation.specs.Values.{Read, nested, got, then}
 
 module _ {X : Type 0} where
   pub if-yes : {b : Bool} (x y : X) → b ≡ true → if b x y ≡ x

@@ -3,12 +3,13 @@ use mathlib.Core.Path.{_≡_, refl, subst}
 use mathlib.Core.List.{List, [], _∷_, _++_, append-nil, map, flatten}
 use Prim.Native.Nat.{ℕ, _≤_}
 use lib.ListN.{length}
+use Rattle.paper.specs.Next.{if}
 use Rattle.meaning.specs.Card.{Bytes}
 use Rattle.notation.specs.Conditions.{Condition}
 use Rattle.notation.specs.Lines.{Do, Select, Revise, Begin, Said, Text, card, conditions, Notes, Lines, AtomsLine, ActionLine, DoLine, SelectLine, ReviseLine, BeginLine}
 use Rattle.notation.specs.Reading.{shallow}
-use Rattle.notation.proofs.Values.{if, nested, got, Item, atoms-said, action-said, do-said, select-said, revise-said, begin-said, itemsOf}
-use Rattle.notation.proofs.Making.{itemsSaid}
+use Rattle.notation.specs.Values.{nested, got, Item, atoms-said, action-said, do-said, select-said, revise-said, begin-said, itemsOf}
+use Rattle.notation.specs.Making.{itemsSaid}
 use Rattle.notation.proofs.ReadingItems.{Reads, atoms-line, action-line, do-line, select-line, revise-line, begin-line, line-reads, nothing-left, notes-read, lines-read}
 
 -- ---- the sections of a text, with how many may nest

@@ -12,9 +12,9 @@ use Rattle.meaning.specs.Card.{Bytes}
 use Rattle.notation.specs.Words as Words
 use Rattle.notation.specs.Lines as Lines
 use Rattle.notation.specs.Conditions as Conditions
-use Rattle.notation.proofs.Scanning.{Start, State, lines, rest, number, digits, list, spaced, list-end, spaced-end, end, remark, unit, after, step}
-use Rattle.notation.proofs.Scanning as Scan
-use Rattle.notation.proofs.Following.{From, finished, noted, Behind, More, After, Lang}
+use Rattle.notation.specs.Scanning.{Start, ScanState, lines, rest, number, digits, list, spaced, list-end, spaced-end, end, remark, unit, after, step, ended, accepts, later, at-end, next, judge}
+use Rattle.notation.specs.Scanning as Scan
+use Rattle.notation.proofs.Following.{LinesFrom, finished, noted, Behind, More, After, Lang}
 use Rattle.notation.proofs.Following as Following
 use Rattle.notation.proofs.Deriving.{not-cons, same-head, same-tail, By, Derives, derive-rest, number-more, digits-more, list-more, spaced-more}
 use Rattle.notation.proofs.DerivingEnds.{remark-more, end-more, list-end-more, spaced-end-more}
@@ -22,7 +22,7 @@ use Rattle.notation.proofs.DerivingConditions.{after-more, unit-more}
 use Rattle.notation.proofs.DerivingLines.{lines-more}
 use Rattle.notation.proofs.Alive.{example, Alive, AliveBy, follows, alive-step}
 
-pub derive : (q : State) → Derives q
+pub derive : (q : ScanState) → Derives q
 derive (lines s) = lines-more s
 derive (rest w k) = derive-rest k (derive k) w
 derive (number k) = number-more k
@@ -38,30 +38,6 @@ derive (after n w k) = after-more w k n
 
 -- ---- where a text may end
 
-abbrev pub ended : Start → Bool
-ended Scan.first = false
-ended Scan.actions = false
-ended Scan.dos = false
-ended Scan.selects = false
-ended Scan.revises = false
-ended Scan.ending = true
-
-unfoldable pub accepts : State → Bool
-accepts (lines s) = ended s
-accepts (rest [] k) = accepts k
-accepts (rest (c ∷ w) k) = false
-accepts (number k) = false
-accepts (digits k) = accepts k
-accepts (list w k) = false
-accepts (spaced [] k) = accepts k
-accepts (spaced (c ∷ w) k) = false
-accepts (list-end k) = false
-accepts (spaced-end k) = false
-accepts (end k) = false
-accepts (remark k) = false
-accepts (unit n w k) = false
-accepts (after n w k) = false
-
 -- no bytes are no bytes and a byte more
 never : (u : Bytes) (x : ℕ) (v : Bytes) → _≡_ {A = Bytes} [] (u ++ (x ∷ v)) → ⊥
 never [] x v e = not-cons (sym e)
@@ -71,7 +47,7 @@ never (y ∷ u) x v e = not-cons (sym e)
 not-two : {x y z : ℕ} {t : Bytes} → x ∷ [] ≡ y ∷ (z ∷ t) → ⊥
 not-two e = not-cons (sym (same-tail e))
 
-lines-end : {s : Start} {y : Bytes} → From s y → [] ≡ y → ended s ≡ true
+lines-end : {s : Start} {y : Bytes} → LinesFrom s y → [] ≡ y → ended s ≡ true
 lines-end finished e = refl
 lines-end (noted Lines.empty f) e = absurd (not-cons (sym e))
 lines-end (noted (Lines.remark r) f) e = absurd (not-cons (sym e))
@@ -82,7 +58,7 @@ lines-end (Following.selected m (Lines.selects o o2 hs h) f) e = absurd (not-con
 lines-end (Following.revised m (Lines.revises ns o ms h) f) e = absurd (not-cons (sym e))
 lines-end (Following.begun m (Lines.begins h1 h2 h3 h) f) e = absurd (not-cons (sym e))
 
-ends-lines : (s : Start) → ended s ≡ true → From s []
+ends-lines : (s : Start) → ended s ≡ true → LinesFrom s []
 ends-lines Scan.first e = absurd (false≢true e)
 ends-lines Scan.actions e = absurd (false≢true e)
 ends-lines Scan.dos e = absurd (false≢true e)
@@ -99,7 +75,7 @@ behind-never {Z} n (u, (z, (e, (m, h)))) = go m e
     go (Following.and-unit x r) e = not-cons (sym e)
     go (Following.or-unit x r) e = not-cons (sym e)
 
-after-never : (n : ℕ) (w : Bytes) (k : State) → After n w (Lang k) [] → ⊥
+after-never : (n : ℕ) (w : Bytes) (k : ScanState) → After n w (Lang k) [] → ⊥
 unfolding After
 after-never zero w k h = behind-never (λ (v, (e, l)). not-cons (sym e)) h
 after-never (suc n) w k h = behind-never (λ (v, (e, l)). not-cons (sym e)) h
@@ -137,7 +113,7 @@ module _ (v : Bytes) where
   unit-never (Conditions.! h) e = not-cons (sym e)
   unit-never (Conditions.brackets h) e = not-cons (sym e)
 
-pub nothing-left : (q : State) → Lang q [] ↔ (accepts q ≡ true)
+pub nothing-left : (q : ScanState) → Lang q [] ↔ (accepts q ≡ true)
 unfolding Lang accepts
 nothing-left (lines s) = (λ f. lines-end f refl, ends-lines s)
 nothing-left (rest [] k) = (λ (v, (e, l)). nothing-left k .0 (subst (Lang k) (sym e) l), λ a. ([], (refl, nothing-left k .1 a)))
@@ -160,42 +136,26 @@ nothing-left (remark k) = (λ (u, (v, (e, r))). absurd (never u 10 v e), λ a. a
 nothing-left (unit n w k) = (λ (u, (v, (c, (e, (h, a))))). absurd (unit-never v h e), λ a. absurd (false≢true a))
 nothing-left (after n w k) = (λ h. absurd (after-never n w k h), λ a. absurd (false≢true a))
 
--- ---- a scan from a state on: nothing, or the place where it goes wrong
+-- ---- where a scan goes wrong
 
-abbrev pub later : Option ℕ → Option ℕ
-later none = none
-later (some p) = some (suc p)
-
-abbrev pub at-end : Bool → Option ℕ
-at-end true = none
-at-end false = some 0
-
-abbrev pub next : Option State → (State → Option ℕ) → Option ℕ
-next none f = some 0
-next (some q) f = later (f q)
-
-unfoldable pub judge : Bytes → State → Option ℕ
-judge [] q = at-end (accepts q)
-judge (x ∷ t) q = next (step q x) (judge t)
-
-pub record Wrong (q : State) (t : Bytes) (p : ℕ) : Type 0 where
+pub record Wrong (q : ScanState) (t : Bytes) (p : ℕ) : Type 0 where
   pub not-there : Lang q t → ⊥
   pub inside : p ≤ length t
   pub before : Alive q → (v : Bytes) × Lang q (take p t ++ v)
   pub there : p < length t → (v : Bytes) → Lang q (take (suc p) t ++ v) → ⊥
 
-abbrev pub Judged : State → Bytes → Option ℕ → Type 0
-Judged q t none = Lang q t
-Judged q t (some p) = Wrong q t p
+abbrev pub ScanJudged : ScanState → Bytes → Option ℕ → Type 0
+ScanJudged q t none = Lang q t
+ScanJudged q t (some p) = Wrong q t p
 
-by-step : (q : State) (x : ℕ) {o : Option State} (t : Bytes) → step q x ≡ o → Lang q (x ∷ t) ↔ By o t
+by-step : (q : ScanState) (x : ℕ) {o : Option ScanState} (t : Bytes) → step q x ≡ o → Lang q (x ∷ t) ↔ By o t
 by-step q x t e = subst (λ o. Lang q (x ∷ t) ↔ By o t) e (derive q x t)
 
-pub judged : (t : Bytes) (q : State) → Judged q t (judge t q)
+pub judged : (t : Bytes) (q : ScanState) → ScanJudged q t (judge t q)
 unfolding judge AliveBy
 judged [] q = go (accepts q) refl
   where
-    go : (b : Bool) → accepts q ≡ b → Judged q [] (at-end b)
+    go : (b : Bool) → accepts q ≡ b → ScanJudged q [] (at-end b)
     go true e = nothing-left q .1 e
     go false e = record {
       not-there = λ l. false≢true (sym e ∙ nothing-left q .0 l);
@@ -205,7 +165,7 @@ judged [] q = go (accepts q) refl
     }
 judged (x ∷ t) q = go (step q x) refl (judged t)
   where
-    on : (q′ : State) → step q x ≡ some q′ → (o : Option ℕ) → Judged q′ t o → Judged q (x ∷ t) (later o)
+    on : (q′ : ScanState) → step q x ≡ some q′ → (o : Option ℕ) → ScanJudged q′ t o → ScanJudged q (x ∷ t) (later o)
     on q′ e none l = by-step q x t e .1 l
     on q′ e (some p) w = record {
       not-there = λ l. w .not-there (by-step q x t e .0 l);
@@ -214,7 +174,7 @@ judged (x ∷ t) q = go (step q x) refl (judged t)
       there = λ h v l. w .there (omega arith) v (by-step q x (take (suc p) t ++ v) e .0 l);
     }
 
-    go : (o : Option State) → step q x ≡ o → ((q′ : State) → Judged q′ t (judge t q′)) → Judged q (x ∷ t) (next o (judge t))
+    go : (o : Option ScanState) → step q x ≡ o → ((q′ : ScanState) → ScanJudged q′ t (judge t q′)) → ScanJudged q (x ∷ t) (next o (judge t))
     go none e ih = record {
       not-there = λ l. by-step q x t e .0 l;
       inside = omega arith;

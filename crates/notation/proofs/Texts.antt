@@ -10,16 +10,16 @@ use Rattle.meaning.specs.Card.{Bytes}
 use Rattle.notation.specs.Lines.{Begin, Note, Notes, Lines, AtomsLine, ActionLine, DoLine, SelectLine, ReviseLine, BeginLine, Said, Text, card}
 use Rattle.notation.specs.Lines as L
 use Rattle.notation.specs.Reading.{Derived, WrongAt}
-use Rattle.notation.proofs.Scanning.{Start, first, actions, dos, selects, revises, ending, lines}
-use Rattle.notation.proofs.Following.{From, finished, noted, counted, weighed, done, selected, revised, begun, doable, selectable, revisable, Lang}
+use Rattle.notation.specs.Scanning.{Start, first, actions, dos, selects, revises, ending, lines, judge}
+use Rattle.notation.proofs.Following.{LinesFrom, finished, noted, counted, weighed, done, selected, revised, begun, doable, selectable, revisable, Lang}
 use Rattle.notation.proofs.Alive.{Alive}
-use Rattle.notation.proofs.Scan.{judge, Judged, judged}
+use Rattle.notation.proofs.Scan.{ScanJudged, judged}
 
 -- ---- from lines to a text: the sections from a start on
 
 module _ {X : Type 0} (Line : Bytes → X → Type 0) (Rest : Bytes → Type 0) where
   -- lines of a kind, and then the sections behind
-  record Section (t : Bytes) : Type 0 where
+  record TextSection (t : Bytes) : Type 0 where
     bytes : Bytes
     said : List X
     behind : Bytes
@@ -27,10 +27,10 @@ module _ {X : Type 0} (Line : Bytes → X → Type 0) (Rest : Bytes → Type 0) 
     rest : Rest behind
     whole : t ≡ bytes ++ behind
 
-  none-here : {t : Bytes} → Rest t → Section t
+  none-here : {t : Bytes} → Rest t → TextSection t
   none-here {t} r = record { bytes = []; said = []; behind = t; section = L.none; rest = r; whole = refl }
 
-  note-here : {u t : Bytes} → Note u → Section t → Section (u ++ t)
+  note-here : {u t : Bytes} → Note u → TextSection t → TextSection (u ++ t)
   note-here {u} n s = record {
     bytes = u ++ s .bytes;
     said = s .said;
@@ -40,7 +40,7 @@ module _ {X : Type 0} (Line : Bytes → X → Type 0) (Rest : Bytes → Type 0) 
     whole = ap (λ z. u ++ z) (s .whole) ∙ sym (append-assoc u (s .bytes) (s .behind));
   }
 
-  line-here : {u t : Bytes} {x : X} → Line u x → Section t → Section (u ++ t)
+  line-here : {u t : Bytes} {x : X} → Line u x → TextSection t → TextSection (u ++ t)
   line-here {u} {x = x} l s = record {
     bytes = u ++ s .bytes;
     said = x ∷ s .said;
@@ -71,24 +71,24 @@ record Atoms-said (Rest : Bytes → Type 0) (t : Bytes) : Type 0 where
   whole : t ≡ notes-bytes ++ (bytes ++ behind)
 
 abbrev From-revises : Bytes → Type 0
-From-revises = Section ReviseLine Start-said
+From-revises = TextSection ReviseLine Start-said
 
 abbrev From-selects : Bytes → Type 0
-From-selects = Section SelectLine From-revises
+From-selects = TextSection SelectLine From-revises
 
 abbrev From-dos : Bytes → Type 0
-From-dos = Section DoLine From-selects
+From-dos = TextSection DoLine From-selects
 
 abbrev From-actions : Bytes → Type 0
-From-actions = Section ActionLine From-dos
+From-actions = TextSection ActionLine From-dos
 
-abbrev Sections : Start → Bytes → Type 0
-Sections first t = Atoms-said From-actions t
-Sections actions t = From-actions t
-Sections dos t = From-dos t
-Sections selects t = From-selects t
-Sections revises t = From-revises t
-Sections ending t = Notes t
+abbrev TextSections : Start → Bytes → Type 0
+TextSections first t = Atoms-said From-actions t
+TextSections actions t = From-actions t
+TextSections dos t = From-dos t
+TextSections selects t = From-selects t
+TextSections revises t = From-revises t
+TextSections ending t = Notes t
 
 to-actions : {t : Bytes} → From-dos t → From-actions t
 to-actions = none-here ActionLine From-dos
@@ -99,7 +99,7 @@ to-dos = none-here DoLine From-selects
 to-selects : {t : Bytes} → From-revises t → From-selects t
 to-selects = none-here SelectLine From-revises
 
-noted-so : (s : Start) {u : Bytes} (t : Bytes) → Note u → Sections s t → Sections s (u ++ t)
+noted-so : (s : Start) {u : Bytes} (t : Bytes) → Note u → TextSections s t → TextSections s (u ++ t)
 noted-so first {u} t n a = record {
   notes-bytes = u ++ a .notes-bytes;
   bytes = a .bytes;
@@ -116,7 +116,7 @@ noted-so selects t n s = note-here SelectLine From-revises n s
 noted-so revises t n s = note-here ReviseLine Start-said n s
 noted-so ending t n s = L.more n s
 
-done-so : (s : Start) → doable s ≡ true → {t : Bytes} → From-dos t → Sections s t
+done-so : (s : Start) → doable s ≡ true → {t : Bytes} → From-dos t → TextSections s t
 done-so first m h = absurd (false≢true m)
 done-so actions m h = to-actions h
 done-so dos m h = h
@@ -124,7 +124,7 @@ done-so selects m h = absurd (false≢true m)
 done-so revises m h = absurd (false≢true m)
 done-so ending m h = absurd (false≢true m)
 
-selected-so : (s : Start) → selectable s ≡ true → {t : Bytes} → From-selects t → Sections s t
+selected-so : (s : Start) → selectable s ≡ true → {t : Bytes} → From-selects t → TextSections s t
 selected-so first m h = absurd (false≢true m)
 selected-so actions m h = to-actions (to-dos h)
 selected-so dos m h = to-dos h
@@ -132,7 +132,7 @@ selected-so selects m h = h
 selected-so revises m h = absurd (false≢true m)
 selected-so ending m h = absurd (false≢true m)
 
-revised-so : (s : Start) → revisable s ≡ true → {t : Bytes} → From-revises t → Sections s t
+revised-so : (s : Start) → revisable s ≡ true → {t : Bytes} → From-revises t → TextSections s t
 revised-so first m h = absurd (false≢true m)
 revised-so actions m h = to-actions (to-dos (to-selects h))
 revised-so dos m h = to-dos (to-selects h)
@@ -143,7 +143,7 @@ revised-so ending m h = absurd (false≢true m)
 no-notes : Notes []
 no-notes = L.none
 
-sections : {s : Start} {t : Bytes} → From s t → Sections s t
+sections : {s : Start} {t : Bytes} → LinesFrom s t → TextSections s t
 sections finished = no-notes
 sections {s} (noted {t = t} n f) = noted-so s t n (sections f)
 sections (counted {u = u} {t = t} {n = n} l f) = record { notes-bytes = []; bytes = u; said = n; behind = t; notes = L.none; line = l; rest = sections f; whole = refl }
@@ -154,7 +154,7 @@ sections {s} (revised m l f) = revised-so s m (line-here ReviseLine Start-said l
 sections {s} (begun {u = u} {t = t} {d = d} m l f) =
     revised-so s m (none-here ReviseLine Start-said (record { bytes = u; said = d; behind = t; line = l; rest = sections f; whole = refl }))
 
-to-text : (t : Bytes) → From first t → Derived t
+to-text : (t : Bytes) → LinesFrom first t → Derived t
 to-text t f =
     let a = sections f in
     let w = a .rest in
@@ -169,45 +169,45 @@ to-text t f =
 
 -- ---- and back
 
-notes-from : (s : Start) {u : Bytes} (t : Bytes) → Notes u → From s t → From s (u ++ t)
+notes-from : (s : Start) {u : Bytes} (t : Bytes) → Notes u → LinesFrom s t → LinesFrom s (u ++ t)
 notes-from s t L.none f = f
-notes-from s t (L.more {u = u} {v = v} n r) f = subst (From s) (sym (append-assoc u v t)) (noted n (notes-from s t r f))
+notes-from s t (L.more {u = u} {v = v} n r) f = subst (LinesFrom s) (sym (append-assoc u v t)) (noted n (notes-from s t r f))
 
-module _ {X : Type 0} (Line : Bytes → X → Type 0) (s : Start) (one : (u t : Bytes) (x : X) → Line u x → From s t → From s (u ++ t)) where
-  lines-from : {u : Bytes} {xs : List X} (t : Bytes) → Lines Line u xs → From s t → From s (u ++ t)
+module _ {X : Type 0} (Line : Bytes → X → Type 0) (s : Start) (one : (u t : Bytes) (x : X) → Line u x → LinesFrom s t → LinesFrom s (u ++ t)) where
+  lines-from : {u : Bytes} {xs : List X} (t : Bytes) → Lines Line u xs → LinesFrom s t → LinesFrom s (u ++ t)
   lines-from t L.none f = f
-  lines-from t (L.note {u = u} {v = v} n r) f = subst (From s) (sym (append-assoc u v t)) (noted n (lines-from t r f))
-  lines-from t (L.line {u = u} {v = v} {x = x} l r) f = subst (From s) (sym (append-assoc u v t)) (one u (v ++ t) x l (lines-from t r f))
+  lines-from t (L.note {u = u} {v = v} n r) f = subst (LinesFrom s) (sym (append-assoc u v t)) (noted n (lines-from t r f))
+  lines-from t (L.line {u = u} {v = v} {x = x} l r) f = subst (LinesFrom s) (sym (append-assoc u v t)) (one u (v ++ t) x l (lines-from t r f))
 
 -- lines that may stand behind others of an earlier kind may stand there without them
-revises-selects : {t : Bytes} → From revises t → From selects t
+revises-selects : {t : Bytes} → LinesFrom revises t → LinesFrom selects t
 revises-selects (noted n f) = noted n (revises-selects f)
 revises-selects (done m l f) = absurd (false≢true m)
 revises-selects (selected m l f) = absurd (false≢true m)
 revises-selects (revised m l f) = revised refl l f
 revises-selects (begun m l f) = begun refl l f
 
-selects-dos : {t : Bytes} → From selects t → From dos t
+selects-dos : {t : Bytes} → LinesFrom selects t → LinesFrom dos t
 selects-dos (noted n f) = noted n (selects-dos f)
 selects-dos (done m l f) = absurd (false≢true m)
 selects-dos (selected m l f) = selected refl l f
 selects-dos (revised m l f) = revised refl l f
 selects-dos (begun m l f) = begun refl l f
 
-dos-actions : {t : Bytes} → From dos t → From actions t
+dos-actions : {t : Bytes} → LinesFrom dos t → LinesFrom actions t
 dos-actions (noted n f) = noted n (dos-actions f)
 dos-actions (done m l f) = done refl l f
 dos-actions (selected m l f) = selected refl l f
 dos-actions (revised m l f) = revised refl l f
 dos-actions (begun m l f) = begun refl l f
 
-of-text : (t : Bytes) (s : Said) → Text t s → From first t
+of-text : (t : Bytes) (s : Said) → Text t s → LinesFrom first t
 of-text _ _ (card {u} {a} {w} {d} {s} {r} {b} {v} n l ws ds ss rs bl vs) =
-    let f6 : From ending v = subst (From ending) (append-nil v) (notes-from ending [] vs finished) in
-    let f5 : From revises (r ++ (b ++ v)) = lines-from ReviseLine revises (λ u t x l. revised refl l) (b ++ v) rs (begun refl bl f6) in
-    let f4 : From selects (s ++ (r ++ (b ++ v))) = lines-from SelectLine selects (λ u t x l. selected refl l) (r ++ (b ++ v)) ss (revises-selects f5) in
-    let f3 : From dos (d ++ (s ++ (r ++ (b ++ v)))) = lines-from DoLine dos (λ u t x l. done refl l) (s ++ (r ++ (b ++ v))) ds (selects-dos f4) in
-    let f2 : From actions (w ++ (d ++ (s ++ (r ++ (b ++ v))))) = lines-from ActionLine actions (λ u t x l. weighed l) (d ++ (s ++ (r ++ (b ++ v)))) ws (dos-actions f3) in
+    let f6 : LinesFrom ending v = subst (LinesFrom ending) (append-nil v) (notes-from ending [] vs finished) in
+    let f5 : LinesFrom revises (r ++ (b ++ v)) = lines-from ReviseLine revises (λ u t x l. revised refl l) (b ++ v) rs (begun refl bl f6) in
+    let f4 : LinesFrom selects (s ++ (r ++ (b ++ v))) = lines-from SelectLine selects (λ u t x l. selected refl l) (r ++ (b ++ v)) ss (revises-selects f5) in
+    let f3 : LinesFrom dos (d ++ (s ++ (r ++ (b ++ v)))) = lines-from DoLine dos (λ u t x l. done refl l) (s ++ (r ++ (b ++ v))) ds (selects-dos f4) in
+    let f2 : LinesFrom actions (w ++ (d ++ (s ++ (r ++ (b ++ v))))) = lines-from ActionLine actions (λ u t x l. weighed l) (d ++ (s ++ (r ++ (b ++ v)))) ws (dos-actions f3) in
     notes-from first (a ++ (w ++ (d ++ (s ++ (r ++ (b ++ v)))))) n (counted l f2)
 
 -- ---- 17
@@ -224,7 +224,7 @@ pub scanned : (t : Bytes) → Scanned t (judge t (lines first))
 unfolding Lang
 scanned t = go (judge t (lines first)) (judged t (lines first))
   where
-    go : (o : Option ℕ) → Judged (lines first) t o → Scanned t o
+    go : (o : Option ℕ) → ScanJudged (lines first) t o → Scanned t o
     go none f = to-text t f
     go (some p) w = record {
       not-derived = λ (s, x). w .not-there (of-text t s x);

@@ -3,6 +3,7 @@ use mathlib.Core.List.{List, [], _∷_, _++_, map, flatten}
 use Prim.Native.Nat.{ℕ, _+_, _-_, _/_, _%_, _^_}
 use lib.ListN.{length, replicate}
 use Rattle.paper.specs.Atoms.{Atoms, _∪_}
+use Rattle.meaning.specs.Sizes.{edition1Set}
 use Rattle.meaning.specs.Card.{Bytes}
 use Rattle.meaning.specs.Place.{twoBytes}
 use Rattle.notation.specs.Conditions.{Tree, true, believes, goal, not, and, or, treesOf}
@@ -52,11 +53,11 @@ sizes (t ∷ ts) = size t + sizes ts
 
 -- 01, "The card, edition 1": "A set of atoms is 16 bytes; atom k is bit (k modulo 8) of byte (k divided by 8).": of one atom.
 abbrev pub single : ℕ → Atoms
-single n = replicate (n / 8) 0 ++ (2 ^ (n % 8) ∷ replicate (15 - n / 8) 0)
+single n = replicate (n / 8) 0 ++ (2 ^ (n % 8) ∷ replicate (edition1Set - 1 - n / 8) 0)
 
 -- docs/TEXT.md: "A set's numbers may come in any order and twice"
 unfoldable pub setOf : List ℕ → Atoms
-setOf [] = replicate 16 0
+setOf [] = replicate edition1Set 0
 setOf (n ∷ ns) = single n ∪ setOf ns
 
 -- docs/TEXT.md: "The pool has the plans in the order of the text"

@@ -5,4 +5,7 @@ pub mod Built
 pub mod Reading
 pub mod Printing
 pub mod Theorems
+pub mod Scanning
+pub mod Values
+pub mod Making
 pub mod Cases

@@ -4,14 +4,14 @@ use mathlib.Core.List.{List, [], _∷_, _++_}
 use Prim.Native.Nat.{ℕ, zero, suc, max, _+_, _/_, _%_}
 use Prim.Native.Char.{code}
 use lib.Dec.{leb, ltb}
-use lib.ListN.{length, getD}
+use lib.ListN.{getD}
 use Rattle.meaning.specs.declared.Refusal.{Refusal}
 use Rattle.meaning.specs.declared.Answer.{Answer}
-use Rattle.meaning.specs.declared.Answer.the-variants.{Done, Refused}
 use Rattle.meaning.specs.declared.Layout.{Layout}
+use Rattle.meaning.specs.Kinds.{NodeKind, True, Believes, HasGoal, Not, And, Or, Unknown, nodeKind}
 use Rattle.meaning.specs.Card.{Bytes, layout, nodes, pass}
 use Rattle.meaning.specs.Refusals.{Row, _given-when_, firstGiven, andThen, cardAnswer}
-use Rattle.meaning.specs.Calls.{over, roomFor}
+use Rattle.meaning.specs.Calls.{roomFor, countBy, leavesBy}
 use Rattle.notation.specs.Words.{word}
 use Rattle.notation.specs.Conditions.{Tree, true, believes, goal, and, or}
 use Rattle.notation.specs.Conditions as Conditions
@@ -21,18 +21,18 @@ use Rattle.notation.specs.Built.{size}
 
 -- 01, "The card, edition 1": "Kind 0 true …; 1 believes a; 2 has goal a …; 3 not a …; 4 a and b; 5 a or b.", by the trees of the
 -- lower nodes. What is no such node is "true" (docs/DECISIONS.md, "An unknown node or kind in the definitions").
-abbrev pub treeOf : ℕ → ℕ → ℕ → (ℕ → Tree) → Tree
-treeOf zero a b tree = true
-treeOf (suc zero) a b tree = believes a
-treeOf (suc (suc zero)) a b tree = goal a
-treeOf (suc (suc (suc zero))) a b tree = Conditions.not (tree a)
-treeOf (suc (suc (suc (suc zero)))) a b tree = and (tree a) (tree b)
-treeOf (suc (suc (suc (suc (suc zero))))) a b tree = or (tree a) (tree b)
-treeOf (suc (suc (suc (suc (suc (suc k)))))) a b tree = true
+abbrev pub treeOf : NodeKind → ℕ → ℕ → (ℕ → Tree) → Tree
+treeOf True a b tree = true
+treeOf Believes a b tree = believes a
+treeOf HasGoal a b tree = goal a
+treeOf Not a b tree = Conditions.not (tree a)
+treeOf And a b tree = and (tree a) (tree b)
+treeOf Or a b tree = or (tree a) (tree b)
+treeOf Unknown a b tree = true
 
 -- 02, Wish 2: "the same tree": what each node stands for, in one pass.
 unfoldable pub trees : Layout → Bytes → List Tree
-trees l b = pass (λ i n tree. treeOf (n .kind) (n .a) (n .b) tree) true (nodes l b)
+trees l b = pass (λ i n tree. treeOf (nodeKind (n .kind)) (n .a) (n .b) tree) true (nodes l b)
 
 -- The tree of a node, by its number.
 abbrev pub treeAt : Layout → Bytes → ℕ → Tree
@@ -107,16 +107,6 @@ printed b n = textOf (treeAt (layout b) b n)
 -- docs/TEXT.md: "It refuses: the card with 1 to 9; 7 …; 18 …; 25 …; 12 if the lent buffer is shorter than the text."
 unfoldable pub printAnswer : Bytes → ℕ → Bytes → Answer
 printAnswer b n out = andThen (cardAnswer b) (andThen (firstGiven (printTable (layout b) b) n) (roomFor (printed b n) out))
-
--- 01, "Numbers the guide may answer": "Any count in a refusal is 0.": how many bytes are written of a text.
-abbrev pub countBy : Answer → Bytes → ℕ
-countBy Done text = length text
-countBy (Refused r) text = 0
-
--- 01, "Numbers the guide may answer": "No lent buffer is written" by a refusal.
-abbrev pub leavesBy : Answer → Bytes → Bytes → Bytes
-leavesBy Done text out = over text out
-leavesBy (Refused r) text out = out
 
 -- What printing answers beside the number, and what the lent buffer then holds.
 unfoldable pub printCount : Bytes → ℕ → Bytes → ℕ

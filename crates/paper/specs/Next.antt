@@ -8,6 +8,11 @@ use lib.ListN.{length, drop, getElem?}
 use Rattle.paper.specs.Language.{BasicAction, Plan, Specification, Selection, Revision, Agent, Config, ⟨_/_/_⟩}
 use Rattle.paper.specs.Transitions.{_⊨_, Choice, select, act, revise, σ′, γ′}
 
+-- One of two, by a truth value.
+abbrev pub if : {X : Type 0} → Bool → X → X → X
+if true x y = x
+if false x y = y
+
 -- Serves canSelect: 01, "A configuration and its transitions", Selection: "the plan is empty".
 abbrev pub isEmpty : Plan → Bool
 isEmpty [] = true

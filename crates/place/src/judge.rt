@@ -2,27 +2,28 @@
 // every byte string. Each function asks one row and, where it is passed, calls the next.
 ghost use mathlib.Core.Path.{_≡_};
 ghost use Prim.Native.Nat.{_≤_};
-ghost use lib.Dec.{leb};
 ghost use lib.ListN.{length, drop};
-ghost use Rattle.meaning.specs.Refusals.{actionsGood, placeCountsGood, placeOffsetsGood, firstGiven, placeTable};
+ghost use Rattle.meaning.specs.Sizes.{setBytes, planAt};
+ghost use Rattle.meaning.specs.Refusals.{actionsGood, placeLongEnough, placeCountsGood, placeOffsetsGood, firstGiven, placeTable};
+ghost use Rattle.layout.specs.GoodLayout.{Counted};
 ghost use Rattle.layout.specs.PlaceParts.{placeParts};
-ghost use Rattle.card.specs.Rows.{rowsFrom};
+ghost use Rattle.card.specs.Rows.{PlaceRow, placeFrom};
 use card::check::row;
 use card::contents::actions_good;
 use layout::bytes::mark_good;
 use layout::limits::longest_plan;
 use layout::place::PlaceParts;
 use layout::place::place_size;
-use layout::place::plan_at;
 use layout::place::read_parts;
+use layout::sizes::plan_at;
 use meaning::Answer;
 use meaning::Layout;
 use meaning::Refusal;
 
 // Row 9, the last: "a set has a bit at or above the number of atoms".
 fn from_sets(l: Layout, p: &[u8], h: PlaceParts) -> Answer
-    requires { ⌜ (44 ≤ length (now p)) × (h ≡ placeParts (now p)) × (l .atoms ≤ 128) ⌝ }
-    ensures { λ r. ⌜ r ≡ rowsFrom 5 (placeTable l) (now (p .entry)) ⌝ }
+    requires { ⌜ (planAt (setBytes l) ≤ length (now p)) × (h ≡ placeParts l (now p)) × Counted l ⌝ }
+    ensures { λ r. ⌜ r ≡ placeFrom PlaceRow.sets l (now (p .entry)) ⌝ }
 {
     let b = h.beliefs;
     let g = h.goals;
@@ -30,20 +31,20 @@ fn from_sets(l: Layout, p: &[u8], h: PlaceParts) -> Answer
 }
 
 // Not row 8: "a pool or plan byte is not below the number of actions".
-fn plan_good(p: &[u8], actions: usize) -> bool
-    requires { ⌜ 44 ≤ length (now p) ⌝ }
-    ensures { λ r. ⌜ r ≡ actionsGood actions (drop 44 (now (p .entry))) ⌝ }
+fn plan_good(l: Layout, p: &[u8]) -> bool
+    requires { ⌜ (planAt (setBytes l) ≤ length (now p)) × Counted l ⌝ }
+    ensures { λ r. ⌜ r ≡ actionsGood (l .actions) (drop (planAt (setBytes l)) (now (p .entry))) ⌝ }
 {
-    let at = plan_at();
-    actions_good(p, at, p.len() - at, actions)
+    let at = plan_at(l);
+    actions_good(p, at, p.len() - at, l.actions)
 }
 
 // Row 8, then 9.
 fn from_plan(l: Layout, p: &[u8], h: PlaceParts) -> Answer
-    requires { ⌜ (44 ≤ length (now p)) × (h ≡ placeParts (now p)) × (l .atoms ≤ 128) ⌝ }
-    ensures { λ r. ⌜ r ≡ rowsFrom 4 (placeTable l) (now (p .entry)) ⌝ }
+    requires { ⌜ (planAt (setBytes l) ≤ length (now p)) × (h ≡ placeParts l (now p)) × Counted l ⌝ }
+    ensures { λ r. ⌜ r ≡ placeFrom PlaceRow.plan l (now (p .entry)) ⌝ }
 {
-    let a = row(plan_good(p, l.actions), Refusal::ActionByte);
+    let a = row(plan_good(l, p), Refusal::ActionByte);
     let Answer::Done = a else {
         return a;
     };
@@ -51,19 +52,19 @@ fn from_plan(l: Layout, p: &[u8], h: PlaceParts) -> Answer
 }
 
 // Not row 4: "an offset or the total length is not the required one". "plan offset 44 at 6 … Exactly 44 + L bytes."
-fn offsets_good(p: &[u8], h: PlaceParts) -> bool
-    requires { ⌜ (h ≡ placeParts (now p)) × (h .length ≤ 65535) ⌝ }
-    ensures { λ r. ⌜ r ≡ placeOffsetsGood (now (p .entry)) ⌝ }
+fn offsets_good(l: Layout, p: &[u8], h: PlaceParts) -> bool
+    requires { ⌜ (h ≡ placeParts l (now p)) × (h .length ≤ 65535) ⌝ }
+    ensures { λ r. ⌜ r ≡ placeOffsetsGood l (now (p .entry)) ⌝ }
 {
-    (h.offset == plan_at()) & (p.len() == place_size(h.length))
+    (h.offset == plan_at(l)) & (p.len() == place_size(l, h.length))
 }
 
 // Row 4, then 8 and 9.
 fn from_offsets(l: Layout, p: &[u8], h: PlaceParts) -> Answer
-    requires { ⌜ (44 ≤ length (now p)) × (h ≡ placeParts (now p)) × (h .length ≤ 65535) × (l .atoms ≤ 128) ⌝ }
-    ensures { λ r. ⌜ r ≡ rowsFrom 3 (placeTable l) (now (p .entry)) ⌝ }
+    requires { ⌜ (planAt (setBytes l) ≤ length (now p)) × (h ≡ placeParts l (now p)) × (h .length ≤ 65535) × Counted l ⌝ }
+    ensures { λ r. ⌜ r ≡ placeFrom PlaceRow.offsets l (now (p .entry)) ⌝ }
 {
-    let a = row(offsets_good(p, h), Refusal::Offsets);
+    let a = row(offsets_good(l, p, h), Refusal::Offsets);
     let Answer::Done = a else {
         return a;
     };
@@ -71,8 +72,8 @@ fn from_offsets(l: Layout, p: &[u8], h: PlaceParts) -> Answer
 }
 
 // Not row 3: "in a place L over 1,024, phase over 2". The finished count, which any two bytes are, has no rule.
-fn counts_good(p: &[u8], h: PlaceParts) -> bool
-    requires { ⌜ h ≡ placeParts (now p) ⌝ }
+fn counts_good(l: Layout, p: &[u8], h: PlaceParts) -> bool
+    requires { ⌜ h ≡ placeParts l (now p) ⌝ }
     ensures { λ r. ⌜ r ≡ placeCountsGood (now (p .entry)) ⌝ }
 {
     (h.length <= longest_plan()) & (h.phase <= 2)
@@ -80,11 +81,11 @@ fn counts_good(p: &[u8], h: PlaceParts) -> bool
 
 // Row 3, then 4, 8 and 9.
 fn from_counts(l: Layout, p: &[u8]) -> Answer
-    requires { ⌜ (44 ≤ length (now p)) × (l .atoms ≤ 128) ⌝ }
-    ensures { λ r. ⌜ r ≡ rowsFrom 2 (placeTable l) (now (p .entry)) ⌝ }
+    requires { ⌜ (planAt (setBytes l) ≤ length (now p)) × Counted l ⌝ }
+    ensures { λ r. ⌜ r ≡ placeFrom PlaceRow.counts l (now (p .entry)) ⌝ }
 {
-    let h = read_parts(p);
-    let a = row(counts_good(p, h), Refusal::Count);
+    let h = read_parts(l, p);
+    let a = row(counts_good(l, p, h), Refusal::Count);
     let Answer::Done = a else {
         return a;
     };
@@ -93,8 +94,8 @@ fn from_counts(l: Layout, p: &[u8]) -> Answer
 
 // Row 2, then 3, 4, 8 and 9. "Bytes 33 50 hex; edition 1 at 2".
 fn from_mark(l: Layout, p: &[u8]) -> Answer
-    requires { ⌜ (44 ≤ length (now p)) × (l .atoms ≤ 128) ⌝ }
-    ensures { λ r. ⌜ r ≡ rowsFrom 1 (placeTable l) (now (p .entry)) ⌝ }
+    requires { ⌜ (planAt (setBytes l) ≤ length (now p)) × Counted l ⌝ }
+    ensures { λ r. ⌜ r ≡ placeFrom PlaceRow.mark l (now (p .entry)) ⌝ }
 {
     let a = row(mark_good(p, 0x50), Refusal::Mark);
     let Answer::Done = a else {
@@ -104,18 +105,18 @@ fn from_mark(l: Layout, p: &[u8]) -> Answer
 }
 
 // Not row 1: "place under 44".
-fn length_good(p: &[u8]) -> bool
-    ensures { λ r. ⌜ r ≡ leb 44 (length (now (p .entry))) ⌝ }
+fn length_good(l: Layout, p: &[u8]) -> bool
+    ensures { λ r. ⌜ r ≡ placeLongEnough l (now (p .entry)) ⌝ }
 {
-    plan_at() <= p.len()
+    plan_at(l) <= p.len()
 }
 
 // The number that a place is answered with.
 pub fn judge_place(l: Layout, p: &[u8]) -> Answer
-    requires { ⌜ l .atoms ≤ 128 ⌝ }
+    requires { ⌜ Counted l ⌝ }
     ensures { λ r. ⌜ r ≡ firstGiven (placeTable l) (now (p .entry)) ⌝ }
 {
-    let a = row(length_good(p), Refusal::Short);
+    let a = row(length_good(l, p), Refusal::Short);
     let Answer::Done = a else {
         return a;
     };

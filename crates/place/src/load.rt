@@ -2,15 +2,11 @@
 // at load likewise".
 ghost use mathlib.Core.Path.{_≡_};
 ghost use lib.ListN.{length};
-ghost use Rattle.meaning.specs.Card.{start};
-ghost use Rattle.meaning.specs.Configurations.{configurationOf, empty};
+ghost use Rattle.door.specs.Words.{start, configurationOf, empty, configured, GoodCard, replyWith};
 ghost use Rattle.meaning.specs.Calls.{loads};
-ghost use Rattle.layout.specs.PlaceParts.{lent};
-ghost use Rattle.card.specs.GoodCard.{GoodCard};
-ghost use Rattle.choices.specs.InPlace.{replyWith};
 use card::check::answer_of;
 use card::check::check;
-use choices::in_place::ReplyInPlace;
+use door::in_place::ReplyInPlace;
 use layout::bytes::size;
 use layout::entries::initial_beliefs;
 use layout::entries::initial_goals;
@@ -19,17 +15,18 @@ use meaning::Answer;
 use meaning::Checked;
 use meaning::Layout;
 use meaning::Mind;
+use meaning::Plan;
 
 // The mind that an accepted card starts with; its initial plan goes to the lent one.
-fn first(card: &[u8], l: Layout, plan: &mut [u8; 1024]) -> Mind
+fn first(card: &[u8], l: Layout, plan: &mut Plan) -> Mind
     requires { ⌜ GoodCard l (now card) × (length (now plan) ≡ 1024) ⌝ }
-    ensures { λ r. ⌜ lent r (now (plan .exit)) ≡ configurationOf (start (now (card .entry))) ⌝ }
+    ensures { λ r. ⌜ configured r (now (plan .exit)) ≡ configurationOf (start (now (card .entry))) ⌝ }
 {
     let initial = l.initial;
     let n = initial.length;
     let at = pool_at(l, initial.start);
-    let beliefs = initial_beliefs(card);
-    let goals = sets::difference(initial_goals(card), beliefs);
+    let beliefs = initial_beliefs(card, l);
+    let goals = sets::difference(initial_goals(card, l), beliefs);
     plans::fill(plan, card, at, n);
     Mind {
         beliefs: beliefs,
@@ -41,8 +38,8 @@ fn first(card: &[u8], l: Layout, plan: &mut [u8; 1024]) -> Mind
 }
 
 // "the empty one (no atoms, empty plan, phase 0)"
-pub fn empty_mind(plan: &mut [u8; 1024]) -> Mind
-    ensures { λ r. ⌜ lent r (now (plan .exit)) ≡ empty ⌝ }
+pub fn empty_mind(plan: &mut Plan) -> Mind
+    ensures { λ r. ⌜ configured r (now (plan .exit)) ≡ empty ⌝ }
 {
     let room = size(plan);
     plans::fill(plan, b"", 0, 0);
@@ -56,7 +53,7 @@ pub fn empty_mind(plan: &mut [u8; 1024]) -> Mind
 }
 
 // The configuration that a card starts with, the plan's bytes in the lent one; the empty one in a refusal.
-pub fn load(card: &[u8], plan: &mut [u8; 1024]) -> ReplyInPlace
+pub fn load(card: &[u8], plan: &mut Plan) -> ReplyInPlace
     ensures { λ r. ⌜ replyWith r (now (plan .exit)) ≡ loads (now (card .entry)) ⌝ }
 {
     let room = size(plan);

@@ -1,38 +1,38 @@
 // Restoring: the configuration that a place stands for, or the refusal.
 ghost use mathlib.Core.Path.{_≡_};
 ghost use lib.ListN.{length};
-ghost use Rattle.meaning.specs.Configurations.{configurationOf};
+ghost use Rattle.door.specs.Words.{configurationOf, configured, replyWith};
 ghost use Rattle.meaning.specs.Place.{placed};
 ghost use Rattle.meaning.specs.Calls.{restores};
-ghost use Rattle.layout.specs.PlaceParts.{lent};
-ghost use Rattle.choices.specs.InPlace.{replyWith};
 ghost use Rattle.place.specs.Rows.{Sized};
 use crate::judge::judge_place;
 use crate::load::empty_mind;
 use card::check::answer_of;
 use card::check::check;
-use choices::in_place::ReplyInPlace;
+use door::in_place::ReplyInPlace;
 use layout::bytes::size;
-use layout::place::plan_at;
 use layout::place::read_parts;
+use layout::sizes::plan_at;
 use meaning::Answer;
 use meaning::Checked;
+use meaning::Layout;
 use meaning::Mind;
+use meaning::Plan;
 
 // "plan length L at 4; … phase at 8; … beliefs at 12; goals at 28; the plan's L bytes at 44.", and the finished count "in bytes 10
 // and 11".
-fn read(p: &[u8], plan: &mut [u8; 1024]) -> Mind
-    requires { ⌜ Sized (now p) × (length (now plan) ≡ 1024) ⌝ }
-    ensures { λ r. ⌜ lent r (now (plan .exit)) ≡ configurationOf (placed (now (p .entry))) ⌝ }
+fn read(l: Layout, p: &[u8], plan: &mut Plan) -> Mind
+    requires { ⌜ Sized l (now p) × (length (now plan) ≡ 1024) ⌝ }
+    ensures { λ r. ⌜ configured r (now (plan .exit)) ≡ configurationOf (placed l (now (p .entry))) ⌝ }
 {
-    let h = read_parts(p);
+    let h = read_parts(l, p);
     let n = h.length;
     let beliefs = h.beliefs;
     let goals = h.goals;
     let length = n as u16;
     let phase = h.phase as u8;
     let finished = h.finished as u16;
-    plans::fill(plan, p, plan_at(), n);
+    plans::fill(plan, p, plan_at(l), n);
     Mind {
         beliefs: beliefs,
         goals: goals,
@@ -43,7 +43,7 @@ fn read(p: &[u8], plan: &mut [u8; 1024]) -> Mind
 }
 
 // The configuration that a place stands for, the plan's bytes in the lent one; the empty one in a refusal.
-pub fn restore(card: &[u8], p: &[u8], plan: &mut [u8; 1024]) -> ReplyInPlace
+pub fn restore(card: &[u8], p: &[u8], plan: &mut Plan) -> ReplyInPlace
     ensures { λ r. ⌜ replyWith r (now (plan .exit)) ≡ restores (now (card .entry)) (now (p .entry)) ⌝ }
 {
     let room = size(plan);
@@ -63,7 +63,7 @@ pub fn restore(card: &[u8], p: &[u8], plan: &mut [u8; 1024]) -> ReplyInPlace
             mind: none,
         };
     };
-    let m = read(p, plan);
+    let m = read(l, p, plan);
     ReplyInPlace {
         answer: Answer::Done,
         mind: m,

@@ -10,7 +10,7 @@ use borrow.Author.Tests.{eqb-true, eq-eqb}
 use lib.Bits.{bitOr, bitXor, and-le-l, and-le-r, or-add-and, xor-add-and, or-zero-l, xor-self}
 use lib.Dec.{eqb}
 use lib.ListN.{drop-of-length-le, length, getD, set, take, drop, replicate, length-append, length-take, length-drop, length-replicate, getD-replicate, List·getD-append, replicate-append-replicate}
-use lib.Seq.{getD-take, take-nil, set-at, append-snoc, take-suc, drop-cons, getD-drop, take-at, drop-at, getD-append-add, length-take-le, paste, paste-suc, take-paste, drop-paste, length-paste-head, length-paste, drop-drop}
+use lib.Seq.{getD-take, take-nil, set-at, append-snoc, take-suc, drop-cons, take-at, drop-at, length-take-le, paste, paste-suc, take-paste, drop-paste, length-paste, drop-drop}
 use Rattle.paper.specs.Next.{isPrefix}
 use Rattle.paper.proofs.Relation.{both, false≢true}
 use Rattle.meaning.specs.Card.{part}
@@ -18,24 +18,11 @@ use Rattle.meaning.specs.Configurations.{padded}
 use Rattle.meaning.specs.Refusals.{every}
 use Rattle.meaning.proofs.Every.{both-true, same-truth, every-at, every-of}
 use Rattle.meaning.proofs.Parts.{length-part, part-at}
-use Rattle.layout.proofs.Copying.{copy-more}
 use Rattle.plans.specs.Plans.{Padded, shifted, same}
 
 -- ---- bytes that are copied over others
 
--- what stands behind the copy is as it was
-getD-after : (d : List ℕ) (at : ℕ) (s : List ℕ) (n k : ℕ) → at + n ≤ k → at ≤ length d → n ≤ length s → getD (paste d at s n) k 0 ≡ getD d k 0
-getD-after d at s n k h hd hs =
-    let p : List ℕ = take at d ++ take n s in
-    let lp : length p ≡ at + n = length-paste-head d at s n hd hs in
-    let e : k ≡ length p + (k - (at + n)) = omega arith in
-    let f : at + n + (k - (at + n)) ≡ k = omega arith in
-    ap (λ (x : ℕ). getD (p ++ drop (at + n) d) x 0) e
-    ∙ getD-append-add p (drop (at + n) d) (k - (at + n)) 0
-    ∙ getD-drop (at + n) d (k - (at + n)) 0
-    ∙ ap (λ (x : ℕ). getD d x 0) f
-
--- and so is what stands before it
+-- what stands before the copy is as it was
 getD-before : (d : List ℕ) (at : ℕ) (s : List ℕ) (n k : ℕ) → k < at → at ≤ length d → getD (paste d at s n) k 0 ≡ getD d k 0
 getD-before d at s n k h hd =
     let l : length (take at d) ≡ at = length-take-le at d hd in
@@ -51,13 +38,6 @@ drop-after d at s n k h hd hs =
     ∙ ap (drop (k - (at + n))) (drop-paste d at s n hd hs)
     ∙ drop-drop (k - (at + n)) (at + n) d
     ∙ ap (λ (x : ℕ). drop x d) e
-
--- a turn of a move down
-pub down-more : (d : List ℕ) (to from n : ℕ) → to ≤ from → from + n < length d
-    → set (paste d to (drop from d) n) (to + n) (getD (paste d to (drop from d) n) (from + n) 0) ≡ paste d to (drop from d) (n + 1)
-down-more d to from n h hd =
-    ap (set (paste d to (drop from d) n) (to + n)) (getD-after d to (drop from d) n (from + n) (omega arith) (omega arith) (rw (length-drop from d) (omega arith)))
-    ∙ copy-more d to d from n (omega arith) hd
 
 -- a turn of a move up: j + 1 are left, and then j
 up-suc : (d : List ℕ) (to from n j : ℕ) → from ≤ to → to + n ≤ length d → j < n

@@ -9,21 +9,10 @@ ghost use Rattle.meaning.specs.Card.{part};
 ghost use Rattle.meaning.specs.Configurations.{padded};
 ghost use Rattle.meaning.specs.Refusals.{every};
 ghost use Rattle.plans.specs.Plans.{Padded, shifted, same};
-
-// n bytes move down in place.
-fn down(s: &mut [u8; 1024], to: usize, from: usize, n: usize)
-    requires { ⌜ (to ≤ from) × (from + n ≤ 1024) × (length (now s) ≡ 1024) ⌝ }
-    ensures { λ r. ⌜ now (s .exit) ≡ paste (now (s .entry)) to (drop from (now (s .entry))) n ⌝ }
-{
-    let mut i: usize = 0;
-    while i < n {
-        s[to + i] = s[from + i];
-        i += 1;
-    }
-}
+use meaning::Plan;
 
 // n bytes move up in place, the last one first.
-fn up(s: &mut [u8; 1024], to: usize, from: usize, n: usize)
+fn up(s: &mut Plan, to: usize, from: usize, n: usize)
     requires { ⌜ (from ≤ to) × (to + n ≤ 1024) × (length (now s) ≡ 1024) ⌝ }
     ensures { λ r. ⌜ now (s .exit) ≡ paste (now (s .entry)) to (drop from (now (s .entry))) n ⌝ }
 {
@@ -35,7 +24,7 @@ fn up(s: &mut [u8; 1024], to: usize, from: usize, n: usize)
 }
 
 // Zeros from `from` to `to`.
-fn clear(s: &mut [u8; 1024], from: usize, to: usize)
+fn clear(s: &mut Plan, from: usize, to: usize)
     requires { ⌜ (from ≤ to) × (to ≤ 1024) × (length (now s) ≡ 1024) ⌝ }
     ensures { λ r. ⌜ now (s .exit) ≡ take from (now (s .entry)) ++ replicate (to - from) 0 ++ drop to (now (s .entry)) ⌝ }
 {
@@ -47,13 +36,13 @@ fn clear(s: &mut [u8; 1024], from: usize, to: usize)
 }
 
 // What stands after the first hlen actions moves to blen, and zeros stand after its end.
-fn shift(plan: &mut [u8; 1024], len: usize, hlen: usize, blen: usize)
+fn shift(plan: &mut Plan, len: usize, hlen: usize, blen: usize)
     requires { ⌜ (hlen ≤ len) × (len ≤ 1024) × (blen + (len - hlen) ≤ 1024) × Padded (now plan) len ⌝ }
     ensures { λ r. ⌜ now (plan .exit) ≡ shifted (now (plan .entry)) len hlen blen ⌝ }
 {
     let tail = len - hlen;
     if blen <= hlen {
-        down(plan, blen, hlen, tail);
+        layout::bytes::down(plan, blen, hlen, tail);
         clear(plan, blen + tail, len);
     } else {
         up(plan, blen, hlen, tail);
@@ -61,7 +50,7 @@ fn shift(plan: &mut [u8; 1024], len: usize, hlen: usize, blen: usize)
 }
 
 // The first k actions leave.
-pub fn drop_front(plan: &mut [u8; 1024], len: usize, k: usize)
+pub fn drop_front(plan: &mut Plan, len: usize, k: usize)
     requires { ⌜ (k ≤ len) × (len ≤ 1024) × Padded (now plan) len ⌝ }
     ensures { λ r. ⌜ now (plan .exit) ≡ padded (drop k (take len (now (plan .entry)))) ⌝ }
 {
@@ -70,7 +59,7 @@ pub fn drop_front(plan: &mut [u8; 1024], len: usize, k: usize)
 
 // The body, blen bytes of the card from bstart, takes the place of the first hlen actions.
 pub fn replace_front(
-    plan: &mut [u8; 1024],
+    plan: &mut Plan,
     len: usize,
     hlen: usize,
     card: &[u8],
@@ -85,7 +74,7 @@ pub fn replace_front(
 }
 
 // n bytes from an offset on become the plan, whatever it was.
-pub fn fill(plan: &mut [u8; 1024], bytes: &[u8], start: usize, n: usize)
+pub fn fill(plan: &mut Plan, bytes: &[u8], start: usize, n: usize)
     requires { ⌜ (n ≤ 1024) × (length (now plan) ≡ 1024) × (start + n ≤ length (now bytes)) ⌝ }
     ensures { λ r. ⌜ now (plan .exit) ≡ padded (part (now (bytes .entry)) start n) ⌝ }
 {
@@ -95,7 +84,7 @@ pub fn fill(plan: &mut [u8; 1024], bytes: &[u8], start: usize, n: usize)
 
 // Whether n bytes of the card, from `at` on, are those of the plan from `from` on: the bits in which any two differ are gathered
 // without an exit.
-fn same_bytes(card: &[u8], at: usize, plan: &[u8; 1024], from: usize, n: usize) -> bool
+fn same_bytes(card: &[u8], at: usize, plan: &Plan, from: usize, n: usize) -> bool
     requires { ⌜ (at + n ≤ length (now card)) × (from + n ≤ 1024) × (length (now plan) ≡ 1024) ⌝ }
     ensures { λ r. ⌜ r ≡ every n (same (now (card .entry)) at (now (plan .entry)) from) ⌝ }
 {
@@ -110,7 +99,7 @@ fn same_bytes(card: &[u8], at: usize, plan: &[u8; 1024], from: usize, n: usize) 
 
 // Whether the head, hlen bytes of the card from hstart, is a prefix of the plan. The first byte alone settles most heads. A long
 // head is compared by 64 bytes at a time; the last 64 may lie over those before.
-pub fn starts_with(card: &[u8], hstart: usize, hlen: usize, plan: &[u8; 1024], len: usize) -> bool
+pub fn starts_with(card: &[u8], hstart: usize, hlen: usize, plan: &Plan, len: usize) -> bool
     requires { ⌜ (1 ≤ hlen) × (hstart + hlen ≤ length (now card)) × (len ≤ 1024) × (length (now plan) ≡ 1024) ⌝ }
     ensures { λ r. ⌜ r ≡ isPrefix (part (now (card .entry)) hstart hlen) (take len (now (plan .entry))) ⌝ }
 {

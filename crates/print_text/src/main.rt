@@ -10,47 +10,36 @@ use answers::refusal_number;
 use card::check::check;
 use layout::entries::initial_beliefs;
 use layout::entries::initial_goals;
+use layout::entries::pool_at;
 use layout::entries::read_revision;
 use layout::entries::read_selection;
 use layout::entries::read_specification;
 use layout::entries::read_weight;
+use layout::sizes::most_atoms;
 use meaning::Checked;
 use meaning::Layout;
 use meaning::Refusal;
+use meaning::Set;
 use meaning::Span;
+use output::also;
+use output::write;
+use output::write_front;
 
 // ---- words, numbers, lists
 
-// Words.
-fn write(words: &[u8]) {
-    io::write_all(1, words);
-}
-
-// " " number
-fn also(n: u64) {
-    write(b" ");
-    io::print_decimal(1, n);
-}
-
-// The same of a byte.
+// " " byte
 fn also_byte(n: u8) {
-    also(n as u64);
-}
-
-// The first n bytes.
-fn write_front(bytes: &[u8], n: usize) {
-    if n <= bytes.len() {
-        io::write_all(1, &bytes[0..n]);
-    }
+    also(1, n as u64);
 }
 
 // A word, and a set as a list.
-fn write_set(word: &[u8], set: [u8; 16]) {
+fn write_set(word: &[u8], l: Layout, set: Set) {
     write(word);
-    let mut k: u8 = 0;
-    while k < 128 {
-        if sets::member(set, k) {
-            also_byte(k);
+    let n = most_atoms(l);
+    let mut k: usize = 0;
+    while k < n {
+        if sets::member(set, k as u8) {
+            also(1, k as u64);
         }
         k += 1;
     }
@@ -70,8 +59,7 @@ fn write_actions(actions: &[u8]) {
 fn write_plan(word: &[u8], card: &[u8], l: Layout, plan: Span)
     requires { ⌜ GoodLayout l (now card) × TwoByteSpan plan ⌝ }
 {
-    let pool = l.pool;
-    let from = pool.offset + plan.start;
+    let from = pool_at(l, plan.start);
     let to = from + plan.length;
     write(word);
     if to <= card.len() {
@@ -112,7 +100,7 @@ fn first_refusal(first: u16, second: u16) -> u16 {
 // That a line is left out: what it would say, its number, and the number that the printer refuses a condition of it with.
 fn leave_out(what: &[u8], i: usize, number: u16) {
     write(what);
-    also(i as u64);
+    also(1, i as u64);
     write(b" is left out: a condition of it");
     match number {
         18 => write(b" nests over 32 deep\n"),
@@ -141,8 +129,8 @@ fn write_specification(card: &[u8], l: Layout, i: usize)
     also_byte(e.action);
     write(b" if ");
     write_front(&text, printed.length);
-    write_set(b" add", add);
-    write_set(b" del", del);
+    write_set(b" add", l, add);
+    write_set(b" del", l, del);
     write(b"\n");
 }
 
@@ -195,7 +183,7 @@ fn write_weights(card: &[u8], l: Layout)
     let mut i: usize = 0;
     while i < n {
         write(b"action");
-        also(read_weight(card, l, i) as u64);
+        also(1, read_weight(card, l, i) as u64);
         write(b"\n");
         i += 1;
     }
@@ -244,10 +232,10 @@ fn write_revisions(card: &[u8], l: Layout)
 fn write_start(card: &[u8], l: Layout)
     requires { ⌜ GoodLayout l (now card) × TwoByteSpan (l .initial) ⌝ }
 {
-    let beliefs = initial_beliefs(card);
-    let goals = initial_goals(card);
-    write_set(b"begin beliefs", beliefs);
-    write_set(b" goals", goals);
+    let beliefs = initial_beliefs(card, l);
+    let goals = initial_goals(card, l);
+    write_set(b"begin beliefs", l, beliefs);
+    write_set(b" goals", l, goals);
     write_plan(b" plan", card, l, l.initial);
     write(b"\n");
 }
@@ -257,7 +245,7 @@ fn write_lines(card: &[u8], l: Layout)
     requires { ⌜ GoodLayout l (now card) × TwoByteSpan (l .initial) ⌝ }
 {
     write(b"atoms");
-    also(l.atoms as u64);
+    also(1, l.atoms as u64);
     write(b"\n");
     write_weights(card, l);
     write_specifications(card, l);
@@ -269,7 +257,7 @@ fn write_lines(card: &[u8], l: Layout)
 // A refusal, by its number.
 fn refused(refusal: Refusal) {
     write(b"refused");
-    also(refusal_number(refusal) as u64);
+    also(1, refusal_number(refusal) as u64);
     write(b"\n");
 }
 

@@ -2,26 +2,31 @@
 use mathlib.Core.Path.{_≡_, refl, ap, _∙_}
 use mathlib.Core.Bool.{Bool, true, false}
 use mathlib.Core.List.{[], _∷_}
-use Prim.Native.Nat.{ℕ, zero, suc, _+_, _/_, _%_, _≤_, _<_}
+use Prim.Native.Nat.{ℕ, _+_, _/_, _%_, _≤_, _<_}
 use Prim.Native.Char.{code}
+use native.Mathlib.Decide.{decLe}
 use native.Mathlib.Omega.{arith}
 use borrow.Author.Tests.{ltb-true, ltb-false}
 use lib.Dec.{ltb}
 use lib.ListN.{length, length-append}
+use Rattle.meaning.specs.Kinds.{NodeKind, nodeKind}
+use Rattle.meaning.proofs.NodeKinds.{Leaf, is-true, is-belief, is-goal, is-not, is-and, is-or, Known, leaf, inner, known-kind, unknown-kind}
 use Rattle.notation.specs.Printing.{decimal}
 use Rattle.notation.proofs.Decimals.{decimal-one, decimal-more}
-use Rattle.printer.specs.Measures.{lower, sizeBy, depthBy, lengthBy}
+use Rattle.printer.specs.Measures.{lower, sizeBy, depthBy}
 
 -- ---- by kinds that are not told one by one
 
-pub not-lower : (w k : ℕ) → (k ≡ 4 → ⊥) → (k ≡ 5 → ⊥) → lower w k ≡ false
-not-lower w zero a b = refl
-not-lower w (suc zero) a b = refl
-not-lower w (suc (suc zero)) a b = refl
-not-lower w (suc (suc (suc zero))) a b = refl
-not-lower w (suc (suc (suc (suc zero)))) a b = absurd (a refl)
-not-lower w (suc (suc (suc (suc (suc zero))))) a b = absurd (b refl)
-not-lower w (suc (suc (suc (suc (suc (suc k)))))) a b = refl
+known-not-lower : (w : ℕ) {k : ℕ} {κ : NodeKind} → Known k κ → (k ≡ 4 → ⊥) → (k ≡ 5 → ⊥) → lower w κ ≡ false
+known-not-lower w (leaf is-true) a b = refl
+known-not-lower w (leaf is-belief) a b = refl
+known-not-lower w (leaf is-goal) a b = refl
+known-not-lower w (inner is-not) a b = refl
+known-not-lower w (inner is-and) a b = absurd (a refl)
+known-not-lower w (inner is-or) a b = absurd (b refl)
+
+pub not-lower : (w k : ℕ) → (k ≡ 4 → ⊥) → (k ≡ 5 → ⊥) → lower w (nodeKind k) ≡ false
+not-lower w k a b = elim (decLe k 5) [ yes h ↦ known-not-lower w (known-kind k h) a b | no h ↦ ap (lower w) (unknown-kind k (omega arith)) ]
 
 -- what is none of the kinds with children
 pub is-leaf : (k : ℕ) → k ≤ 5 → (k ≡ 3 → ⊥) → (k ≡ 4 → ⊥) → (k ≡ 5 → ⊥) → k < 3
@@ -30,43 +35,15 @@ is-leaf k h a b c = omega arith
 pub is-some : (k : ℕ) → (k ≡ 0 → ⊥) → 1 ≤ k
 is-some k h = omega arith
 
-module _ (k : ℕ) where
-  pub size-leaf : (a b : ℕ) → k < 3 → sizeBy k a b ≡ 1
-  size-leaf a b = go k
-    where
-      go : (k : ℕ) → k < 3 → sizeBy k a b ≡ 1
-      go zero h = refl
-      go (suc zero) h = refl
-      go (suc (suc zero)) h = refl
-      go (suc (suc (suc k))) h = absurd (omega arith)
+pub size-leaf : {k : ℕ} {κ : NodeKind} → Leaf k κ → (a b : ℕ) → sizeBy κ a b ≡ 1
+size-leaf is-true a b = refl
+size-leaf is-belief a b = refl
+size-leaf is-goal a b = refl
 
-  pub size-two : (a b : ℕ) → 4 ≤ k → sizeBy k a b ≡ a + b + 1
-  size-two a b = go k
-    where
-      go : (k : ℕ) → 4 ≤ k → sizeBy k a b ≡ a + b + 1
-      go zero h = absurd (omega arith)
-      go (suc zero) h = absurd (omega arith)
-      go (suc (suc zero)) h = absurd (omega arith)
-      go (suc (suc (suc zero))) h = absurd (omega arith)
-      go (suc (suc (suc (suc k)))) h = refl
-
-  pub depth-leaf : (p q : ℕ → ℕ) (a b : ℕ) → k < 3 → depthBy k p q a b ≡ 0
-  depth-leaf p q a b = go k
-    where
-      go : (k : ℕ) → k < 3 → depthBy k p q a b ≡ 0
-      go zero h = refl
-      go (suc zero) h = refl
-      go (suc (suc zero)) h = refl
-      go (suc (suc (suc k))) h = absurd (omega arith)
-
-  pub length-atom : (n : ℕ) (p q : ℕ → ℕ) (a b : ℕ) → 1 ≤ k → k < 3 → lengthBy k n p q a b ≡ 1 + length (decimal n)
-  length-atom n p q a b = go k
-    where
-      go : (k : ℕ) → 1 ≤ k → k < 3 → lengthBy k n p q a b ≡ 1 + length (decimal n)
-      go zero g h = absurd (omega arith)
-      go (suc zero) g h = refl
-      go (suc (suc zero)) g h = refl
-      go (suc (suc (suc k))) g h = absurd (omega arith)
+pub depth-leaf : {k : ℕ} {κ : NodeKind} → Leaf k κ → (p q : ℕ → ℕ) (a b : ℕ) → depthBy κ p q a b ≡ 0
+depth-leaf is-true p q a b = refl
+depth-leaf is-belief p q a b = refl
+depth-leaf is-goal p q a b = refl
 
 -- ---- how many digits
 

@@ -7,8 +7,10 @@ use native.Mathlib.Omega.{arith}
 use lib.ListN.{length, getD, set, replicate, length-set, length-replicate}
 use Rattle.meaning.specs.declared.Layout.{Layout}
 use Rattle.meaning.specs.declared.Node.{Node}
+use Rattle.meaning.specs.Kinds.{nodeKind}
 use Rattle.meaning.specs.Card.{Bytes, nodeAt}
 use Rattle.meaning.specs.Refusals.{nodesGood}
+use Rattle.meaning.proofs.NodeKinds.{Known, known-kind}
 use Rattle.meaning.proofs.Nodes.{node-rule}
 use Rattle.sets.proofs.Loops.{below-turn}
 use Rattle.notation.specs.Built.{size}
@@ -31,17 +33,17 @@ module _ (l : Layout) (b : Bytes) (good : nodesGood l b ≡ true) where
     abbrev y : Node
     y = nodeAt l b j
 
-    node-depth : depthAs w (treeAt l b j) ≡ depthAs 0 (treeAt l b j) + around (y .kind) w
-    node-depth = rw (tree-at l b good j h) (depth-around (y .a) (y .b) (treeAt l b) w (y .kind))
+    node-depth : depthAs w (treeAt l b j) ≡ depthAs 0 (treeAt l b j) + around (nodeKind (y .kind)) w
+    node-depth = rw (tree-at l b good j h) (depth-around (y .a) (y .b) (treeAt l b) w (nodeKind (y .kind)))
 
-    node-length : length (textAs w (treeAt l b j)) ≡ length (textAs 0 (treeAt l b j)) + 2 * around (y .kind) w
-    node-length = rw (tree-at l b good j h) (length-around (y .a) (y .b) (treeAt l b) w (y .kind))
+    node-length : length (textAs w (treeAt l b j)) ≡ length (textAs 0 (treeAt l b j)) + 2 * around (nodeKind (y .kind)) w
+    node-length = rw (tree-at l b good j h) (length-around (y .a) (y .b) (treeAt l b) w (nodeKind (y .kind)))
 
   module _ (i : ℕ) (h : i < l .nodes .count) (x : Node) (so : x ≡ nodeAt l b i) (p q : ℕ)
       (kp : x .a < l .nodes .count → p ≡ nodeAt l b (x .a) .kind) (kq : x .b < l .nodes .count → q ≡ nodeAt l b (x .b) .kind)
       (sizes depths lengths : List ℕ) (m : MeasuredTo l b sizes depths lengths i) where
-    kinds : x .kind ≤ 5
-    kinds = rw so (node-rule l b good i h .kinds)
+    known : Known (x .kind) (nodeKind (x .kind))
+    known = known-kind (x .kind) (rw so (node-rule l b good i h .kinds))
 
     first : 3 ≤ x .kind → x .a < i
     first = rw so (node-rule l b good i h .first)
@@ -49,28 +51,28 @@ module _ (l : Layout) (b : Bytes) (good : nodesGood l b ≡ true) where
     second : 4 ≤ x .kind → x .b < i
     second = rw so (node-rule l b good i h .second)
 
-    here : treeOf (x .kind) (x .a) (x .b) (treeAt l b) ≡ treeAt l b i
+    here : treeOf (nodeKind (x .kind)) (x .a) (x .b) (treeAt l b) ≡ treeAt l b i
     here = rw so (sym (tree-at l b good i h))
 
     pub measured-here : (s d n : ℕ)
-        → s ≡ min (sizeBy (x .kind) (getD sizes (x .a) 0 + 1) (getD sizes (x .b) 0 + 1)) 257
-        → d ≡ min (depthBy (x .kind) (around p) (around q) (getD depths (x .a) 0) (getD depths (x .b) 0)) 33
-        → n ≡ min (lengthBy (x .kind) (x .a) (around p) (around q) (getD lengths (x .a) 0) (getD lengths (x .b) 0)) 1025
+        → s ≡ min (sizeBy (nodeKind (x .kind)) (getD sizes (x .a) 0 + 1) (getD sizes (x .b) 0 + 1)) 257
+        → d ≡ min (depthBy (nodeKind (x .kind)) (around (nodeKind p)) (around (nodeKind q)) (getD depths (x .a) 0) (getD depths (x .b) 0)) 33
+        → n ≡ min (lengthBy (nodeKind (x .kind)) (x .a) (around (nodeKind p)) (around (nodeKind q)) (getD lengths (x .a) 0) (getD lengths (x .b) 0)) 1025
         → Right 257 (treeAt l b i) s d n
     measured-here s d n es ed en =
-        let pa : 3 ≤ x .kind → (w : ℕ) → depthAs w (treeAt l b (x .a)) ≡ depthAs 0 (treeAt l b (x .a)) + around p w =
-        λ t w. (let lt = first t in node-depth (x .a) (omega arith) w ∙ ap (λ (z : ℕ). depthAs 0 (treeAt l b (x .a)) + around z w) (sym (kp (omega arith)))) in
-        let pb : 4 ≤ x .kind → (w : ℕ) → depthAs w (treeAt l b (x .b)) ≡ depthAs 0 (treeAt l b (x .b)) + around q w =
-        λ t w. (let lt = second t in node-depth (x .b) (omega arith) w ∙ ap (λ (z : ℕ). depthAs 0 (treeAt l b (x .b)) + around z w) (sym (kq (omega arith)))) in
-        let la : 3 ≤ x .kind → (w : ℕ) → length (textAs w (treeAt l b (x .a))) ≡ length (textAs 0 (treeAt l b (x .a))) + 2 * around p w =
-        λ t w. (let lt = first t in node-length (x .a) (omega arith) w ∙ ap (λ (z : ℕ). length (textAs 0 (treeAt l b (x .a))) + 2 * around z w) (sym (kp (omega arith)))) in
-        let lb : 4 ≤ x .kind → (w : ℕ) → length (textAs w (treeAt l b (x .b))) ≡ length (textAs 0 (treeAt l b (x .b))) + 2 * around q w =
-        λ t w. (let lt = second t in node-length (x .b) (omega arith) w ∙ ap (λ (z : ℕ). length (textAs 0 (treeAt l b (x .b))) + 2 * around z w) (sym (kq (omega arith)))) in
-        let gs = size-capped (x .a) (x .b) (treeAt l b) (getD sizes (x .a) 0 + 1) (getD sizes (x .b) 0 + 1) (x .kind) kinds
+        let pa : 3 ≤ x .kind → (w : ℕ) → depthAs w (treeAt l b (x .a)) ≡ depthAs 0 (treeAt l b (x .a)) + around (nodeKind p) w =
+        λ t w. (let lt = first t in node-depth (x .a) (omega arith) w ∙ ap (λ (z : ℕ). depthAs 0 (treeAt l b (x .a)) + around (nodeKind z) w) (sym (kp (omega arith)))) in
+        let pb : 4 ≤ x .kind → (w : ℕ) → depthAs w (treeAt l b (x .b)) ≡ depthAs 0 (treeAt l b (x .b)) + around (nodeKind q) w =
+        λ t w. (let lt = second t in node-depth (x .b) (omega arith) w ∙ ap (λ (z : ℕ). depthAs 0 (treeAt l b (x .b)) + around (nodeKind z) w) (sym (kq (omega arith)))) in
+        let la : 3 ≤ x .kind → (w : ℕ) → length (textAs w (treeAt l b (x .a))) ≡ length (textAs 0 (treeAt l b (x .a))) + 2 * around (nodeKind p) w =
+        λ t w. (let lt = first t in node-length (x .a) (omega arith) w ∙ ap (λ (z : ℕ). length (textAs 0 (treeAt l b (x .a))) + 2 * around (nodeKind z) w) (sym (kp (omega arith)))) in
+        let lb : 4 ≤ x .kind → (w : ℕ) → length (textAs w (treeAt l b (x .b))) ≡ length (textAs 0 (treeAt l b (x .b))) + 2 * around (nodeKind q) w =
+        λ t w. (let lt = second t in node-length (x .b) (omega arith) w ∙ ap (λ (z : ℕ). length (textAs 0 (treeAt l b (x .b))) + 2 * around (nodeKind z) w) (sym (kq (omega arith)))) in
+        let gs = size-capped (x .a) (x .b) (treeAt l b) (getD sizes (x .a) 0 + 1) (getD sizes (x .b) 0 + 1) known
         (λ t. m .right (x .a) (first t) .size) (λ t. m .right (x .b) (second t) .size) in
-        let gd = depth-capped (x .a) (x .b) (treeAt l b) (getD depths (x .a) 0) (getD depths (x .b) 0) (around p) (around q) (x .kind) kinds
+        let gd = depth-capped (x .a) (x .b) (treeAt l b) (getD depths (x .a) 0) (getD depths (x .b) 0) (around (nodeKind p)) (around (nodeKind q)) known
         (λ t. m .right (x .a) (first t) .depth) (λ t. m .right (x .b) (second t) .depth) pa pb in
-        let gn = length-capped (x .a) (x .b) (treeAt l b) (getD lengths (x .a) 0) (getD lengths (x .b) 0) (around p) (around q) (x .kind) kinds
+        let gn = length-capped (x .a) (x .b) (treeAt l b) (getD lengths (x .a) 0) (getD lengths (x .b) 0) (around (nodeKind p)) (around (nodeKind q)) known
         (λ t. m .right (x .a) (first t) .length) (λ t. m .right (x .b) (second t) .length) la lb in
         record {
           size = es ∙ gs ∙ ap (λ t. min (size t) 257) here;

@@ -9,17 +9,18 @@ use lib.Dec.{ltb}
 use lib.ListN.{length, length-append}
 use Rattle.meaning.specs.declared.Layout.{Layout}
 use Rattle.meaning.specs.declared.Node.{Node}
+use Rattle.meaning.specs.Kinds.{NodeKind, True, Believes, HasGoal, Not, And, Or, Unknown, nodeKind}
 use Rattle.meaning.specs.Card.{Bytes, nodeAt}
+use Rattle.meaning.proofs.NodeKinds.{is-true, is-belief, is-goal, is-not, is-and, is-or, Known, leaf, inner, known-kind}
 use Rattle.meaning.proofs.Nodes.{Rule, node-rule}
 use Rattle.card.specs.GoodCard.{GoodCard}
-use Rattle.notation.specs.Conditions.{Tree}
 use Rattle.notation.specs.Built.{size}
 use Rattle.notation.specs.Printing.{decimal, bracketsIf, textAs, treeOf, treeAt, depthAs}
 use Rattle.notation.proofs.Decimals.{decimal-one, decimal-more}
 use Rattle.printer.specs.Measures.{pairs, lower}
 use Rattle.printer.proofs.Measures.{one-digit, more-digits, few-digits, some-digit}
 use Rattle.printer.specs.Tasks.{taskOf, textOfKind, taskText, workOfKind, work, GoodTask, texts, works, AllGood, none, more, Splits, nodeParts, numberParts, heightOfKind, height, heights}
-use Rattle.printer.proofs.Trees.{some-node, tree-at, depth-around}
+use Rattle.printer.proofs.Trees.{some-node, tree-at, depth-around, text-around}
 
 -- ---- one task
 
@@ -167,82 +168,45 @@ module _ (l : Layout) (b : Bytes) where
 
   -- ---- a node
 
-  node-text : (a b′ k : ℕ) → k ≤ 5 → (1 ≤ k → a < 256) → (4 ≤ k → b′ < 256) → texts l b (nodeParts k a b′) ≡ textAs 0 (treeOf k a b′ (treeAt l b))
+  node-text : {k : ℕ} {κ : NodeKind} → Known k κ → (a b′ : ℕ) → (1 ≤ k → a < 256) → (4 ≤ k → b′ < 256) → texts l b (nodeParts κ a b′) ≡ textAs 0 (treeOf κ a b′ (treeAt l b))
   unfolding textAs
-  node-text a b′ zero h p q = rw (text-byte 84 (omega arith))
-  node-text a b′ (suc zero) h p q = rw (text-byte 66 (omega arith), text-task 4 a (p (omega arith))) (ap (λ u. 66 ∷ u) (append-nil (decimal a)))
-  node-text a b′ (suc (suc zero)) h p q = rw (text-byte 71 (omega arith), text-task 4 a (p (omega arith))) (ap (λ u. 71 ∷ u) (append-nil (decimal a)))
-  node-text a b′ (suc (suc (suc zero))) h p q = rw (text-byte 33 (omega arith), text-task 3 a (p (omega arith))) (ap (λ u. 33 ∷ u) (append-nil (textAs 2 (treeAt l b a))))
-  node-text a b′ (suc (suc (suc (suc zero)))) h p q =
+  node-text (leaf is-true) a b′ p q = rw (text-byte 84 (omega arith))
+  node-text (leaf is-belief) a b′ p q = rw (text-byte 66 (omega arith), text-task 4 a (p (omega arith))) (ap (λ u. 66 ∷ u) (append-nil (decimal a)))
+  node-text (leaf is-goal) a b′ p q = rw (text-byte 71 (omega arith), text-task 4 a (p (omega arith))) (ap (λ u. 71 ∷ u) (append-nil (decimal a)))
+  node-text (inner is-not) a b′ p q = rw (text-byte 33 (omega arith), text-task 3 a (p (omega arith))) (ap (λ u. 33 ∷ u) (append-nil (textAs 2 (treeAt l b a))))
+  node-text (inner is-and) a b′ p q =
       rw (text-byte 38 (omega arith), text-task 2 a (p (omega arith)), text-task 3 b′ (q (omega arith))) (ap (λ u. textAs 1 (treeAt l b a) ++ (38 ∷ u)) (append-nil (textAs 2 (treeAt l b b′))))
-  node-text a b′ (suc (suc (suc (suc (suc zero))))) h p q =
+  node-text (inner is-or) a b′ p q =
       rw (text-byte 124 (omega arith), text-task 1 a (p (omega arith)), text-task 2 b′ (q (omega arith))) (ap (λ u. textAs 0 (treeAt l b a) ++ (124 ∷ u)) (append-nil (textAs 1 (treeAt l b b′))))
-  node-text a b′ (suc (suc (suc (suc (suc (suc k)))))) h p q = absurd (omega arith)
 
-  node-works : (k a b′ : ℕ) → works l b (nodeParts k a b′) < 2 * length (texts l b (nodeParts k a b′))
-  node-works zero a b′ = works-first 84 [] (omega arith)
-  node-works (suc zero) a b′ = works-first 66 (taskOf 4 a ∷ []) (omega arith)
-  node-works (suc (suc zero)) a b′ = works-first 71 (taskOf 4 a ∷ []) (omega arith)
-  node-works (suc (suc (suc zero))) a b′ = works-first 33 (taskOf 3 a ∷ []) (omega arith)
-  node-works (suc (suc (suc (suc zero)))) a b′ = works-second (taskOf 2 a) 38 (taskOf 3 b′ ∷ []) (omega arith)
-  node-works (suc (suc (suc (suc (suc k))))) a b′ = works-second (taskOf 1 a) 124 (taskOf 2 b′ ∷ []) (omega arith)
+  node-works : (κ : NodeKind) (a b′ : ℕ) → works l b (nodeParts κ a b′) < 2 * length (texts l b (nodeParts κ a b′))
+  node-works True a b′ = works-first 84 [] (omega arith)
+  node-works Believes a b′ = works-first 66 (taskOf 4 a ∷ []) (omega arith)
+  node-works HasGoal a b′ = works-first 71 (taskOf 4 a ∷ []) (omega arith)
+  node-works Not a b′ = works-first 33 (taskOf 3 a ∷ []) (omega arith)
+  node-works And a b′ = works-second (taskOf 2 a) 38 (taskOf 3 b′ ∷ []) (omega arith)
+  node-works Or a b′ = works-second (taskOf 1 a) 124 (taskOf 2 b′ ∷ []) (omega arith)
+  node-works Unknown a b′ = works-first 84 [] (omega arith)
 
-  node-low : (a b′ k : ℕ) → k ≤ 5 → (1 ≤ k → a < 256) → (4 ≤ k → b′ < 256)
-      → heights l b (nodeParts k a b′) ≤ size (treeOf k a b′ (treeAt l b)) + depthAs 0 (treeOf k a b′ (treeAt l b)) + 3
+  node-low : {k : ℕ} {κ : NodeKind} → Known k κ → (a b′ : ℕ) → (1 ≤ k → a < 256) → (4 ≤ k → b′ < 256)
+      → heights l b (nodeParts κ a b′) ≤ size (treeOf κ a b′ (treeAt l b)) + depthAs 0 (treeOf κ a b′ (treeAt l b)) + 3
   unfolding size depthAs
-  node-low a b′ zero h p q = let o = height-byte 84 (omega arith) in omega arith
-  node-low a b′ (suc zero) h p q =
-      let c = p (omega arith) in
-      let o = height-byte 66 (omega arith) in
-      let u = height-task 4 a c in
-      let d = few-digits a (omega arith) in
-      omega arith
-  node-low a b′ (suc (suc zero)) h p q =
-      let c = p (omega arith) in
-      let o = height-byte 71 (omega arith) in
-      let u = height-task 4 a c in
-      let d = few-digits a (omega arith) in
-      omega arith
-  node-low a b′ (suc (suc (suc zero))) h p q =
-      let o = height-byte 33 (omega arith) in
-      let u = height-task 3 a (p (omega arith)) in
-      omega arith
-  node-low a b′ (suc (suc (suc (suc zero)))) h p q =
-      let o = height-byte 38 (omega arith) in
-      let u = height-task 2 a (p (omega arith)) in
-      let v = height-task 3 b′ (q (omega arith)) in
-      let m = some-node (treeAt l b a) in
-      let n = some-node (treeAt l b b′) in
-      omega arith
-  node-low a b′ (suc (suc (suc (suc (suc zero))))) h p q =
-      let o = height-byte 124 (omega arith) in
-      let u = height-task 1 a (p (omega arith)) in
-      let v = height-task 2 b′ (q (omega arith)) in
-      let m = some-node (treeAt l b a) in
-      let n = some-node (treeAt l b b′) in
-      omega arith
-  node-low a b′ (suc (suc (suc (suc (suc (suc k)))))) h p q = absurd (omega arith)
+  node-low (leaf is-true) a b′ p q = let o = height-byte 84 (omega arith) in omega arith
+  node-low (leaf is-belief) a b′ p q = let c = p (omega arith) in omega (arith, height-byte 66 (omega arith), height-task 4 a c, few-digits a (omega arith))
+  node-low (leaf is-goal) a b′ p q = let c = p (omega arith) in omega (arith, height-byte 71 (omega arith), height-task 4 a c, few-digits a (omega arith))
+  node-low (inner is-not) a b′ p q = omega (arith, height-byte 33 (omega arith), height-task 3 a (p (omega arith)))
+  node-low (inner is-and) a b′ p q = omega (arith, height-byte 38 (omega arith), height-task 2 a (p (omega arith)), height-task 3 b′ (q (omega arith)), some-node (treeAt l b a), some-node (treeAt l b b′))
+  node-low (inner is-or) a b′ p q = omega (arith, height-byte 124 (omega arith), height-task 1 a (p (omega arith)), height-task 2 b′ (q (omega arith)), some-node (treeAt l b a), some-node (treeAt l b b′))
 
-  node-good : (k a b′ : ℕ) → k ≤ 5 → (1 ≤ k → a < 256) → (4 ≤ k → b′ < 256) → (3 ≤ k → a < l .nodes .count) → (4 ≤ k → b′ < l .nodes .count) → AllGood l (nodeParts k a b′)
-  node-good zero a b′ h p q f s = more (good-byte 84 (omega arith)) none
-  node-good (suc zero) a b′ h p q f s = more (good-byte 66 (omega arith)) (more (good-number a (p (omega arith))) none)
-  node-good (suc (suc zero)) a b′ h p q f s = more (good-byte 71 (omega arith)) (more (good-number a (p (omega arith))) none)
-  node-good (suc (suc (suc zero))) a b′ h p q f s = more (good-byte 33 (omega arith)) (more (good-node 3 a (p (omega arith)) (f (omega arith))) none)
-  node-good (suc (suc (suc (suc zero)))) a b′ h p q f s =
+  node-good : {k : ℕ} {κ : NodeKind} → Known k κ → (a b′ : ℕ) → (1 ≤ k → a < 256) → (4 ≤ k → b′ < 256) → (3 ≤ k → a < l .nodes .count) → (4 ≤ k → b′ < l .nodes .count) → AllGood l (nodeParts κ a b′)
+  node-good (leaf is-true) a b′ p q f s = more (good-byte 84 (omega arith)) none
+  node-good (leaf is-belief) a b′ p q f s = more (good-byte 66 (omega arith)) (more (good-number a (p (omega arith))) none)
+  node-good (leaf is-goal) a b′ p q f s = more (good-byte 71 (omega arith)) (more (good-number a (p (omega arith))) none)
+  node-good (inner is-not) a b′ p q f s = more (good-byte 33 (omega arith)) (more (good-node 3 a (p (omega arith)) (f (omega arith))) none)
+  node-good (inner is-and) a b′ p q f s =
       more (good-node 2 a (p (omega arith)) (f (omega arith))) (more (good-byte 38 (omega arith)) (more (good-node 3 b′ (q (omega arith)) (s (omega arith))) none))
-  node-good (suc (suc (suc (suc (suc k))))) a b′ h p q f s =
+  node-good (inner is-or) a b′ p q f s =
       more (good-node 1 a (p (omega arith)) (f (omega arith))) (more (good-byte 124 (omega arith)) (more (good-node 2 b′ (q (omega arith)) (s (omega arith))) none))
-
--- brackets around a node's text, where it is lower than what is wanted
-text-around : (a b : ℕ) (q : ℕ → Tree) (w k : ℕ) → textAs w (treeOf k a b q) ≡ bracketsIf (lower w k) (textAs 0 (treeOf k a b q))
-unfolding textAs
-text-around a b q w zero = refl
-text-around a b q w (suc zero) = refl
-text-around a b q w (suc (suc zero)) = refl
-text-around a b q w (suc (suc (suc zero))) = refl
-text-around a b q w (suc (suc (suc (suc zero)))) = refl
-text-around a b q w (suc (suc (suc (suc (suc zero))))) = refl
-text-around a b q w (suc (suc (suc (suc (suc (suc k)))))) = refl
 
 kind-text : (l : Layout) (b : Bytes) (k v : ℕ) → 1 ≤ k → k < 4 → textOfKind l b k v ≡ textAs (k - 1) (treeAt l b v)
 kind-text l b zero v h g = absurd (omega arith)
@@ -274,22 +238,28 @@ module _ (l : Layout) (b : Bytes) (card : GoodCard l b) (t : ℕ) (h : 256 ≤ t
     pub node-kind : x .kind ≤ 5
     node-kind = rule .kinds
 
-    tree-is : treeAt l b n ≡ treeOf (x .kind) (x .a) (x .b) (treeAt l b)
+    abbrev κ : NodeKind
+    κ = nodeKind (x .kind)
+
+    known-node : Known (x .kind) κ
+    known-node = known-kind (x .kind) node-kind
+
+    tree-is : treeAt l b n ≡ treeOf κ (x .a) (x .b) (treeAt l b)
     tree-is = rw so (tree-at l b (card .nodes) n node-known)
 
-    text-is : taskText l b t ≡ bracketsIf (lower (t / 256 - 1) (x .kind)) (textAs 0 (treeAt l b n))
+    text-is : taskText l b t ≡ bracketsIf (lower (t / 256 - 1) κ) (textAs 0 (treeAt l b n))
     unfolding taskText
     text-is =
         kind-text l b (t / 256) n (omega arith) g
         ∙ ap (textAs (t / 256 - 1)) tree-is
-        ∙ text-around (x .a) (x .b) (treeAt l b) (t / 256 - 1) (x .kind)
-        ∙ ap (λ r. bracketsIf (lower (t / 256 - 1) (x .kind)) (textAs 0 r)) (sym tree-is)
+        ∙ text-around (x .a) (x .b) (treeAt l b) (t / 256 - 1) κ
+        ∙ ap (λ r. bracketsIf (lower (t / 256 - 1) κ) (textAs 0 r)) (sym tree-is)
 
-    height-is : height l b t ≡ size (treeAt l b n) + (depthAs 0 (treeAt l b n) + pairs (lower (t / 256 - 1) (x .kind))) + 3
+    height-is : height l b t ≡ size (treeAt l b n) + (depthAs 0 (treeAt l b n) + pairs (lower (t / 256 - 1) κ)) + 3
     unfolding height
     height-is =
-        let e : depthAs (t / 256 - 1) (treeAt l b n) ≡ depthAs 0 (treeAt l b n) + pairs (lower (t / 256 - 1) (x .kind)) =
-        rw tree-is (depth-around (x .a) (x .b) (treeAt l b) (t / 256 - 1) (x .kind)) in
+        let e : depthAs (t / 256 - 1) (treeAt l b n) ≡ depthAs 0 (treeAt l b n) + pairs (lower (t / 256 - 1) κ) =
+        rw tree-is (depth-around (x .a) (x .b) (treeAt l b) (t / 256 - 1) κ) in
         kind-height l b (t / 256) n (omega arith) g ∙ ap (λ d. size (treeAt l b n) + d + 3) e
 
     left-small : 1 ≤ x .kind → x .a < 256
@@ -307,7 +277,7 @@ module _ (l : Layout) (b : Bytes) (card : GoodCard l b) (t : ℕ) (h : 256 ≤ t
     right-small k = let a = rule .second k in omega arith
 
     -- in brackets
-    pub split-lower : lower (t / 256 - 1) (x .kind) ≡ true → Splits l b t (40 ∷ (taskOf 1 n ∷ (41 ∷ [])))
+    pub split-lower : lower (t / 256 - 1) κ ≡ true → Splits l b t (40 ∷ (taskOf 1 n ∷ (41 ∷ [])))
     split-lower e =
         let small : n < 256 = omega arith in
         let words : texts l b (40 ∷ (taskOf 1 n ∷ (41 ∷ []))) ≡ taskText l b t =
@@ -318,13 +288,13 @@ module _ (l : Layout) (b : Bytes) (card : GoodCard l b) (t : ℕ) (h : 256 ≤ t
         (more (good-byte l b 40 (omega arith)) (more (good-node l b 1 n small node-known) (more (good-byte l b 41 (omega arith)) none)))
 
     -- without
-    pub split-node : lower (t / 256 - 1) (x .kind) ≡ false → Splits l b t (nodeParts (x .kind) (x .a) (x .b))
+    pub split-node : lower (t / 256 - 1) κ ≡ false → Splits l b t (nodeParts κ (x .a) (x .b))
     split-node e =
         let k = node-known in
-        let words : texts l b (nodeParts (x .kind) (x .a) (x .b)) ≡ taskText l b t =
-        node-text l b (x .a) (x .b) (x .kind) node-kind left-small right-small
+        let words : texts l b (nodeParts κ (x .a) (x .b)) ≡ taskText l b t =
+        node-text l b known-node (x .a) (x .b) left-small right-small
         ∙ ap (textAs 0) (sym tree-is)
         ∙ sym (text-is ∙ ap (λ s. bracketsIf s (textAs 0 (treeAt l b n))) e) in
-        splits l b t (nodeParts (x .kind) (x .a) (x .b)) h words (node-works l b (x .kind) (x .a) (x .b))
-        (let i = height-is in let j = ap pairs e in let v = rw (sym tree-is) at (node-low l b (x .a) (x .b) (x .kind) node-kind left-small right-small) in omega arith)
-        (node-good l b (x .kind) (x .a) (x .b) node-kind left-small right-small (λ c. (let a = rule .first c in omega arith)) (λ c. (let a = rule .second c in omega arith)))
+        splits l b t (nodeParts κ (x .a) (x .b)) h words (node-works l b κ (x .a) (x .b))
+        (let i = height-is in let j = ap pairs e in let v = rw (sym tree-is) at (node-low l b known-node (x .a) (x .b) left-small right-small) in omega arith)
+        (node-good l b known-node (x .a) (x .b) left-small right-small (λ c. (let a = rule .first c in omega arith)) (λ c. (let a = rule .second c in omega arith)))

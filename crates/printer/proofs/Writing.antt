@@ -10,8 +10,10 @@ use lib.Dec.{ltb}
 use lib.ListN.{length, getD, set, drop, length-append, length-set, length-drop}
 use lib.Seq.{drop-cons, paste, paste-zero, paste-suc, take-length}
 use Rattle.meaning.specs.declared.Layout.{Layout}
+use Rattle.meaning.specs.Kinds.{NodeKind, And, Or}
 use Rattle.meaning.specs.Card.{Bytes, nodeAt}
 use Rattle.meaning.specs.Calls.{over}
+use Rattle.meaning.proofs.NodeKinds.{is-true, is-belief, is-goal, is-not, is-and, is-or, Known, leaf, inner, known-kind}
 use Rattle.meaning.proofs.Nodes.{node-rule}
 use Rattle.card.specs.GoodCard.{GoodCard}
 use Rattle.notation.specs.Words.{word}
@@ -34,27 +36,14 @@ pairs-most false = omega arith
 abbrev Short : Tree → Type 0
 Short t = (w : ℕ) → length (textAs w t) ≤ 4 * size t
 
-node-short : (a b : ℕ) (q : ℕ → Tree) (k : ℕ) → k ≤ 5 → (1 ≤ k → k ≤ 2 → a < 1000) → (3 ≤ k → Short (q a)) → (4 ≤ k → Short (q b)) → Short (treeOf k a b q)
+node-short : {k : ℕ} {κ : NodeKind} → Known k κ → (a b : ℕ) (q : ℕ → Tree) → (1 ≤ k → k ≤ 2 → a < 1000) → (3 ≤ k → Short (q a)) → (4 ≤ k → Short (q b)) → Short (treeOf κ a b q)
 unfolding textAs size
-node-short a b q zero h n f s w = omega arith
-node-short a b q (suc zero) h n f s w = let d = few-digits a (n (omega arith) (omega arith)) in omega arith
-node-short a b q (suc (suc zero)) h n f s w = let d = few-digits a (n (omega arith) (omega arith)) in omega arith
-node-short a b q (suc (suc (suc zero))) h n f s w = let d = f (omega arith) 2 in omega arith
-node-short a b q (suc (suc (suc (suc zero)))) h n f s w =
-    let d = f (omega arith) 1 in
-    let e = s (omega arith) 2 in
-    let i = length-append (textAs 1 (q a)) (word "&" ++ textAs 2 (q b)) in
-    let j = length-around a b q w 4 in
-    let m = pairs-most (ltb 1 w) in
-    omega arith
-node-short a b q (suc (suc (suc (suc (suc zero))))) h n f s w =
-    let d = f (omega arith) 0 in
-    let e = s (omega arith) 1 in
-    let i = length-append (textAs 0 (q a)) (word "|" ++ textAs 1 (q b)) in
-    let j = length-around a b q w 5 in
-    let m = pairs-most (ltb 0 w) in
-    omega arith
-node-short a b q (suc (suc (suc (suc (suc (suc k)))))) h n f s w = absurd (omega arith)
+node-short (leaf is-true) a b q n f s w = omega arith
+node-short (leaf is-belief) a b q n f s w = let d = few-digits a (n (omega arith) (omega arith)) in omega arith
+node-short (leaf is-goal) a b q n f s w = let d = few-digits a (n (omega arith) (omega arith)) in omega arith
+node-short (inner is-not) a b q n f s w = let d = f (omega arith) 2 in omega arith
+node-short (inner is-and) a b q n f s w = omega (arith, f (omega arith) 1, s (omega arith) 2, length-append (textAs 1 (q a)) (word "&" ++ textAs 2 (q b)), length-around a b q w And, pairs-most (ltb 1 w))
+node-short (inner is-or) a b q n f s w = omega (arith, f (omega arith) 0, s (omega arith) 1, length-append (textAs 0 (q a)) (word "|" ++ textAs 1 (q b)), length-around a b q w Or, pairs-most (ltb 0 w))
 
 module _ (l : Layout) (b : Bytes) (card : GoodCard l b) where
   short-below : (m n : ℕ) → n < m → n < l .nodes .count → Short (treeAt l b n)
@@ -63,7 +52,7 @@ module _ (l : Layout) (b : Bytes) (card : GoodCard l b) where
       let r = node-rule l b (card .nodes) n k in
       let x = nodeAt l b n in
       subst Short (sym (tree-at l b (card .nodes) n k))
-      (node-short (x .a) (x .b) (treeAt l b) (x .kind) (r .kinds)
+      (node-short (known-kind (x .kind) (r .kinds)) (x .a) (x .b) (treeAt l b)
       (λ c d. (let a = r .atom c d in let e = card .layout .atoms in omega arith))
       (λ c. (let a = r .first c in short-below m (x .a) (omega arith) (omega arith)))
       (λ c. (let a = r .second c in short-below m (x .b) (omega arith) (omega arith))))
@@ -116,7 +105,7 @@ module _ (l : Layout) (b : Bytes) where
 -- ---- the loop
 
 -- a text that is written up to a place, and the tasks that write the rest
-pub record Writing (l : Layout) (b text before : Bytes) (s : List ℕ) (k : ℕ) (out : Bytes) (at : ℕ) : Type 0 where
+pub record WritingOn (l : Layout) (b text before : Bytes) (s : List ℕ) (k : ℕ) (out : Bytes) (at : ℕ) : Type 0 where
   pub room : length s ≡ 291
   pub low : heights l b (tasks s k) ≤ 291
   pub long : length text ≤ 1024
@@ -130,7 +119,7 @@ pub record Writing (l : Layout) (b text before : Bytes) (s : List ℕ) (k : ℕ)
 module _ (l : Layout) (b text before : Bytes) where
   pub writing-start : (n : ℕ) (s : List ℕ) (k x : ℕ) → length text ≤ 1024 → length text ≤ length before → text ≡ textOf (treeAt l b n)
       → size (treeAt l b n) ≤ 256 → depthOf (treeAt l b n) ≤ 32
-      → n < 256 → n < l .nodes .count → x ≡ taskOf 1 n → length s ≡ 291 → tasks s k ≡ x ∷ [] → Writing l b text before s k before 0
+      → n < 256 → n < l .nodes .count → x ≡ taskOf 1 n → length s ≡ 291 → tasks s k ≡ x ∷ [] → WritingOn l b text before s k before 0
   writing-start n s k x long fits is few shallow small known so room e =
       let e′ : tasks s k ≡ taskOf 1 n ∷ [] = e ∙ ap (λ y. y ∷ []) so in
       record {
@@ -145,7 +134,7 @@ module _ (l : Layout) (b text before : Bytes) where
         written = paste-zero before 0 text;
       }
 
-  module _ (s : List ℕ) (k : ℕ) (out : Bytes) (at : ℕ) (w : Writing l b text before s k out at) where
+  module _ (s : List ℕ) (k : ℕ) (out : Bytes) (at : ℕ) (w : WritingOn l b text before s k out at) where
     -- the end
     pub writing-end : k ≡ 0 → out ≡ over text before
     writing-end z =
@@ -193,7 +182,7 @@ module _ (l : Layout) (b text before : Bytes) where
         parted : t ∷ texts l b (tasks s (k - 1)) ≡ getD text at 0 ∷ drop (suc at) text
         parted = byte-rest ∙ drop-cons text at 0 byte-inside
 
-        pub writing-byte : Writing l b text before s (k - 1) (set out at t) (at + 1)
+        pub writing-byte : WritingOn l b text before s (k - 1) (set out at t) (at + 1)
         writing-byte =
             let i = byte-inside in
             let same = w .same in
@@ -243,7 +232,7 @@ module _ (l : Layout) (b text before : Bytes) where
             omega arith
 
         module _ (s′ : List ℕ) (k′ : ℕ) (room : length s′ ≡ 291) (put : tasks s′ k′ ≡ ts ++ tasks s (k - 1)) where
-          pub writing-split : Writing l b text before s′ k′ out at
+          pub writing-split : WritingOn l b text before s′ k′ out at
           writing-split = record {
             room = room;
             low = (let f = ap (heights l b) put in let o = split-low in omega arith);

@@ -5,9 +5,9 @@ use Rattle.meaning.specs.declared.Answer.{Answer}
 use Rattle.meaning.specs.declared.Layout.{Layout}
 use Rattle.meaning.specs.Card.{Bytes}
 use Rattle.meaning.specs.Refusals.{andThen}
-use Rattle.meaning.specs.Calls.{roomFor}
+use Rattle.meaning.specs.Calls.{roomFor, countBy, leavesBy}
 use Rattle.card.specs.Rows.{rowsFrom}
-use Rattle.notation.specs.Printing.{textOf, treeAt, printTable, countBy, leavesBy}
+use Rattle.notation.specs.Printing.{textOf, treeAt, printTable}
 
 -- the text of a node
 abbrev pub nodeText : Layout → Bytes → ℕ → Bytes

@@ -2,10 +2,11 @@
 use mathlib.Core.Path.{_≡_}
 use mathlib.Core.Bool.{Bool, true, false}
 use mathlib.Core.List.{List}
-use Prim.Native.Nat.{ℕ, zero, suc, min, max, _+_, _*_, _<_}
+use Prim.Native.Nat.{ℕ, min, max, _+_, _*_, _<_}
 use lib.Dec.{ltb}
 use lib.ListN.{length, getD}
 use Rattle.meaning.specs.declared.Layout.{Layout}
+use Rattle.meaning.specs.Kinds.{NodeKind, True, Believes, HasGoal, Not, And, Or, Unknown}
 use Rattle.meaning.specs.Card.{Bytes}
 use Rattle.notation.specs.Conditions.{Tree}
 use Rattle.notation.specs.Built.{size}
@@ -13,14 +14,14 @@ use Rattle.notation.specs.Printing.{decimal, textOf, depthOf, treeAt}
 
 -- "with brackets only where it must have them": whether a node of a kind is lower than what is wanted, 0 an or-list, 1 an and-list
 -- or 2 a unit.
-abbrev pub lower : ℕ → ℕ → Bool
-lower wanted zero = false
-lower wanted (suc zero) = false
-lower wanted (suc (suc zero)) = false
-lower wanted (suc (suc (suc zero))) = false
-lower wanted (suc (suc (suc (suc zero)))) = ltb 1 wanted
-lower wanted (suc (suc (suc (suc (suc zero))))) = ltb 0 wanted
-lower wanted (suc (suc (suc (suc (suc (suc k)))))) = false
+abbrev pub lower : ℕ → NodeKind → Bool
+lower wanted True = false
+lower wanted Believes = false
+lower wanted HasGoal = false
+lower wanted Not = false
+lower wanted And = ltb 1 wanted
+lower wanted Or = ltb 0 wanted
+lower wanted Unknown = false
 
 -- how many pairs of brackets that makes
 abbrev pub pairs : Bool → ℕ
@@ -28,34 +29,38 @@ pairs true = 1
 pairs false = 0
 
 -- The nodes of a node's text, by those of its children.
-abbrev pub sizeBy : ℕ → ℕ → ℕ → ℕ
-sizeBy zero a b = 1
-sizeBy (suc zero) a b = 1
-sizeBy (suc (suc zero)) a b = 1
-sizeBy (suc (suc (suc zero))) a b = a + 1
-sizeBy (suc (suc (suc (suc k)))) a b = a + b + 1
+abbrev pub sizeBy : NodeKind → ℕ → ℕ → ℕ
+sizeBy True a b = 1
+sizeBy Believes a b = 1
+sizeBy HasGoal a b = 1
+sizeBy Not a b = a + 1
+sizeBy And a b = a + b + 1
+sizeBy Or a b = a + b + 1
+sizeBy Unknown a b = 1
 
 -- Its depth, by the children's and by the brackets around them.
-abbrev pub depthBy : ℕ → (ℕ → ℕ) → (ℕ → ℕ) → ℕ → ℕ → ℕ
-depthBy zero p q a b = 0
-depthBy (suc zero) p q a b = 0
-depthBy (suc (suc zero)) p q a b = 0
-depthBy (suc (suc (suc zero))) p q a b = a + p 2 + 1
-depthBy (suc (suc (suc (suc zero)))) p q a b = max (a + p 1) (b + q 2)
-depthBy (suc (suc (suc (suc (suc k))))) p q a b = max (a + p 0) (b + q 1)
+abbrev pub depthBy : NodeKind → (ℕ → ℕ) → (ℕ → ℕ) → ℕ → ℕ → ℕ
+depthBy True p q a b = 0
+depthBy Believes p q a b = 0
+depthBy HasGoal p q a b = 0
+depthBy Not p q a b = a + p 2 + 1
+depthBy And p q a b = max (a + p 1) (b + q 2)
+depthBy Or p q a b = max (a + p 0) (b + q 1)
+depthBy Unknown p q a b = 0
 
 -- Its length, the atom's number known.
-abbrev pub lengthBy : ℕ → ℕ → (ℕ → ℕ) → (ℕ → ℕ) → ℕ → ℕ → ℕ
-lengthBy zero n p q a b = 1
-lengthBy (suc zero) n p q a b = 1 + length (decimal n)
-lengthBy (suc (suc zero)) n p q a b = 1 + length (decimal n)
-lengthBy (suc (suc (suc zero))) n p q a b = a + 2 * p 2 + 1
-lengthBy (suc (suc (suc (suc zero)))) n p q a b = a + 2 * p 1 + (b + 2 * q 2) + 1
-lengthBy (suc (suc (suc (suc (suc k))))) n p q a b = a + 2 * p 0 + (b + 2 * q 1) + 1
+abbrev pub lengthBy : NodeKind → ℕ → (ℕ → ℕ) → (ℕ → ℕ) → ℕ → ℕ → ℕ
+lengthBy True n p q a b = 1
+lengthBy Believes n p q a b = 1 + length (decimal n)
+lengthBy HasGoal n p q a b = 1 + length (decimal n)
+lengthBy Not n p q a b = a + 2 * p 2 + 1
+lengthBy And n p q a b = a + 2 * p 1 + (b + 2 * q 2) + 1
+lengthBy Or n p q a b = a + 2 * p 0 + (b + 2 * q 1) + 1
+lengthBy Unknown n p q a b = 1
 
 -- the brackets around a node of a kind, by what is wanted
-abbrev pub around : ℕ → ℕ → ℕ
-around kind wanted = pairs (lower wanted kind)
+abbrev pub around : NodeKind → ℕ → ℕ
+around κ wanted = pairs (lower wanted κ)
 
 -- The measures of a tree's text, each up to a cap: 257 nodes and 33 deep are too many, and no text of 256 nodes has 1,025 bytes.
 pub record Right (most : ℕ) (t : Tree) (s d n : ℕ) : Type 0 where

@@ -6,6 +6,7 @@ use Prim.Native.Nat.{ℕ, zero, suc, max, _+_, _*_, _/_, _%_, _≤_, _<_}
 use lib.Dec.{ltb}
 use lib.ListN.{length, getD}
 use Rattle.meaning.specs.declared.Layout.{Layout}
+use Rattle.meaning.specs.Kinds.{NodeKind, True, Believes, HasGoal, Not, And, Or, Unknown}
 use Rattle.meaning.specs.Card.{Bytes}
 use Rattle.notation.specs.Built.{size}
 use Rattle.notation.specs.Printing.{decimal, textAs, depthAs, treeAt}
@@ -88,13 +89,14 @@ listed (Parts.Two x y) = x ∷ (y ∷ [])
 listed (Parts.Three x y z) = x ∷ (y ∷ (z ∷ []))
 
 -- a node without brackets, by its kind and its children
-abbrev pub nodeParts : ℕ → ℕ → ℕ → List ℕ
-nodeParts zero a b = 84 ∷ []
-nodeParts (suc zero) a b = 66 ∷ (taskOf 4 a ∷ [])
-nodeParts (suc (suc zero)) a b = 71 ∷ (taskOf 4 a ∷ [])
-nodeParts (suc (suc (suc zero))) a b = 33 ∷ (taskOf 3 a ∷ [])
-nodeParts (suc (suc (suc (suc zero)))) a b = taskOf 2 a ∷ (38 ∷ (taskOf 3 b ∷ []))
-nodeParts (suc (suc (suc (suc (suc k))))) a b = taskOf 1 a ∷ (124 ∷ (taskOf 2 b ∷ []))
+abbrev pub nodeParts : NodeKind → ℕ → ℕ → List ℕ
+nodeParts True a b = 84 ∷ []
+nodeParts Believes a b = 66 ∷ (taskOf 4 a ∷ [])
+nodeParts HasGoal a b = 71 ∷ (taskOf 4 a ∷ [])
+nodeParts Not a b = 33 ∷ (taskOf 3 a ∷ [])
+nodeParts And a b = taskOf 2 a ∷ (38 ∷ (taskOf 3 b ∷ []))
+nodeParts Or a b = taskOf 1 a ∷ (124 ∷ (taskOf 2 b ∷ []))
+nodeParts Unknown a b = 84 ∷ []
 
 -- a number: its last digit behind the others
 abbrev pub numberParts : ℕ → List ℕ

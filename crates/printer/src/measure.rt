@@ -3,6 +3,7 @@
 ghost use mathlib.Core.Path.{_≡_};
 ghost use Prim.Native.Nat.{_+_, _≤_, _<_, min, max};
 ghost use lib.ListN.{length, replicate};
+ghost use Rattle.meaning.specs.Kinds.{nodeKind};
 ghost use Rattle.meaning.specs.Card.{nodeAt};
 ghost use Rattle.layout.specs.GoodLayout.{GoodLayout};
 ghost use Rattle.card.specs.GoodCard.{GoodCard};
@@ -27,7 +28,7 @@ fn capped(n: usize, cap: usize) -> usize
 
 // Whether a node of a kind is a lower thing than is wanted: 0 an or-list, 1 an and-list, 2 a unit.
 pub fn is_lower(wanted: u8, kind: u8) -> bool
-    ensures { λ r. ⌜ r ≡ lower wanted kind ⌝ }
+    ensures { λ r. ⌜ r ≡ lower wanted (nodeKind kind) ⌝ }
 {
     match kind {
         4 => 1 < wanted,
@@ -38,7 +39,7 @@ pub fn is_lower(wanted: u8, kind: u8) -> bool
 
 // The brackets around it: a pair or none.
 fn pairs_around(wanted: u8, kind: u8) -> usize
-    ensures { λ r. ⌜ (r ≡ around kind wanted) × (r ≤ 1) ⌝ }
+    ensures { λ r. ⌜ (r ≡ around (nodeKind kind) wanted) × (r ≤ 1) ⌝ }
 {
     if is_lower(wanted, kind) { 1 } else { 0 }
 }
@@ -58,7 +59,8 @@ fn digits(n: u8) -> usize
 
 // The nodes of a node's text, by how many its children's have beside their own: at most 257, which is too many.
 fn size_by(kind: u8, a: u8, b: u8) -> u16
-    ensures { λ r. ⌜ r ≡ min (sizeBy kind (a + 1) (b + 1)) 257 ⌝ }
+    requires { ⌜ kind ≤ 5 ⌝ }
+    ensures { λ r. ⌜ r ≡ min (sizeBy (nodeKind kind) (a + 1) (b + 1)) 257 ⌝ }
 {
     if kind < 3 {
         1
@@ -87,7 +89,7 @@ fn greater(a: usize, b: usize) -> usize
 // Its depth, by the depths and the kinds of its children: at most 33, which is too deep.
 fn depth_by(kind: u8, p: u8, q: u8, a: u8, b: u8) -> u8
     requires { ⌜ kind ≤ 5 ⌝ }
-    ensures { λ r. ⌜ r ≡ min (depthBy kind (around p) (around q) a b) 33 ⌝ }
+    ensures { λ r. ⌜ r ≡ min (depthBy (nodeKind kind) (around (nodeKind p)) (around (nodeKind q)) a b) 33 ⌝ }
 {
     let l = a as usize;
     let r = b as usize;
@@ -103,7 +105,7 @@ fn depth_by(kind: u8, p: u8, q: u8, a: u8, b: u8) -> u8
 // has.
 fn length_by(kind: u8, n: u8, p: u8, q: u8, a: u16, b: u16) -> u16
     requires { ⌜ kind ≤ 5 ⌝ }
-    ensures { λ r. ⌜ r ≡ min (lengthBy kind n (around p) (around q) a b) 1025 ⌝ }
+    ensures { λ r. ⌜ r ≡ min (lengthBy (nodeKind kind) n (around (nodeKind p)) (around (nodeKind q)) a b) 1025 ⌝ }
 {
     let l = a as usize;
     let r = b as usize;

@@ -3,6 +3,7 @@ ghost use mathlib.Core.Path.{_≡_};
 ghost use mathlib.Core.List.{_++_};
 ghost use Prim.Native.Nat.{_+_, _/_, _≤_, _<_};
 ghost use lib.ListN.{length, replicate};
+ghost use Rattle.meaning.specs.Kinds.{nodeKind};
 ghost use Rattle.meaning.specs.Calls.{over};
 ghost use Rattle.card.specs.GoodCard.{GoodCard};
 ghost use Rattle.notation.specs.Built.{size};
@@ -32,7 +33,7 @@ fn task(kind: u16, value: u8) -> u16
 // and-list": a node that needs no brackets.
 fn node_parts(x: Node) -> Parts
     requires { ⌜ x .kind ≤ 5 ⌝ }
-    ensures { λ r. ⌜ listed r ≡ nodeParts (x .kind) (x .a) (x .b) ⌝ }
+    ensures { λ r. ⌜ listed r ≡ nodeParts (nodeKind (x .kind)) (x .a) (x .b) ⌝ }
 {
     let kind = x.kind;
     let a = x.a;

@@ -10,7 +10,8 @@ use Rattle.meaning.specs.Card.{Bytes}
 use Rattle.meaning.specs.Refusals.{containing, conditionGood}
 use Rattle.card.specs.GoodCard.{GoodCondition}
 use Rattle.deliberation.specs.Entries.{programGood}
-use Rattle.deliberation.proofs.Good.{entry-rule, some-entries, most-entries, no-byte-more}
+use Rattle.deliberation.proofs.Named.{entry-laws}
+use Rattle.deliberation.proofs.Good.{entry-known, entry-rule, some-entries, most-entries, no-byte-more}
 use Rattle.program.specs.GoodProgram.{GoodProgram}
 
 condition : (l : Layout) (b : Bytes) (n : ℕ) → conditionGood l (containing 2 l b) n ≡ true → GoodCondition l b 2 n
@@ -26,7 +27,5 @@ good-program l b p e =
       some = some-entries gs l p e;
       most = most-entries gs l p e;
       bytes = no-byte-more gs l p e;
-      entries = λ i h. (
-          let r = entry-rule gs l p e i h in
-          record { kinds = r .kinds; revision = r .revision; selection = r .selection; condition = λ k. condition l b _ (r .node k); first = r .first; second = r .second });
+      entries = λ i h. record { kinds = entry-known gs l p e i h; names = entry-laws (λ k. k) (λ k. k) (condition l b) (entry-rule gs l p e i h) };
     }

@@ -1,6 +1,8 @@
 // A deliberation program: its entries, judged for a card by row 19 (02, Wish 6). Whatever its bytes, the answer is document 02's.
 ghost use mathlib.Core.Path.{_≡_};
+ghost use mathlib.Core.Bool.{_&&_};
 ghost use Prim.Native.Nat.{_+_, _*_, _≤_};
+ghost use lib.Dec.{ltb};
 ghost use lib.ListN.{length};
 ghost use Rattle.meaning.specs.declared.Refusal.{Refusal};
 ghost use Rattle.meaning.specs.Card.{Bytes};
@@ -8,7 +10,8 @@ ghost use Rattle.meaning.specs.Refusals.{every, containing};
 ghost use Rattle.card.specs.Marks.{Marks};
 ghost use Rattle.card.specs.Rows.{rowAnswer};
 ghost use Rattle.card.specs.GoodCard.{GoodCard};
-ghost use Rattle.deliberation.specs.Entries.{entryAt, lengthGood, kindGood, entryGood, programGood};
+ghost use Rattle.deliberation.specs.Kinds.{entryKind};
+ghost use Rattle.deliberation.specs.Entries.{entryOf, lengthGood, kindGood, entryGood, programGood};
 use card::check::row;
 use card::nodes::all_marks;
 use card::nodes::free_of;
@@ -23,7 +26,7 @@ use meaning::Refusal;
 // "entries shaped like nodes": entry i.
 pub fn read_entry(program: &[u8], i: usize) -> Node
     requires { ⌜ 4 * i + 4 ≤ length (now program) ⌝ }
-    ensures { λ r. ⌜ r ≡ entryAt (now (program .entry)) i ⌝ }
+    ensures { λ r. ⌜ r ≡ entryOf (now (program .entry)) i ⌝ }
 {
     let at = 4 * i;
     Node {
@@ -45,7 +48,7 @@ fn length_good(n: usize) -> bool
 // goal atom are marked, and the unknown ones.
 fn kind_good(e: Node, l: Layout, marks: &[u8; 256], i: usize) -> bool
     ensures { λ r. ⌜ ((b : Bytes) → Marks 2 l b (now (marks .entry))
-        → r ≡ kindGood (containing 2 l b) l i (e .kind) (e .a) (e .b)) ⌝ }
+        → r ≡ ltb (e .kind) 7 && kindGood (containing 2 l b) l i (entryKind (e .kind)) (e .a) (e .b)) ⌝ }
 {
     let kind = e.kind;
     match kind {
@@ -63,7 +66,7 @@ fn kind_good(e: Node, l: Layout, marks: &[u8; 256], i: usize) -> bool
 fn entries_good(program: &[u8], l: Layout, marks: &[u8; 256], n: usize) -> bool
     requires { ⌜ 4 * n ≤ length (now program) ⌝ }
     ensures { λ r. ⌜ ((b : Bytes) → Marks 2 l b (now (marks .entry))
-        → r ≡ every n (λ i. entryGood (containing 2 l b) l i (entryAt (now (program .entry)) i))) ⌝ }
+        → r ≡ every n (λ i. entryGood (containing 2 l b) l i (entryOf (now (program .entry)) i))) ⌝ }
 {
     let mut good = true;
     let mut i: usize = 0;

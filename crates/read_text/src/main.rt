@@ -6,6 +6,8 @@ ghost use lib.ListN.{length};
 use answers::answer_carried;
 use answers::answer_number;
 use meaning::Answer;
+use output::also;
+use output::write_front;
 
 // Room for a text: 65,536 bytes, and one more, in which a longer text shows.
 fn no_text() -> [u8; 65537]
@@ -22,12 +24,6 @@ fn no_card() -> [u8; 24128]
 }
 
 // ---- a refused text
-
-// A number after a space, on standard output or standard error.
-fn also(to: i32, n: u64) {
-    io::write_all(to, b" ");
-    io::print_decimal(to, n);
-}
 
 // The number of a refusal, and the place with 17.
 fn refused(answer: Answer) {
@@ -72,13 +68,6 @@ fn say_of_place(text: &mut [u8], place: usize) {
 }
 
 // ---- the text
-
-// The first n bytes.
-fn write_front(bytes: &[u8], n: usize) {
-    if n <= bytes.len() {
-        io::write_all(1, &bytes[0..n]);
-    }
-}
 
 // The card of a text, or its refusal.
 fn show(text: &[u8]) -> Answer {

@@ -6,6 +6,7 @@ use mathlib.Core.Option.{none, some}
 use Prim.Native.Nat.{ℕ}
 use native.Mathlib.Nat.{le-refl}
 use lib.ListN.{length}
+use Rattle.paper.specs.Next.{if}
 use Rattle.paper.proofs.Relation.{both}
 use Rattle.meaning.specs.declared.Refusal.{Refusal}
 use Rattle.meaning.specs.declared.Answer.{Answer}
@@ -17,19 +18,18 @@ use Rattle.meaning.proofs.Tables.{given, not-given}
 use Rattle.notation.specs.Lines.{Said, Text}
 use Rattle.notation.specs.Built.{built}
 use Rattle.notation.specs.Reading.{Derived, WrongAt, shallow, numbersFit, entriesFit, textTable, saidAnswer, Reads, no-text, refused, done}
-use Rattle.notation.proofs.Values.{if, nested, got, itemsOf}
-use Rattle.notation.proofs.Making.{nothingMade, itemsIn, itemsSaid, cardOf}
-use Rattle.notation.proofs.Making as Making
+use Rattle.notation.specs.Values.{nested, got, itemsOf}
+use Rattle.notation.specs.Making.{nothingMade, itemsIn, itemsSaid, cardOf}
+use Rattle.notation.specs.Making as Making
 use Rattle.notation.proofs.MadeWhole.{madeSaid}
 use Rattle.notation.proofs.MadeFits.{lines-made}
 use Rattle.notation.proofs.MadeBuilt.{card-built}
 use Rattle.notation.proofs.ReadingTexts.{text-read}
-use Rattle.notation.proofs.Scanning.{first, lines}
-use Rattle.notation.proofs.Scan.{judge}
+use Rattle.notation.specs.Scanning.{first, lines, judge}
 use Rattle.notation.proofs.Texts.{Scanned, scanned}
 use Rattle.scan.specs.declared.scan.Scan.{Scan}
 use Rattle.scan.specs.Scans.{found}
-use Rattle.choices.specs.declared.in_place.WrittenInPlace.{WrittenInPlace}
+use Rattle.door.specs.declared.in_place.WrittenInPlace.{WrittenInPlace}
 use Rattle.reader.specs.Written.{Wrote, WroteCard, WroteMade, WroteLines}
 
 -- ---- 17
@@ -73,7 +73,7 @@ module _ (t out : Bytes) (s : Said) (text : Text t s) (r : WrittenInPlace) (out�
   card-judged e f = ap (λ a. andThen a cardsAnswer) (not-given deep (large ∷ []) s (ap not e) ∙ not-given large [] s (ap not f))
 
   -- by what its lines make
-  reads-lines : (m : Making.Made)
+  reads-lines : (m : Making.Sections)
       → itemsIn (itemsSaid s) (some nothingMade) ≡ if (numbersFit s && entriesFit s) (some m) none
       → (numbersFit s && entriesFit s ≡ true → cardOf m ≡ built s)
       → WroteLines (if (shallow s) (got (itemsSaid s) []) nested) out r out′ → Reads t out (r .answer) (r .count) out′

@@ -7,8 +7,8 @@ use lib.ListN.{replicate, length-replicate}
 use Rattle.meaning.specs.declared.Refusal.{Refusal}
 use Rattle.meaning.specs.declared.Answer.the-variants.{Refused}
 use Rattle.meaning.specs.Card.{Bytes, part}
-use Rattle.notation.proofs.Values.{Item, Read, nested, got}
-use Rattle.choices.specs.declared.in_place.WrittenInPlace.{WrittenInPlace}
+use Rattle.notation.specs.Values.{Item, Read, nested, got}
+use Rattle.door.specs.declared.in_place.WrittenInPlace.{WrittenInPlace}
 use Rattle.lines.specs.declared.made.Made.{Made}
 use Rattle.lines.specs.InPlace.{madeIn}
 use Rattle.lines.specs.declared.lines.Lined.{Lined}

@@ -7,7 +7,7 @@ use lib.ListN.{length, take, drop, length-append, length-drop}
 use lib.Seq.{paste, take-paste, drop-paste, length-paste, drop-drop, take-add, take-all, take-at, drop-at, take-append-add}
 use Rattle.meaning.specs.Card.{Bytes, part}
 use Rattle.meaning.proofs.Parts.{length-part}
-use Rattle.notation.proofs.Making.{headerOf, cardOf, sectionsOf}
+use Rattle.notation.specs.Making.{headerOf, cardOf, sectionsOf}
 use Rattle.lines.specs.declared.made.Made.{Made}
 use Rattle.lines.specs.InPlace.{Bounded, sectionsIn}
 use Rattle.reader.specs.Packed.{Packed, poolOn, revisionsOn, selectionsOn, specificationsOn, nodesOn, eightNumbers, headerIn}

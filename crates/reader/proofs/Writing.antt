@@ -8,6 +8,7 @@ use native.Mathlib.Nat.{zero-add}
 use lib.Dec.{leb}
 use lib.ListN.{length, drop}
 use lib.Seq.{paste, take-length}
+use Rattle.paper.specs.Next.{if}
 use Rattle.meaning.specs.declared.Refusal.{Refusal}
 use Rattle.meaning.specs.declared.Checked.{Checked}
 use Rattle.meaning.specs.declared.Answer.{Answer}
@@ -17,9 +18,8 @@ use Rattle.meaning.specs.Refusals.{andThen, cardAnswer}
 use Rattle.meaning.specs.Calls.{checks, over, roomFor}
 use Rattle.meaning.proofs.Calls.{good-judged, refused-judged}
 use Rattle.card.specs.Rows.{rowAnswer, answerOf}
-use Rattle.choices.specs.declared.in_place.WrittenInPlace.{WrittenInPlace}
-use Rattle.notation.proofs.Values.{if}
-use Rattle.notation.proofs.Making.{cardOf}
+use Rattle.door.specs.declared.in_place.WrittenInPlace.{WrittenInPlace}
+use Rattle.notation.specs.Making.{cardOf}
 use Rattle.lines.specs.declared.made.Made.{Made}
 use Rattle.lines.specs.InPlace.{sectionsIn, madeIn}
 use Rattle.reader.specs.Written.{Wrote, WroteCard, WroteMade}

@@ -6,7 +6,7 @@ use Prim.Native.Nat.{ℕ, _+_, _*_, _≤_}
 use lib.ListN.{length, take}
 use Rattle.meaning.specs.Card.{Bytes, part}
 use Rattle.meaning.specs.Place.{twoBytes}
-use Rattle.notation.proofs.Making.{headerOf}
+use Rattle.notation.specs.Making.{headerOf}
 use Rattle.lines.specs.declared.made.Made.{Made}
 
 -- ---- the sections of a card in the making, from one on, with no gap

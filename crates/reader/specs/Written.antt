@@ -9,9 +9,9 @@ use Rattle.meaning.specs.declared.Answer.the-variants.{Done, Refused}
 use Rattle.meaning.specs.Card.{Bytes}
 use Rattle.meaning.specs.Refusals.{andThen, cardAnswer}
 use Rattle.meaning.specs.Calls.{over, roomFor}
-use Rattle.notation.proofs.Values.{Item, Read, nested, got}
-use Rattle.notation.proofs.Making as Making
-use Rattle.choices.specs.declared.in_place.WrittenInPlace.{WrittenInPlace}
+use Rattle.notation.specs.Values.{Item, Read, nested, got}
+use Rattle.notation.specs.Making as Making
+use Rattle.door.specs.declared.in_place.WrittenInPlace.{WrittenInPlace}
 
 -- an answer, with bytes b written if it is done: 01, "Numbers the guide may answer": "Any count in a refusal is 0. No lent buffer
 -- is written."
@@ -25,7 +25,7 @@ WroteCard b out r out′ = Wrote (andThen (cardAnswer b) (roomFor b out)) b out 
 
 -- what was made of the lines, if nothing was too large: 02, Wish 2: "25 a number too large for its field, or more entries or pool
 -- bytes than edition 1 allows"
-abbrev pub WroteMade : Option Making.Made → Bytes → WrittenInPlace → Bytes → Type 0
+abbrev pub WroteMade : Option Making.Sections → Bytes → WrittenInPlace → Bytes → Type 0
 WroteMade none out r out′ = Wrote (Refused Refusal.Large) [] out r out′
 WroteMade (some m) out r out′ = WroteCard (Making.cardOf m) out r out′
 

@@ -3,24 +3,13 @@ ghost use mathlib.Core.Path.{_≡_};
 ghost use mathlib.Core.List.{_++_};
 ghost use Prim.Native.Nat.{_+_, _≤_};
 ghost use lib.ListN.{length, take, drop};
-ghost use lib.Seq.{paste};
-ghost use Rattle.notation.proofs.Making.{cardOf};
+ghost use Rattle.notation.specs.Making.{cardOf};
 ghost use Rattle.lines.specs.InPlace.{Bounded, sectionsIn};
 ghost use Rattle.reader.specs.Packed.{Packed, poolOn, revisionsOn, selectionsOn, specificationsOn, nodesOn, eightNumbers, headerIn};
 use layout::bytes::copy;
+use layout::bytes::down;
 use lines::made::Made;
-
-// n bytes move down in place.
-fn down(card: &mut [u8], to: usize, from: usize, n: usize)
-    requires { ⌜ (to ≤ from) × (from + n ≤ length (now card)) ⌝ }
-    ensures { λ r. ⌜ now (card .exit) ≡ paste (now (card .entry)) to (drop from (now (card .entry))) n ⌝ }
-{
-    let mut i: usize = 0;
-    while i < n {
-        card[to + i] = card[from + i];
-        i += 1;
-    }
-}
+use meaning::Set;
 
 // The pool, behind the first e bytes; where it ends.
 fn pack_pool(card: &mut [u8], m: Made, e: usize) -> usize
@@ -81,7 +70,7 @@ fn eight_numbers(
     f: usize,
     g: usize,
     h: usize,
-) -> [u8; 16]
+) -> Set
     ensures { λ r. ⌜ r ≡ eightNumbers a b c d e f g h ⌝ }
 {
     [

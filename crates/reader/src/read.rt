@@ -1,12 +1,12 @@
 // A text card read: the card that it stands for, written to a lent buffer.
 ghost use lib.ListN.{length};
 ghost use Rattle.notation.specs.Reading.{Reads};
-ghost use Rattle.notation.proofs.Values.{itemsOf};
+ghost use Rattle.notation.specs.Values.{itemsOf};
 ghost use Rattle.lines.specs.Lines.{Blank};
 ghost use Rattle.reader.specs.Written.{WroteLines};
 use crate::write::refused;
 use crate::write::write_made;
-use choices::in_place::WrittenInPlace;
+use door::in_place::WrittenInPlace;
 use lines::lines::Lined;
 use lines::lines::read_lines;
 use meaning::Answer;

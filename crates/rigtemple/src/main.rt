@@ -1,26 +1,31 @@
 // Document 01's program: it reads a card on standard input (at most 24,129 bytes), loads it and runs it with budget 1,000, a line
 // a step on standard output. Standard error says in words what is left.
 ghost use Prim.Native.Nat.{_≤_, _<_};
-ghost use Rattle.layout.specs.PlaceParts.{lent};
-ghost use Rattle.choices.specs.Ready.{Judged};
+ghost use Rattle.layout.specs.GoodLayout.{GoodLayout};
+ghost use Rattle.layout.specs.PlaceParts.{configured};
+ghost use Rattle.choices.specs.Judged.{Judged};
 use answers::refusal_number;
 use card::check::check;
-use choices::ask::Asked;
-use choices::ask::Chosen;
 use choices::ask::ask;
 use choices::ask::choose;
-use choices::configuration::judge_configuration;
+use choices::truth::Marks;
 use choices::truth::judge_nodes;
 use choices::truth::no_marks;
-use layout::bytes::number_at;
+use door::admit::admit;
+use door::asked::Asked;
+use door::asked::Chosen;
 use layout::entries::count_of;
-use meaning::Answer;
+use layout::entries::read_weight;
+use layout::sizes::most_atoms;
 use meaning::Checked;
 use meaning::Configuration;
 use meaning::Layout;
 use meaning::Mind;
+use meaning::Plan;
+use meaning::Set;
 use moves::advance::next_move;
 use moves::step::Transition;
+use output::also;
 use runs::Ending;
 use runs::Offender;
 use runs::Verdict;
@@ -33,16 +38,10 @@ fn end(word: &[u8]) {
     io::write_all(1, b"\n");
 }
 
-// A number after a space.
-fn also(n: u64) {
-    io::write_all(1, b" ");
-    io::print_decimal(1, n);
-}
-
 // "First line: bytes, verdict (bounded or open)."
 fn first_line(bytes: usize, verdict: Verdict) {
     io::write_all(1, b"card");
-    also(bytes as u64);
+    also(1, bytes as u64);
     match verdict {
         Verdict::Bounded => end(b" bounded"),
         Verdict::Open(_) => end(b" open"),
@@ -57,30 +56,33 @@ fn last_line(ending: Ending, count: u16) {
         Ending::Full => io::write_all(1, b"full"),
     }
     ;
-    also(count as u64);
+    also(1, count as u64);
     end(b"");
 }
 
-// The weight of an action, as the card has it.
-fn weight(card: &[u8], action: u8) -> u64
+// The weight of an action, as the card has it; 0 if it has none.
+fn weight(card: &[u8], l: Layout, action: u8) -> u64
+    requires { ⌜ GoodLayout l (now card) ⌝ }
     ensures { λ r. ⌜ r ≤ 65535 ⌝ }
 {
-    let at = 64 + 2 * (action as usize);
-    if card.len() < at + 2 {
+    let a = action as usize;
+    if l.actions <= a {
         return 0;
     }
-    number_at(card, at) as u64
+    read_weight(card, l, a) as u64
 }
 
 // The weight of a plan of n actions.
-fn plan_weight(card: &[u8], plan: &[u8; 1024], n: usize) -> u64 {
+fn plan_weight(card: &[u8], l: Layout, plan: &Plan, n: usize) -> u64
+    requires { ⌜ GoodLayout l (now card) ⌝ }
+{
     let mut total: u64 = 0;
     let mut i: usize = 0;
     while i < 1024 {
         if n <= i {
             return total;
         }
-        total += weight(card, plan[i]);
+        total += weight(card, l, plan[i]);
         i += 1;
     }
     total
@@ -95,9 +97,9 @@ fn step_line(count: u16, kind: u8, number: usize, length: u16, weight: u64) {
         _ => io::write_all(1, b" revise"),
     }
     ;
-    also(number as u64);
-    also(length as u64);
-    also(weight);
+    also(1, number as u64);
+    also(1, length as u64);
+    also(1, weight);
     end(b"");
 }
 
@@ -147,7 +149,7 @@ fn say_offender(offender: Offender) {
 }
 
 // What a designer may not have meant: that the card is open, or begins with no goal.
-fn say_doubts(verdict: Verdict, goals: [u8; 16]) {
+fn say_doubts(verdict: Verdict, goals: Set) {
     if let Verdict::Open(offender) = verdict {
         say_offender(offender);
     }
@@ -166,12 +168,13 @@ fn say_in_row(first: bool, thing: &[u8], number: u64) {
 }
 
 // The goals that are open, by their atoms.
-fn say_goals(goals: [u8; 16]) {
+fn say_goals(l: Layout, goals: Set) {
     say(b"goals open:");
+    let n = most_atoms(l);
     let mut none = true;
-    let mut k: u8 = 0;
-    while k < 128 {
-        if sets::member(goals, k) {
+    let mut k: usize = 0;
+    while k < n {
+        if sets::member(goals, k as u8) {
             say_in_row(none, b" atom", k as u64);
             none = false;
         }
@@ -196,7 +199,7 @@ fn say_plan(length: u16, first: u8) {
     say(b"\n");
 }
 
-// That no choice of a kind is open: for a specification, that the plan's first action has no move.
+// That no choice of a kind is enabled: for a specification, that the plan's first action has no move.
 fn say_kind(kind: u8, first: u8) {
     match kind {
         0 => say(b"no selection fits:"),
@@ -239,16 +242,16 @@ fn say_front(kind: u8) {
 // Whether only a false condition closes a choice.
 fn waits(asked: Asked) -> bool {
     match asked {
-        Asked::Open => false,
+        Asked::Enabled => false,
         Asked::NoRule => false,
         Asked::Front => false,
         Asked::Condition => true,
     }
 }
 
-// Why no choice of a kind is open: the numbers of those that only a false condition closes, or that there are none.
-fn say_closed(card: &[u8], l: Layout, m: Mind, plan: &[u8; 1024], marks: &[bool; 256], kind: u8)
-    requires { ⌜ Judged l (now card) (lent m (now plan)) (now marks) × (kind < 3) ⌝ }
+// Why no choice of a kind is enabled: the numbers of those that only a false condition closes, or that there are none.
+fn say_closed(card: &[u8], l: Layout, m: Mind, plan: &Plan, marks: &Marks, kind: u8)
+    requires { ⌜ Judged l (now card) (configured m (now plan)) (now marks) × (kind < 3) ⌝ }
 {
     say_kind(kind, plan[0]);
     let n = count_of(l, kind);
@@ -271,8 +274,8 @@ fn say_closed(card: &[u8], l: Layout, m: Mind, plan: &[u8; 1024], marks: &[bool;
 }
 
 // Why there is no move: with an empty plan by the selections, where a goal is open; else by the specifications and the revisions.
-fn say_no_move(card: &[u8], l: Layout, m: Mind, plan: &[u8; 1024], marks: &[bool; 256])
-    requires { ⌜ Judged l (now card) (lent m (now plan)) (now marks) ⌝ }
+fn say_no_move(card: &[u8], l: Layout, m: Mind, plan: &Plan, marks: &Marks)
+    requires { ⌜ Judged l (now card) (configured m (now plan)) (now marks) ⌝ }
 {
     if m.length != 0 {
         say_closed(card, l, m, plan, marks, 1);
@@ -286,8 +289,8 @@ fn say_no_move(card: &[u8], l: Layout, m: Mind, plan: &[u8; 1024], marks: &[bool
 }
 
 // The move that the guide would make next, or why there is none.
-fn say_next(card: &[u8], l: Layout, m: Mind, plan: &[u8; 1024], marks: &[bool; 256], ending: Ending)
-    requires { ⌜ Judged l (now card) (lent m (now plan)) (now marks) ⌝ }
+fn say_next(card: &[u8], l: Layout, m: Mind, plan: &Plan, marks: &Marks, ending: Ending)
+    requires { ⌜ Judged l (now card) (configured m (now plan)) (now marks) ⌝ }
 {
     let chosen = choose(card, l, m, plan, marks);
     let Chosen::At(kind, i) = chosen else {
@@ -306,13 +309,9 @@ fn say_next(card: &[u8], l: Layout, m: Mind, plan: &[u8; 1024], marks: &[bool; 2
 }
 
 // The same, of a card and a configuration that are judged first.
-fn say_why(card: &[u8], m: Mind, plan: &[u8; 1024], ending: Ending) {
-    let checked = check(card);
-    let Checked::Good(l) = checked else {
-        return;
-    };
-    let judged = judge_configuration(l, m, plan);
-    let Answer::Done = judged else {
+fn say_why(card: &[u8], m: Mind, plan: &Plan, ending: Ending) {
+    let admitted = admit(card, m, plan);
+    let Checked::Good(l) = admitted else {
         return;
     };
     let mut marks = no_marks();
@@ -321,28 +320,30 @@ fn say_why(card: &[u8], m: Mind, plan: &[u8; 1024], ending: Ending) {
 }
 
 // What is left where a run ended: the goals, the plan, and the next move or why there is none.
-fn say_left(card: &[u8], m: Mind, plan: &[u8; 1024], ending: Ending) {
+fn say_left(card: &[u8], l: Layout, m: Mind, plan: &Plan, ending: Ending) {
     let goals = m.goals;
-    say_goals(goals);
+    say_goals(l, goals);
     say_plan(m.length, plan[0]);
     say_why(card, m, plan, ending);
 }
 
 // The last line of a run, and what is left. Where there are step lines, what their numbers are.
-fn ended(card: &[u8], m: Mind, plan: &[u8; 1024], ending: Ending, count: u16) {
+fn ended(card: &[u8], l: Layout, m: Mind, plan: &Plan, ending: Ending, count: u16) {
     last_line(ending, count);
     if 0 < count {
         say(
             b"select 0 is selection 0, act 0 is specification 0 (not action 0), revise 0 is revision 0\n",
         );
     }
-    say_left(card, m, plan, ending);
+    say_left(card, l, m, plan, ending);
 }
 
 // ---- the run
 
 // The run with budget 1,000, a move of the guide's own at a time, and a line for each.
-fn steps(card: &[u8], start: Configuration) {
+fn steps(card: &[u8], l: Layout, start: Configuration)
+    requires { ⌜ GoodLayout l (now card) ⌝ }
+{
     let mut m = start.mind;
     let mut plan = start.plan;
     let mut count: u16 = 0;
@@ -355,40 +356,48 @@ fn steps(card: &[u8], start: Configuration) {
                 let after = step.mind;
                 m = after;
                 count += 1;
-                let weight = plan_weight(card, &plan, after.length as usize);
+                let weight = plan_weight(card, l, &plan, after.length as usize);
                 step_line(count, kind, number, after.length, weight);
             }
             Transition::Nothing => {
-                ended(card, m, &plan, Ending::Rest, count);
+                ended(card, l, m, &plan, Ending::Rest, count);
                 return;
             }
             Transition::Full => {
-                ended(card, m, &plan, Ending::Full, count);
+                ended(card, l, m, &plan, Ending::Full, count);
                 return;
             }
         }
     }
-    ended(card, m, &plan, Ending::Spent, count);
+    ended(card, l, m, &plan, Ending::Spent, count);
+}
+
+// The lines of an accepted card.
+fn show_run(card: &[u8], l: Layout)
+    requires { ⌜ GoodLayout l (now card) ⌝ }
+{
+    let loaded = guide::load(card);
+    let graded = guide::grade(card);
+    let verdict = graded.verdict;
+    first_line(card.len(), verdict);
+    let start = loaded.configuration;
+    let mind = start.mind;
+    let goals = mind.goals;
+    say_doubts(verdict, goals);
+    steps(card, l, start);
 }
 
 // A card's lines: "A refused card prints only "refused" and its number."
 fn show(card: &[u8]) {
-    let loaded = guide::load(card);
-    let answer = loaded.answer;
-    let Answer::Refused(refusal) = answer else {
-        let graded = guide::grade(card);
-        let verdict = graded.verdict;
-        first_line(card.len(), verdict);
-        let start = loaded.configuration;
-        let mind = start.mind;
-        let goals = mind.goals;
-        say_doubts(verdict, goals);
-        steps(card, start);
-        return;
-    };
-    io::write_all(1, b"refused");
-    also(refusal_number(refusal) as u64);
-    end(b"");
+    let checked = check(card);
+    match checked {
+        Checked::Good(l) => show_run(card, l),
+        Checked::Refused(refusal) => {
+            io::write_all(1, b"refused");
+            also(1, refusal_number(refusal) as u64);
+            end(b"");
+        }
+    }
 }
 
 fn main() {

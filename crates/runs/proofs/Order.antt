@@ -17,6 +17,14 @@ use Rattle.runs.specs.Order.{State, kind, numbers, ofKind, inTurn, first
 use Rattle.runs.specs.Theorems.{AtRest, GuideTakes, OrderLaw}
 use Rattle.runs.proofs.Step.{phase-after}
 
+-- ---- by cases of a choice's kind
+
+pub each-kind : (P : ℕ → Type 0) → P 0 → P 1 → P 2 → (k : ℕ) → k < 3 → P k
+each-kind P selection action revision zero h = selection
+each-kind P selection action revision (suc zero) h = action
+each-kind P selection action revision (suc (suc zero)) h = revision
+each-kind P selection action revision (suc (suc (suc k))) h = absurd (omega arith)
+
 -- ---- every choice that has a transition is tried
 
 pub mem-map : {X Y : Type 0} (f : X → Y) {x : X} {xs : List X} → List·Memᴰ x xs → List·Memᴰ (f x) (map f xs)
@@ -45,7 +53,7 @@ of-its-kind A (execute {n = n} e p) = numbered act (length (A .AS)) n (entry-lt 
 of-its-kind A (apply-PS {n = n} e p q) = numbered select (length (A .PS)) n (entry-lt (A .PS) n e)
 of-its-kind A (apply-PR π {n = n} e p) = numbered revise (length (A .PR)) n (entry-lt (A .PR) n e)
 
-kind-lt : (k : Choice) → kind k < 3
+pub kind-lt : (k : Choice) → kind k < 3
 unfolding kind
 kind-lt (select n) = omega arith
 kind-lt (act n) = omega arith

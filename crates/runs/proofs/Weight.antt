@@ -80,26 +80,26 @@ module _ {R : Type 0} (good : R → Bool) (name : ℕ → Offender) where
   first-bad n r rs v e = rw (e, firstOffender)
 
   -- what the entries of a list come to: all are good and the verdict is another's, or one is the first that is not
-  data Asked (n : ℕ) (rs : List R) (otherwise : Verdict) : Verdict → Type 0 where
-    all-good : ((i : ℕ) (x : R) → Entry rs i x → good x ≡ true) → Asked n rs otherwise otherwise
-    offends : (i : ℕ) (x : R) → ((j : ℕ) (y : R) → j < i → Entry rs j y → good y ≡ true) → Entry rs i x → good x ≡ false → Asked n rs otherwise (Verdict.Open (name (n + i)))
+  data FirstOffence (n : ℕ) (rs : List R) (otherwise : Verdict) : Verdict → Type 0 where
+    all-good : ((i : ℕ) (x : R) → Entry rs i x → good x ≡ true) → FirstOffence n rs otherwise otherwise
+    offends : (i : ℕ) (x : R) → ((j : ℕ) (y : R) → j < i → Entry rs j y → good y ≡ true) → Entry rs i x → good x ≡ false → FirstOffence n rs otherwise (Verdict.Open (name (n + i)))
 
-  later : (n : ℕ) (r : R) (rs : List R) (o v : Verdict) → good r ≡ true → Asked (suc n) rs o v → Asked n (r ∷ rs) o v
+  later : (n : ℕ) (r : R) (rs : List R) (o v : Verdict) → good r ≡ true → FirstOffence (suc n) rs o v → FirstOffence n (r ∷ rs) o v
   later n r rs o v e (all-good h) = all-good (λ i. elim i [ zero ↦ λ x q. (let z : r ≡ x = some-inj q in rw (← z) e) | suc j ↦ h j ])
   later n r rs o v e (offends i x h q b) =
       let k : suc n + i ≡ n + suc i = omega arith in
       rw k
       (offends (suc i) x (λ j. elim j [ zero ↦ λ y l p. (let z : r ≡ y = some-inj p in rw (← z) e) | suc m ↦ λ y l p. h m y (le-of-suc-le-suc l) p ]) q b)
 
-  asked : (n : ℕ) (rs : List R) (o : Verdict) → Asked n rs o (firstOffender good name n rs o)
-  asked n [] o = all-good (λ i x e. absurd (none≢some e))
-  asked n (r ∷ rs) o = go (good r) refl (asked (suc n) rs o)
+  first-offence : (n : ℕ) (rs : List R) (o : Verdict) → FirstOffence n rs o (firstOffender good name n rs o)
+  first-offence n [] o = all-good (λ i x e. absurd (none≢some e))
+  first-offence n (r ∷ rs) o = go (good r) refl (first-offence (suc n) rs o)
     where
-      go : (b : Bool) → good r ≡ b → Asked (suc n) rs o (firstOffender good name (suc n) rs o) → Asked n (r ∷ rs) o (firstOffender good name n (r ∷ rs) o)
+      go : (b : Bool) → good r ≡ b → FirstOffence (suc n) rs o (firstOffender good name (suc n) rs o) → FirstOffence n (r ∷ rs) o (firstOffender good name n (r ∷ rs) o)
       go true e ih = rw (first-good n r rs o e) (later n r rs o _ e ih)
       go false e ih =
           rw (first-bad n r rs o e)
-          (subst (λ i. Asked n (r ∷ rs) o (Verdict.Open (name i))) (add-zero n) (offends 0 r (λ j y l p. absurd (not-suc-le-zero l)) refl e))
+          (subst (λ i. FirstOffence n (r ∷ rs) o (Verdict.Open (name i))) (add-zero n) (offends 0 r (λ j y l p. absurd (not-suc-le-zero l)) refl e))
 
 module _ (w : ℕ → ℕ) (A : Agent) (initial : Plan) where
   -- what the three questions come to
@@ -107,16 +107,16 @@ module _ (w : ℕ → ℕ) (A : Agent) (initial : Plan) where
     is-bounded : Bounded w A initial → Graded Verdict.Bounded
     is-open : {o : Offender} → Offends w A initial o → Graded (Verdict.Open o)
 
-  revisions-asked : weigh w initial ≤ 1024 → ((n : ℕ) (r : Selection) → Entry (A .PS) n r → weigh w (r .π) ≤ 1024)
-      → (v : Verdict) → Asked (lowers w) Offender.Revision 0 (A .PR) Verdict.Bounded v → Graded v
-  revisions-asked h s v (all-good g) = is-bounded (record { start = h; selections = s; revisions = λ n r e. ltb-true _ _ (g n r e) })
-  revisions-asked h s v (offends i x g e b) =
+  revisions-offence : weigh w initial ≤ 1024 → ((n : ℕ) (r : Selection) → Entry (A .PS) n r → weigh w (r .π) ≤ 1024)
+      → (v : Verdict) → FirstOffence (lowers w) Offender.Revision 0 (A .PR) Verdict.Bounded v → Graded v
+  revisions-offence h s v (all-good g) = is-bounded (record { start = h; selections = s; revisions = λ n r e. ltb-true _ _ (g n r e) })
+  revisions-offence h s v (offends i x g e b) =
       rw (zero-add i) (is-open (revision x h s (λ j y l p. ltb-true _ _ (g j y l p)) e (ltb-false _ _ b)))
 
-  selections-asked : weigh w initial ≤ 1024 → (u : Verdict) → Asked (lowers w) Offender.Revision 0 (A .PR) Verdict.Bounded u
-      → (v : Verdict) → Asked (λ r. light w (r .π)) Offender.Selection 0 (A .PS) u v → Graded v
-  selections-asked h u r v (all-good g) = revisions-asked h (λ n x e. leb-true _ _ (g n x e)) u r
-  selections-asked h u r v (offends i x g e b) = rw (zero-add i) (is-open (selection x h (λ j y l p. leb-true _ _ (g j y l p)) e (leb-false _ _ b)))
+  selections-offence : weigh w initial ≤ 1024 → (u : Verdict) → FirstOffence (lowers w) Offender.Revision 0 (A .PR) Verdict.Bounded u
+      → (v : Verdict) → FirstOffence (λ r. light w (r .π)) Offender.Selection 0 (A .PS) u v → Graded v
+  selections-offence h u r v (all-good g) = revisions-offence h (λ n x e. leb-true _ _ (g n x e)) u r
+  selections-offence h u r v (offends i x g e b) = rw (zero-add i) (is-open (selection x h (λ j y l p. leb-true _ _ (g j y l p)) e (leb-false _ _ b)))
 
   graded : Graded (verdict w A initial)
   unfolding verdict
@@ -127,8 +127,8 @@ module _ (w : ℕ → ℕ) (A : Agent) (initial : Plan) where
 
       go : (b : Bool) → light w initial ≡ b → Graded (elim b as (λ x. Verdict) [ true ↦ after-initial | false ↦ Verdict.Open Offender.InitialPlan ])
       go true e =
-          selections-asked (leb-true _ _ e) _ (asked (lowers w) Offender.Revision 0 (A .PR) Verdict.Bounded)
-          after-initial (asked (λ r. light w (r .π)) Offender.Selection 0 (A .PS) _)
+          selections-offence (leb-true _ _ e) _ (first-offence (lowers w) Offender.Revision 0 (A .PR) Verdict.Bounded)
+          after-initial (first-offence (λ r. light w (r .π)) Offender.Selection 0 (A .PS) _)
       go false e = is-open (initial-plan (leb-false _ _ e))
 
   to-bounded : {v : Verdict} → Graded v → v ≡ Verdict.Bounded → Bounded w A initial

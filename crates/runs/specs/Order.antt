@@ -3,7 +3,7 @@ use mathlib.Core.Bool.{Bool, true, false}
 use mathlib.Core.List.{List, [], _∷_, _++_, map}
 use mathlib.Core.Option.{Option, none, some}
 use Prim.Native.Nat.{ℕ, zero, suc, _+_, _*_, _%_}
-use lib.ListN.{length}
+use lib.ListN.{length, getD}
 use Rattle.paper.specs.Language.{Agent, Config}
 use Rattle.paper.specs.Transitions.{Choice, select, act, revise}
 use Rattle.paper.specs.Next.{enabled}
@@ -40,12 +40,14 @@ unfoldable pub numbers : ℕ → ℕ → List ℕ
 numbers k zero = []
 numbers k (suc m) = k ∷ numbers (suc k) m
 
+-- One of three by a kind: 01, "A configuration and its transitions": "the kind (0 selection, 1 action, 2 revision)". Serves ofKind.
+abbrev pub byKind : {X : Type 0} → ℕ → X → X → X → X
+byKind k selection action revision = getD (selection ∷ action ∷ []) k revision
+
 -- An agent's choices of a kind, the lowest number first. Serves inTurn: 01, "A configuration and its transitions", The guide's
 -- order: "the lowest number is taken".
 unfoldable pub ofKind : Agent → ℕ → List Choice
-ofKind A zero = map select (numbers 0 (length (A .PS)))
-ofKind A (suc zero) = map act (numbers 0 (length (A .AS)))
-ofKind A (suc (suc k)) = map revise (numbers 0 (length (A .PR)))
+ofKind A k = byKind k (map select (numbers 0 (length (A .PS)))) (map act (numbers 0 (length (A .AS)))) (map revise (numbers 0 (length (A .PR))))
 
 -- 01, "A configuration and its transitions", The guide's order: "From phase p the kinds p, p+1, p+2 (modulo 3) are tried in
 -- turn." All three are modulo 3 (docs/DECISIONS.md, "Kinds for a phase over 2").

@@ -11,12 +11,11 @@ use Rattle.paper.proofs.Relation.{false≢true}
 use lib.Dec.{eqb}
 use lib.ListN.{length, getD}
 use Rattle.meaning.specs.Card.{Bytes}
-use Rattle.notation.proofs.Scanning.{State, rest, number, unit, after, when, step}
-use Rattle.notation.proofs.Scan.{accepts}
+use Rattle.notation.specs.Scanning.{ScanState, rest, number, unit, after, when, step, accepts}
 use Rattle.scan.specs.Scans.{scanFrom, Scans, operator, behindLast, ConditionOver}
 use Rattle.scan.proofs.Scanning.{scan-on, scan-wrong, scan-short, up, alike, short-alike}
 
-module _ (t : Bytes) (n : ℕ) (w : Bytes) (k : State) where
+module _ (t : Bytes) (n : ℕ) (w : Bytes) (k : ScanState) where
   abbrev x : ℕ
   x = getD t n 0
 
@@ -33,7 +32,7 @@ module _ (t : Bytes) (n : ℕ) (w : Bytes) (k : State) where
   condition-short e = short-alike t n (after 0 w k) (rest (32 ∷ w) k) e refl refl
 
   module _ (h : n < length t) where
-    at-byte : (y : ℕ) → x ≡ y → (p q : State) → step p y ≡ some q → scanFrom t n p ≡ scanFrom t (n + 1) q
+    at-byte : (y : ℕ) → x ≡ y → (p q : ScanState) → step p y ≡ some q → scanFrom t n p ≡ scanFrom t (n + 1) q
     at-byte y e p q s = scan-on t n p q h (ap (step p) e ∙ s) ∙ up t n q h q
 
     pub unit-T : x ≡ 84 → (i : ℕ) → scanFrom t n (unit i w k) ≡ scanFrom t (n + 1) (after i w k)
@@ -117,21 +116,21 @@ no-operator y e = go (eqb y 38) refl
     go true f = absurd (false≢true (sym e ∙ ap (λ b. b || eqb y 124) f))
     go false f = (eqb-false y 38 f, eqb-false y 124 (sym (ap (λ b. b || eqb y 124) f) ∙ e))
 
-module _ (t : Bytes) (at n i : ℕ) (later : at ≤ n) (inside : n ≤ length t) (so-far : (w : Bytes) (k : State) → scanFrom t at (unit 0 w k) ≡ scanFrom t n (after i w k)) where
+module _ (t : Bytes) (at n i : ℕ) (later : at ≤ n) (inside : n ≤ length t) (so-far : (w : Bytes) (k : ScanState) → scanFrom t at (unit 0 w k) ≡ scanFrom t n (after i w k)) where
   pub over-short : n ≡ length t → ConditionOver t at (behindLast n i)
   over-short e w = go i so-far
     where
-      go : (i : ℕ) → ((w : Bytes) (k : State) → scanFrom t at (unit 0 w k) ≡ scanFrom t n (after i w k)) → Scans t at (unit 0 w) (rest (32 ∷ w)) (behindLast n i)
+      go : (i : ℕ) → ((w : Bytes) (k : ScanState) → scanFrom t at (unit 0 w k) ≡ scanFrom t n (after i w k)) → Scans t at (unit 0 w) (rest (32 ∷ w)) (behindLast n i)
       go zero s = (later, inside, λ k. s w k ∙ condition-short t n w k e)
       go (suc i) s = λ k. s w k ∙ after-short t n w k i e
 
   pub over-there : n < length t → operator (getD t n 0) ≡ false → (getD t n 0 ≡ 41 → i ≡ 0) → ConditionOver t at (behindLast n i)
   over-there h e c w = go i so-far c
     where
-      go : (i : ℕ) → ((w : Bytes) (k : State) → scanFrom t at (unit 0 w k) ≡ scanFrom t n (after i w k)) → (getD t n 0 ≡ 41 → i ≡ 0)
+      go : (i : ℕ) → ((w : Bytes) (k : ScanState) → scanFrom t at (unit 0 w k) ≡ scanFrom t n (after i w k)) → (getD t n 0 ≡ 41 → i ≡ 0)
           → Scans t at (unit 0 w) (rest (32 ∷ w)) (behindLast n i)
       go zero s c = (later, inside, λ k. s w k ∙ condition-over t n w k h (no-operator _ e .0) (no-operator _ e .1))
       go (suc i) s c = λ k. s w k ∙ after-wrong t n w k h (no-operator _ e .0) (no-operator _ e .1) (λ f. (let z = c f in omega arith)) i
 
-  pub over-on : n < length t → operator (getD t n 0) ≡ true → (w : Bytes) (k : State) → scanFrom t at (unit 0 w k) ≡ scanFrom t (n + 1) (unit i w k)
+  pub over-on : n < length t → operator (getD t n 0) ≡ true → (w : Bytes) (k : ScanState) → scanFrom t at (unit 0 w k) ≡ scanFrom t (n + 1) (unit i w k)
   over-on h e w k = so-far w k ∙ ⊎-elim (λ f. after-and t n w k h f i) (λ f. after-or t n w k h f i) (is-operator _ e)

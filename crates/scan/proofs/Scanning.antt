@@ -9,8 +9,7 @@ use borrow.Author.Tests.{ne-eqb, eq-eqb}
 use lib.Dec.{eqb}
 use lib.ListN.{length, drop, getD}
 use Rattle.meaning.specs.Card.{Bytes}
-use Rattle.notation.proofs.Scanning.{State, rest, number, digits, list, spaced, list-end, spaced-end, end, remark, digit, when, step}
-use Rattle.notation.proofs.Scan.{accepts, later, at-end, next, judge}
+use Rattle.notation.specs.Scanning.{ScanState, rest, number, digits, list, spaced, list-end, spaced-end, end, remark, digit, when, step, accepts, later, at-end, next, judge}
 use Rattle.scan.specs.declared.scan.Scan.{Scan}
 use Rattle.scan.specs.Scans.{from-there, scanFrom, Scans, ListOver}
 
@@ -29,7 +28,7 @@ drop-none (x ∷ t) (suc n) e = drop-none t n (omega arith)
 
 -- ---- the next byte
 
-module _ (t : Bytes) (n : ℕ) (q : State) where
+module _ (t : Bytes) (n : ℕ) (q : ScanState) where
   one-on : (o : Option ℕ) → from-there n (later o) ≡ from-there (suc n) o
   one-on none = refl
   one-on (some p) = ap some (let e : n + suc p ≡ suc n + p = omega arith in e)
@@ -39,7 +38,7 @@ module _ (t : Bytes) (n : ℕ) (q : State) where
   unfolding judge
   scan-byte h = ap (λ s. from-there n (judge s q)) (drop-cons t n h)
 
-  pub scan-on : (q′ : State) → n < length t → step q (getD t n 0) ≡ some q′ → scanFrom t n q ≡ scanFrom t (suc n) q′
+  pub scan-on : (q′ : ScanState) → n < length t → step q (getD t n 0) ≡ some q′ → scanFrom t n q ≡ scanFrom t (suc n) q′
   scan-on q′ h e = scan-byte h ∙ ap (λ o. from-there n (next o (judge (drop (suc n) t)))) e ∙ one-on (judge (drop (suc n) t) q′)
 
   pub scan-wrong : n < length t → step q (getD t n 0) ≡ none → scanFrom t n q ≡ some n
@@ -51,12 +50,12 @@ module _ (t : Bytes) (n : ℕ) (q : State) where
 
 -- ---- words
 
-rest-none : (t : Bytes) (k : State) → judge t (rest [] k) ≡ judge t k
+rest-none : (t : Bytes) (k : ScanState) → judge t (rest [] k) ≡ judge t k
 unfolding judge accepts step
 rest-none [] k = refl
 rest-none (x ∷ t) k = refl
 
-module _ (t w : Bytes) (n i : ℕ) (k : State) where
+module _ (t w : Bytes) (n i : ℕ) (k : ScanState) where
   -- at the end of the word
   pub word-over : i ≡ length w → scanFrom t n (rest (drop i w) k) ≡ scanFrom t n k
   word-over e = ap (λ v. scanFrom t n (rest v k)) (drop-none w i e) ∙ ap (from-there n) (rest-none (drop n t) k)
@@ -84,7 +83,7 @@ module _ (t w : Bytes) (n i : ℕ) (k : State) where
 
 -- ---- numbers and remarks
 
-module _ (t : Bytes) (n : ℕ) (k : State) where
+module _ (t : Bytes) (n : ℕ) (k : ScanState) where
   pub digits-over : n ≡ length t → scanFrom t n (digits k) ≡ scanFrom t n k
   unfolding judge accepts
   digits-over e = ap (λ s. from-there n (judge s (digits k))) (drop-none t n e) ∙ sym (ap (λ s. from-there n (judge s k)) (drop-none t n e))
@@ -101,7 +100,7 @@ module _ (t : Bytes) (n : ℕ) (k : State) where
     abbrev x : ℕ
     x = getD t n 0
 
-    pub up : (q : State) → scanFrom t (suc n) q ≡ scanFrom t (n + 1) q
+    pub up : (q : ScanState) → scanFrom t (suc n) q ≡ scanFrom t (n + 1) q
     up q = let p : suc n ≡ n + 1 = omega arith in λ j. scanFrom t (p j) q
 
     pub digits-stop : digit x ≡ false → scanFrom t n (digits k) ≡ scanFrom t n k
@@ -131,14 +130,14 @@ module _ (t : Bytes) (n : ℕ) (k : State) where
 -- ---- the end of a line, and lists
 
 -- two states that the next byte leads to the same, and where no byte comes neither accepts
-pub alike : (t : Bytes) (n : ℕ) (p q : State) → n < length t → step p (getD t n 0) ≡ step q (getD t n 0) → scanFrom t n p ≡ scanFrom t n q
+pub alike : (t : Bytes) (n : ℕ) (p q : ScanState) → n < length t → step p (getD t n 0) ≡ step q (getD t n 0) → scanFrom t n p ≡ scanFrom t n q
 alike t n p q h e = scan-byte t n p h ∙ ap (λ o. from-there n (next o (judge (drop (suc n) t)))) e ∙ sym (scan-byte t n q h)
 
-pub short-alike : (t : Bytes) (n : ℕ) (p q : State) → n ≡ length t → accepts p ≡ false → accepts q ≡ false → scanFrom t n p ≡ scanFrom t n q
+pub short-alike : (t : Bytes) (n : ℕ) (p q : ScanState) → n ≡ length t → accepts p ≡ false → accepts q ≡ false → scanFrom t n p ≡ scanFrom t n q
 short-alike t n p q h e f = scan-short t n p h e ∙ sym (scan-short t n q h f)
 
-module _ (t : Bytes) (n : ℕ) (k : State) where
-  abbrev hashed : State
+module _ (t : Bytes) (n : ℕ) (k : ScanState) where
+  abbrev hashed : ScanState
   hashed = rest (32 ∷ (35 ∷ [])) (remark k)
 
   pub end-short : n ≡ length t → scanFrom t n (end k) ≡ some n
@@ -155,15 +154,15 @@ module _ (t : Bytes) (n : ℕ) (k : State) where
 
 -- ---- parts one behind the other: B is scanned from m on, and A from n on comes to it
 
-module _ (t : Bytes) (B g : State → State) (m : ℕ) (r : Scan) (s : Scans t m B g r) where
-  pub passed : (i : ℕ) → r ≡ Scan.At i → (m ≤ i) × (i ≤ length t) × ((k : State) → scanFrom t m (B k) ≡ scanFrom t i (g k))
+module _ (t : Bytes) (B g : ScanState → ScanState) (m : ℕ) (r : Scan) (s : Scans t m B g r) where
+  pub passed : (i : ℕ) → r ≡ Scan.At i → (m ≤ i) × (i ≤ length t) × ((k : ScanState) → scanFrom t m (B k) ≡ scanFrom t i (g k))
   passed i e = subst (Scans t m B g) e s
 
-  module _ (n : ℕ) (A h f : State → State) (a : (k : State) → scanFrom t n (A k) ≡ scanFrom t m (B (f k))) where
+  module _ (n : ℕ) (A h f : ScanState → ScanState) (a : (k : ScanState) → scanFrom t n (A k) ≡ scanFrom t m (B (f k))) where
     pub failed : (p : ℕ) → r ≡ Scan.Wrong p → Scans t n A h r
     failed p e = subst (Scans t n A h) (sym e) (λ k. a k ∙ subst (Scans t m B g) e s (f k))
 
-    pub chained : n ≤ m → ((k : State) → g (f k) ≡ h k) → Scans t n A h r
+    pub chained : n ≤ m → ((k : ScanState) → g (f k) ≡ h k) → Scans t n A h r
     chained p q = go r s
       where
         go : (r : Scan) → Scans t m B g r → Scans t n A h r
@@ -200,19 +199,19 @@ module _ (t : Bytes) (n : ℕ) where
       no-LF : eqb y 10 ≡ false
       no-LF = ap (λ z. eqb z 10) e
 
-      list-spaced : (w : Bytes) (k : State) → scanFrom t n (list w k) ≡ scanFrom t (suc n) (spaced w k)
+      list-spaced : (w : Bytes) (k : ScanState) → scanFrom t n (list w k) ≡ scanFrom t (suc n) (spaced w k)
       unfolding step
       list-spaced w k = scan-on t n (list w k) (spaced w k) h (λ i. when (f i) (spaced w k) none)
 
-      rest-spaced : (w : Bytes) (k : State) → scanFrom t n (rest (32 ∷ w) k) ≡ scanFrom t (suc n) (rest w k)
+      rest-spaced : (w : Bytes) (k : ScanState) → scanFrom t n (rest (32 ∷ w) k) ≡ scanFrom t (suc n) (rest w k)
       unfolding step
       rest-spaced w k = scan-on t n (rest (32 ∷ w) k) (rest w k) h (λ i. when (f i) (rest w k) none)
 
-      ends-spaced : (k : State) → scanFrom t n (list-end k) ≡ scanFrom t (suc n) (spaced-end k)
+      ends-spaced : (k : ScanState) → scanFrom t n (list-end k) ≡ scanFrom t (suc n) (spaced-end k)
       unfolding step
       ends-spaced k = scan-on t n (list-end k) (spaced-end k) h ((λ i. when (no-LF i) k (when (eqb y 32) (spaced-end k) none)) ∙ (λ i. when (f i) (spaced-end k) none))
 
-      end-spaced : (k : State) → scanFrom t n (end k) ≡ scanFrom t (suc n) (rest (35 ∷ []) (remark k))
+      end-spaced : (k : ScanState) → scanFrom t n (end k) ≡ scanFrom t (suc n) (rest (35 ∷ []) (remark k))
       unfolding step
       end-spaced k = scan-on t n (end k) (rest (35 ∷ []) (remark k)) h ((λ i. when (no-LF i) k (when (eqb y 32) (rest (35 ∷ []) (remark k)) none)) ∙ (λ i. when (f i) (rest (35 ∷ []) (remark k)) none))
 
@@ -230,7 +229,7 @@ module _ (t : Bytes) (n : ℕ) where
         abbrev z : ℕ
         z = getD t (suc n) 0
 
-        hash-alike : (k : State) → digit z ≡ false → scanFrom t (suc n) (spaced-end k) ≡ scanFrom t (suc n) (rest (35 ∷ []) (remark k))
+        hash-alike : (k : ScanState) → digit z ≡ false → scanFrom t (suc n) (spaced-end k) ≡ scanFrom t (suc n) (rest (35 ∷ []) (remark k))
         unfolding step
         hash-alike k d = go (eqb z 35) refl
           where
@@ -257,14 +256,14 @@ module _ (t : Bytes) (n : ℕ) where
         )
 
         -- and a digit
-        pub list-on : digit z ≡ true → (c : ℕ) (w : Bytes) (k : State) → scanFrom t n (list (c ∷ w) k) ≡ scanFrom t (n + 1 + 1) (digits (list (c ∷ w) k))
+        pub list-on : digit z ≡ true → (c : ℕ) (w : Bytes) (k : ScanState) → scanFrom t n (list (c ∷ w) k) ≡ scanFrom t (n + 1 + 1) (digits (list (c ∷ w) k))
         unfolding step
         list-on d c w k =
             list-spaced (c ∷ w) k
             ∙ scan-on t (suc n) (spaced (c ∷ w) k) (digits (list (c ∷ w) k)) l (λ i. when (d i) (digits (list (c ∷ w) k)) (when (eqb z c) (rest w k) none))
             ∙ (let p : suc (suc n) ≡ n + 1 + 1 = omega arith in λ j. scanFrom t (p j) (digits (list (c ∷ w) k)))
 
-        pub list-end-on : digit z ≡ true → (k : State) → scanFrom t n (list-end k) ≡ scanFrom t (n + 1 + 1) (digits (list-end k))
+        pub list-end-on : digit z ≡ true → (k : ScanState) → scanFrom t n (list-end k) ≡ scanFrom t (n + 1 + 1) (digits (list-end k))
         unfolding step
         list-end-on d k =
             ends-spaced k
@@ -276,8 +275,8 @@ abbrev pub ListTo : Bytes → ℕ → ℕ → Type 0
 ListTo t at n =
     (at ≤ n)
     × (n ≤ length t)
-    × ((c : ℕ) (w : Bytes) (k : State) → scanFrom t at (list (c ∷ w) k) ≡ scanFrom t n (list (c ∷ w) k))
-    × ((k : State) → scanFrom t at (list-end k) ≡ scanFrom t n (list-end k))
+    × ((c : ℕ) (w : Bytes) (k : ScanState) → scanFrom t at (list (c ∷ w) k) ≡ scanFrom t n (list (c ∷ w) k))
+    × ((k : ScanState) → scanFrom t at (list-end k) ≡ scanFrom t n (list-end k))
 
 pub list-to-over : (t : Bytes) (at n m : ℕ) → ListTo t at n → ListOver t n m → ListOver t at m
 list-to-over t at n m a b = (let p = a .0 in let q = b .0 in omega arith, b .1, (λ c w k. a .2 c w k ∙ b .2 c w k), λ k. a .3 k ∙ b .3 k)

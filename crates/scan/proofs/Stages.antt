@@ -8,11 +8,10 @@ use native.Mathlib.Omega.{arith}
 use borrow.Author.Tests.{ne-eqb}
 use lib.Dec.{eqb, leb}
 use Rattle.meaning.specs.Card.{Bytes}
-use Rattle.notation.proofs.Scanning.{Start, first, actions, dos, selects, revises, ending, State, lines, remark, atoms-line, action-line, from-begin, from-revise, from-select, from-do, do-line, select-line, revise-line, begin-line, when, line, step}
+use Rattle.notation.specs.Scanning.{Start, first, actions, dos, selects, revises, ending, ScanState, lines, remark, atoms-line, action-line, from-begin, from-revise, from-select, from-do, do-line, select-line, revise-line, begin-line, when, line, step, accepts, at-end, judge}
 use Rattle.scan.specs.declared.scan.Scan.{Scan}
 use Rattle.scan.specs.declared.lines.Line.{Line}
 use Rattle.scan.specs.Scans.{Scans, startOf, stagedAs, LineOver, ByLine, KindOver, NextLine, scanFrom, from-there}
-use Rattle.notation.proofs.Scan.{accepts, at-end, judge}
 use Rattle.scan.proofs.Scanning.{scan-on, scan-wrong, scan-short, up, drop-none}
 
 pub line-do : (s : ℕ) → s ≤ 5 → line (startOf s) 100 ≡ when (leb 1 s && leb s 2) do-line none
@@ -53,11 +52,11 @@ line-begin (suc (suc (suc (suc (suc (suc n)))))) h = absurd (omega arith)
 
 module _ (t : Bytes) (at : ℕ) where
   -- a line that was scanned
-  pub staged-over : (L : State → State) (s : ℕ) → s ≤ 5 → (r : Scan) → Scans t at L (λ k. k) r → LineOver t at (L (lines (startOf s))) (stagedAs r s)
+  pub staged-over : (L : ScanState → ScanState) (s : ℕ) → s ≤ 5 → (r : Scan) → Scans t at L (λ k. k) r → LineOver t at (L (lines (startOf s))) (stagedAs r s)
   staged-over L s h (Scan.At m) b = (b .0, b .1, h, b .2 (lines (startOf s)))
   staged-over L s h (Scan.Wrong p) b = b (lines (startOf s))
 
-  module _ (x stage : ℕ) (q : State) (b : Bool) (may : line (startOf stage) x ≡ when b q none) where
+  module _ (x stage : ℕ) (q : ScanState) (b : Bool) (may : line (startOf stage) x ≡ when b q none) where
     pub kind-there : b ≡ true → (r : Line) → LineOver t at q r → KindOver t at x stage r
     kind-there e r h = subst (λ o. ByLine t at o r) (sym (may ∙ ap (λ b. when b q none) e)) h
 
@@ -79,14 +78,14 @@ a-wrong t at s h = subst (λ o. ByLine t at o (Line.Wrong (at - 1))) (sym (line-
 -- ---- the next line
 
 module _ (t : Bytes) (n stage : ℕ) (h : n < length t) where
-  abbrev from : State
+  abbrev from : ScanState
   from = lines (startOf stage)
 
   module _ (y : ℕ) (e : getD t n 0 ≡ y) where
-    on : (q : State) → step from y ≡ some q → scanFrom t n from ≡ scanFrom t (n + 1) q
+    on : (q : ScanState) → step from y ≡ some q → scanFrom t n from ≡ scanFrom t (n + 1) q
     on q s = scan-on t n from q h (ap (step from) e ∙ s) ∙ up t n q h q
 
-    pub next-on : (q : State) → step from y ≡ some q → (r : Line) → LineOver t (n + 1) q r → NextLine t n stage r
+    pub next-on : (q : ScanState) → step from y ≡ some q → (r : Line) → LineOver t (n + 1) q r → NextLine t n stage r
     next-on q s (Line.At m i) b = (let a = b .0 in omega arith, b .1, b .2, on q s ∙ b .3)
     next-on q s (Line.Wrong p) b = on q s ∙ b
 
@@ -94,7 +93,7 @@ module _ (t : Bytes) (n stage : ℕ) (h : n < length t) where
     pub next-kind : step from y ≡ line (startOf stage) y → (r : Line) → KindOver t (n + 1) y stage r → NextLine t n stage r
     next-kind s r b = go (line (startOf stage) y) refl b
       where
-        go : (o : Option State) → line (startOf stage) y ≡ o → ByLine t (n + 1) o r → NextLine t n stage r
+        go : (o : Option ScanState) → line (startOf stage) y ≡ o → ByLine t (n + 1) o r → NextLine t n stage r
         go none f g = subst (NextLine t n stage) (sym g) (scan-wrong t n from h (ap (step from) e ∙ s ∙ f) ∙ ap some (let z : n ≡ n + 1 - 1 = omega arith in z))
         go (some q) f g = next-on q (s ∙ f) r g
 

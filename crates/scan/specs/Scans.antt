@@ -8,12 +8,11 @@ use lib.ListN.{length, drop, getD}
 use Rattle.meaning.specs.Card.{Bytes}
 use mathlib.Core.List.{_∷_}
 use Prim.Native.Char.{code}
-use Rattle.notation.proofs.Scanning.{Start, first, actions, dos, selects, revises, ending, State, lines, line, rest, number, list, list-end, end, unit, after}
+use Rattle.notation.specs.Scanning.{Start, first, actions, dos, selects, revises, ending, ScanState, lines, line, rest, number, list, list-end, end, unit, after, judge}
 use Rattle.notation.specs.Words.{word}
-use Rattle.notation.proofs.Scan.{judge}
 use Rattle.scan.specs.declared.scan.Scan.{Scan}
 use Rattle.scan.specs.declared.condition.Opened.{Opened}
-use Rattle.scan.specs.declared.condition.Behind.{Behind}
+use Rattle.scan.specs.declared.condition.UnitScan.{UnitScan}
 use Rattle.scan.specs.declared.lines.Line.{Line}
 
 -- a place in the text, counted from where a part of it begins
@@ -22,7 +21,7 @@ from-there n none = none
 from-there n (some p) = some (n + p)
 
 -- the scan of a text from a place on, in a state
-abbrev pub scanFrom : Bytes → ℕ → State → Option ℕ
+abbrev pub scanFrom : Bytes → ℕ → ScanState → Option ℕ
 scanFrom t n q = from-there n (judge (drop n t) q)
 
 -- where a scan came to
@@ -31,17 +30,17 @@ placeOf (Scan.At m) = m
 placeOf (Scan.Wrong p) = p
 
 -- the part was scanned, and the scan goes on behind it in the state that comes then; or it went wrong
-abbrev pub Scans : Bytes → ℕ → (State → State) → (State → State) → Scan → Type 0
-Scans t n part then (Scan.At m) = (n ≤ m) × (m ≤ length t) × ((k : State) → scanFrom t n (part k) ≡ scanFrom t m (then k))
-Scans t n part then (Scan.Wrong p) = (k : State) → scanFrom t n (part k) ≡ some p
+abbrev pub Scans : Bytes → ℕ → (ScanState → ScanState) → (ScanState → ScanState) → Scan → Type 0
+Scans t n part then (Scan.At m) = (n ≤ m) × (m ≤ length t) × ((k : ScanState) → scanFrom t n (part k) ≡ scanFrom t m (then k))
+Scans t n part then (Scan.Wrong p) = (k : ScanState) → scanFrom t n (part k) ≡ some p
 
 -- a list was scanned: behind it the word of its line comes, or the line's end
 abbrev pub ListOver : Bytes → ℕ → ℕ → Type 0
 ListOver t n m =
     (n ≤ m)
     × (m ≤ length t)
-    × ((c : ℕ) (w : Bytes) (k : State) → scanFrom t n (list (c ∷ w) k) ≡ scanFrom t m (rest (code " " ∷ (c ∷ w)) k))
-    × ((k : State) → scanFrom t n (list-end k) ≡ scanFrom t m (end k))
+    × ((c : ℕ) (w : Bytes) (k : ScanState) → scanFrom t n (list (c ∷ w) k) ≡ scanFrom t m (rest (code " " ∷ (c ∷ w)) k))
+    × ((k : ScanState) → scanFrom t n (list-end k) ≡ scanFrom t m (end k))
 
 -- ---- conditions: with n brackets open, and whatever word and state come behind
 
@@ -52,11 +51,11 @@ Opens t at brackets r =
     × (r .at ≤ length t)
     × (r .brackets ≤ r .at)
     × ((r .at < length t) → (getD t (r .at) 0 ≡ 33 → ⊥) × (getD t (r .at) 0 ≡ 40 → ⊥))
-    × ((w : Bytes) (k : State) → scanFrom t at (unit brackets w k) ≡ scanFrom t (r .at) (unit (r .brackets) w k))
+    × ((w : Bytes) (k : ScanState) → scanFrom t at (unit brackets w k) ≡ scanFrom t (r .at) (unit (r .brackets) w k))
 
 -- a unit that nothing is nested in
-abbrev pub Leaf : Bytes → ℕ → Scan → Type 0
-Leaf t at r = (at ≤ placeOf r) × ((n : ℕ) (w : Bytes) → Scans t at (unit n w) (after n w) r)
+abbrev pub LeafOver : Bytes → ℕ → Scan → Type 0
+LeafOver t at r = (at ≤ placeOf r) × ((n : ℕ) (w : Bytes) → Scans t at (unit n w) (after n w) r)
 
 -- brackets are closed
 abbrev pub Closes : Bytes → ℕ → ℕ → Opened → Type 0
@@ -65,17 +64,17 @@ Closes t at brackets r =
     × (r .at ≤ length t)
     × (r .brackets ≤ brackets)
     × ((r .at < length t) → (getD t (r .at) 0 ≡ 41) → r .brackets ≡ 0)
-    × ((w : Bytes) (k : State) → scanFrom t at (after brackets w k) ≡ scanFrom t (r .at) (after (r .brackets) w k))
+    × ((w : Bytes) (k : ScanState) → scanFrom t at (after brackets w k) ≡ scanFrom t (r .at) (after (r .brackets) w k))
 
 -- a unit, and the brackets that close behind it
-abbrev pub UnitOver : Bytes → ℕ → ℕ → Behind → Type 0
-UnitOver t at brackets (Behind.At n i) =
+abbrev pub UnitOver : Bytes → ℕ → ℕ → UnitScan → Type 0
+UnitOver t at brackets (UnitScan.At n i) =
     (at ≤ n)
     × (n ≤ length t)
     × (i ≤ n)
     × ((n < length t) → (getD t n 0 ≡ 41) → i ≡ 0)
-    × ((w : Bytes) (k : State) → scanFrom t at (unit brackets w k) ≡ scanFrom t n (after i w k))
-UnitOver t at brackets (Behind.Wrong p) = (w : Bytes) (k : State) → scanFrom t at (unit brackets w k) ≡ some p
+    × ((w : Bytes) (k : ScanState) → scanFrom t at (unit brackets w k) ≡ scanFrom t n (after i w k))
+UnitOver t at brackets (UnitScan.Wrong p) = (w : Bytes) (k : ScanState) → scanFrom t at (unit brackets w k) ≡ some p
 
 -- a condition was scanned, behind which a space and a word come
 abbrev pub ConditionOver : Bytes → ℕ → Scan → Type 0
@@ -100,16 +99,16 @@ abbrev pub WordList : Bytes → ℕ → Bytes → Scan → Type 0
 WordList t at v r = (c : ℕ) (w : Bytes) → Scans t at (λ k. rest v (list (c ∷ w) k)) (rest (code " " ∷ (c ∷ w))) r
 
 -- the lines behind their first byte, and what comes behind them
-abbrev pub doLine : State → State
+abbrev pub doLine : ScanState → ScanState
 doLine k = rest (word "o ") (number (rest (word " if ") (unit 0 (word "add") (list (word "del") (list-end k)))))
 
-abbrev pub selectLine : State → State
+abbrev pub selectLine : ScanState → ScanState
 selectLine k = rest (word "elect if ") (unit 0 (word "goal ") (unit 0 (word "plan") (list-end k)))
 
-abbrev pub reviseLine : State → State
+abbrev pub reviseLine : ScanState → ScanState
 reviseLine k = rest (word "evise") (list (word "if ") (unit 0 (word "to") (list-end k)))
 
-abbrev pub beginLine : State → State
+abbrev pub beginLine : ScanState → ScanState
 beginLine k = rest (word "egin beliefs") (list (word "goals") (list (word "plan") (list-end k)))
 
 -- ---- the text
@@ -128,12 +127,12 @@ stagedAs (Scan.At n) s = Line.At n s
 stagedAs (Scan.Wrong p) s = Line.Wrong p
 
 -- a line was scanned from n on in a state, and lines of a stage come behind it
-abbrev pub LineOver : Bytes → ℕ → State → Line → Type 0
+abbrev pub LineOver : Bytes → ℕ → ScanState → Line → Type 0
 LineOver t n q (Line.At m s) = (n ≤ m) × (m ≤ length t) × (s ≤ 5) × (scanFrom t n q ≡ scanFrom t m (lines (startOf s)))
 LineOver t n q (Line.Wrong p) = scanFrom t n q ≡ some p
 
 -- a line behind its first byte x, if one of that kind may stand there; else that byte is wrong
-abbrev pub ByLine : Bytes → ℕ → Option State → Line → Type 0
+abbrev pub ByLine : Bytes → ℕ → Option ScanState → Line → Type 0
 ByLine t at none r = r ≡ Line.Wrong (at - 1)
 ByLine t at (some q) r = LineOver t at q r
 

@@ -2,7 +2,7 @@
 ghost use mathlib.Core.Path.{_≡_};
 ghost use Prim.Native.Nat.{_≤_, _<_};
 ghost use lib.ListN.{length, getD};
-ghost use Rattle.scan.specs.Scans.{operator, behindLast, Opens, Leaf, Closes, UnitOver, ConditionOver};
+ghost use Rattle.scan.specs.Scans.{operator, behindLast, Opens, LeafOver, Closes, UnitOver, ConditionOver};
 use crate::scan::Scan;
 use crate::scan::scan_number;
 
@@ -43,7 +43,7 @@ fn scan_opening(text: &[u8], at: usize, brackets: usize) -> Opened
 fn scan_leaf(text: &[u8], at: usize) -> Scan
     requires { ⌜ at ≤ length (now text) ⌝ }
     requires { ⌜ (at < length (now text) → (getD (now text) at 0 ≡ 33 → ⊥) × (getD (now text) at 0 ≡ 40 → ⊥)) ⌝ }
-    ensures { λ r. ⌜ Leaf (now (text .entry)) at r ⌝ }
+    ensures { λ r. ⌜ LeafOver (now (text .entry)) at r ⌝ }
 {
     if at == text.len() {
         return Scan::Wrong(at);
@@ -88,13 +88,13 @@ fn scan_closing(text: &[u8], at: usize, brackets: usize) -> Opened
 }
 
 // Behind a unit, with how many brackets are open there; or the place of the wrong byte.
-pub enum Behind {
+pub enum UnitScan {
     At(usize, usize),
     Wrong(usize),
 }
 
 // "unit", with the brackets that close behind it.
-fn scan_unit(text: &[u8], at: usize, brackets: usize) -> Behind
+fn scan_unit(text: &[u8], at: usize, brackets: usize) -> UnitScan
     requires { ⌜ (at ≤ length (now text)) × (brackets ≤ at) ⌝ }
     ensures { λ r. ⌜ UnitOver (now (text .entry)) at brackets r ⌝ }
 {
@@ -103,10 +103,10 @@ fn scan_unit(text: &[u8], at: usize, brackets: usize) -> Behind
     let inside = opened.brackets;
     let leaf = scan_leaf(text, first);
     match leaf {
-        Scan::Wrong(p) => Behind::Wrong(p),
+        Scan::Wrong(p) => UnitScan::Wrong(p),
         Scan::At(n) => {
             let closed = scan_closing(text, n, inside);
-            Behind::At(closed.at, closed.brackets)
+            UnitScan::At(closed.at, closed.brackets)
         }
     }
 }
@@ -139,10 +139,10 @@ pub fn scan_condition(text: &[u8], at: usize) -> Scan
     loop {
         let unit = scan_unit(text, n, brackets);
         match unit {
-            Behind::Wrong(p) => {
+            UnitScan::Wrong(p) => {
                 return Scan::Wrong(p);
             }
-            Behind::At(m, inside) => {
+            UnitScan::At(m, inside) => {
                 if m == text.len() {
                     return behind_last(m, inside);
                 }

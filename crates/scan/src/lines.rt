@@ -2,9 +2,8 @@
 ghost use mathlib.Core.Path.{_≡_};
 ghost use Prim.Native.Nat.{_≤_, _<_};
 ghost use lib.ListN.{length};
-ghost use Rattle.notation.proofs.Scanning.{first, lines, rest, number, list-end, end};
+ghost use Rattle.notation.specs.Scanning.{first, lines, rest, number, list-end, end, judge};
 ghost use Rattle.scan.specs.Scans.{Scans, WordCondition, WordList, doLine, selectLine, reviseLine, beginLine, stagedAs, KindOver, NextLine, found};
-ghost use Rattle.notation.proofs.Scan.{judge};
 use crate::condition::scan_condition;
 use crate::scan::Scan;
 use crate::scan::scan_end;

@@ -2,10 +2,10 @@
 // ends)". One byte ahead is always enough, and a count of open brackets.
 ghost use Prim.Native.Nat.{_≤_};
 ghost use lib.ListN.{length};
-ghost use Rattle.notation.proofs.Scanning.{rest, number, digits, end, remark, digit};
+ghost use Rattle.notation.specs.Scanning.{rest, number, digits, end, remark};
 ghost use Rattle.scan.specs.declared.scan.Scan.{Scan};
-ghost use mathlib.Core.Path.{_≡_};
 ghost use Rattle.scan.specs.Scans.{placeOf, Scans, ListOver};
+use conditions::number::is_digit;
 
 // Behind a part of the text, or the place of the wrong byte.
 pub enum Scan {
@@ -31,12 +31,6 @@ pub fn scan_word(text: &[u8], at: usize, word: &[u8]) -> Scan
         i += 1;
     }
     Scan::At(n)
-}
-
-fn is_digit(x: u8) -> bool
-    ensures { λ r. ⌜ r ≡ digit x ⌝ }
-{
-    (48 <= x) & (x <= 57)
 }
 
 // "{ digit }": the place of the first byte that is none.

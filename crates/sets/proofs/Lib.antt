@@ -1,3 +1,4 @@
 pub mod Loops
 pub mod Below
 pub mod KnownAtoms
+pub mod Members

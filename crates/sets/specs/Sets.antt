@@ -1,9 +1,12 @@
--- Sets of 16 bytes: the atoms below a number, and the empty set.
-use mathlib.Core.Bool.{Bool}
+-- Sets of 16 bytes: the atoms below a number, and the empty set; and of any number of bytes: one member more.
+use mathlib.Core.Path.{_≡_}
+use mathlib.Core.Bool.{Bool, _&&_}
 use mathlib.Core.List.{map}
-use Prim.Native.Nat.{ℕ, _-_, _*_, _^_, min}
-use lib.Dec.{eqb}
-use Rattle.paper.specs.Atoms.{Atoms}
+use Prim.Native.Nat.{ℕ, _-_, _*_, _/_, _%_, _^_, min}
+use lib.Bits.{bitOr}
+use lib.Dec.{eqb, ltb}
+use lib.ListN.{getD, set}
+use Rattle.paper.specs.Atoms.{Atoms, _∈_}
 use Rattle.runs.specs.Order.{numbers}
 use Rattle.meaning.specs.Refusals.{all}
 
@@ -18,3 +21,11 @@ lowBits n = 2 ^ min n 8 - 1
 -- byte i holds the atoms from 8 i on
 unfoldable pub below : ℕ → Atoms
 below n = map (λ i. lowBits (n - 8 * i)) (numbers 0 16)
+
+-- a set of any number of bytes, with number k too
+abbrev pub withMember : ℕ → Atoms → Atoms
+withMember k s = set s (k / 8) (bitOr (getD s (k / 8) 0) (2 ^ (k % 8)))
+
+-- a set of the numbers below x that pass a test
+abbrev pub Passing : (ℕ → Bool) → ℕ → Atoms → Type 0
+Passing t x s = (k : ℕ) → k ∈ s ≡ (ltb k x && t k)

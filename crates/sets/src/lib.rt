@@ -1,12 +1,15 @@
 // Sets of atoms, 16 bytes by value: "atom k is bit (k modulo 8) of byte (k divided by 8)" (document 01).
 ghost use mathlib.Core.Path.{_≡_};
 ghost use Rattle.paper.specs.Atoms.{_∈_, _∪_, _∖_};
-ghost use Prim.Native.Nat.{_≤_};
+ghost use Prim.Native.Nat.{_/_, _≤_, _<_};
+ghost use lib.ListN.{length};
+ghost use Rattle.meaning.specs.Sizes.{edition1Set, mostAtoms};
 ghost use Rattle.meaning.specs.Refusals.{setGood, bothGood};
-ghost use Rattle.sets.specs.Sets.{lowBits};
+ghost use Rattle.sets.specs.Sets.{lowBits, withMember};
+use meaning::Set;
 
 // Whether atom k is in s.
-pub fn member(s: [u8; 16], k: u8) -> bool
+pub fn member(s: Set, k: u8) -> bool
     ensures { λ r. ⌜ r ≡ (k ∈ s) ⌝ }
 {
     let i = (k / 8) as usize;
@@ -16,8 +19,17 @@ pub fn member(s: [u8; 16], k: u8) -> bool
     (s[i] >> (k % 8)) % 2 == 1
 }
 
+// A set of any number of bytes, with number k too.
+pub fn add_member(s: &mut [u8], k: usize)
+    requires { ⌜ k / 8 < length (now s) ⌝ }
+    ensures { λ r. ⌜ now (s .exit) ≡ withMember k (now (s .entry)) ⌝ }
+{
+    let at = k / 8;
+    s[at] = s[at] | (1u8 << (k % 8));
+}
+
 // The atoms of a and those of b.
-pub fn union(a: [u8; 16], b: [u8; 16]) -> [u8; 16]
+pub fn union(a: Set, b: Set) -> Set
     ensures { λ r. ⌜ r ≡ a ∪ b ⌝ }
 {
     let mut r = a;
@@ -30,7 +42,7 @@ pub fn union(a: [u8; 16], b: [u8; 16]) -> [u8; 16]
 }
 
 // The atoms of a that are not in b.
-pub fn difference(a: [u8; 16], b: [u8; 16]) -> [u8; 16]
+pub fn difference(a: Set, b: Set) -> Set
     ensures { λ r. ⌜ r ≡ a ∖ b ⌝ }
 {
     let mut r = a;
@@ -60,8 +72,8 @@ fn low_bits(n: usize) -> u8
 }
 
 // Whether s has only atoms below a number: those of the byte that it lies in, and no byte behind.
-pub fn known(s: [u8; 16], atoms: usize) -> bool
-    requires { ⌜ atoms ≤ 128 ⌝ }
+pub fn known(s: Set, atoms: usize) -> bool
+    requires { ⌜ atoms ≤ mostAtoms edition1Set ⌝ }
     ensures { λ r. ⌜ r ≡ setGood atoms s ⌝ }
 {
     let mut i = atoms / 8;
@@ -79,8 +91,8 @@ pub fn known(s: [u8; 16], atoms: usize) -> bool
 }
 
 // Whether a and b both have only atoms below a number.
-pub fn both_known(a: [u8; 16], b: [u8; 16], atoms: usize) -> bool
-    requires { ⌜ atoms ≤ 128 ⌝ }
+pub fn both_known(a: Set, b: Set, atoms: usize) -> bool
+    requires { ⌜ atoms ≤ mostAtoms edition1Set ⌝ }
     ensures { λ r. ⌜ r ≡ bothGood atoms a b ⌝ }
 {
     known(union(a, b), atoms)

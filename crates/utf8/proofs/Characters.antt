@@ -138,6 +138,9 @@ below n h = inl (record { least = omega arith; most = h })
 above : (n : ℕ) → 0xE000 ≤ n → n ≤ 0x10FFFF → CodePoint n
 above n h k = inr (record { least = h; most = k })
 
+wider : {low high x : ℕ} (low′ high′ : ℕ) → From low high x → low′ ≤ low → high ≤ high′ → From low′ high′ x
+wider low′ high′ r h k = let l = r .least in let m = r .most in record { least = omega arith; most = omega arith }
+
 only-2 : (s : Bytes) → UTF8-2 s → Only s
 unfolding decode
 only-2 s (from-c2 {a} {b} r q) =
@@ -150,125 +153,99 @@ only-2 s (from-c2 {a} {b} r q) =
     let f : b ≡ six n 1 = omega arith in
     (below n (omega arith), (λ j. e j ∷ (f j ∷ [])) ∙ sym (form-2 n (omega arith) (omega arith)))
 
--- a first byte from E0 to EF and two tails, where the number has no shorter form
-module _ (a b c : ℕ) (r : From 0xE0 0xEF a) (q : UTF8-tail b) (p : UTF8-tail c) where
-  abbrev n₃ : ℕ
-  n₃ = 4096 * (a - 0xE0) + (64 * (b - 0x80) + (c - 0x80))
+-- a first byte from E0 to EF and two tails: the number that they spell, within what their ranges spell; where it has no shorter
+-- form they are its form
+abbrev spelt-3 : ℕ → ℕ → ℕ → ℕ
+spelt-3 a b c = 4096 * (a - 0xE0) + (64 * (b - 0x80) + (c - 0x80))
 
-  form-of-3 : 0x7FF < n₃ → a ∷ (b ∷ (c ∷ [])) ≡ encode n₃
-  form-of-3 long =
-      let n = n₃ in
-      let h = r .least in
-      let k = r .most in
-      let l = q .least in
-      let m = q .most in
-      let o = p .least in
-      let i = p .most in
-      let e : a ≡ 0xE0 + n / 4096 = omega arith in
-      let d : n / 64 ≡ 64 * (a - 0xE0) + (b - 0x80) = omega arith in
-      let f : b ≡ six n 64 = omega arith in
-      let g : c ≡ six n 1 = omega arith in
-      (λ j. e j ∷ (f j ∷ (g j ∷ []))) ∙ sym (form-3 n long (omega arith))
+within-3 : {la ha lb hb a b c : ℕ} → From la ha a → From lb hb b → UTF8-tail c → From (spelt-3 la lb 0x80) (spelt-3 ha hb 0xBF) (spelt-3 a b c)
+within-3 r q p =
+    let h = r .least in
+    let k = r .most in
+    let l = q .least in
+    let m = q .most in
+    let o = p .least in
+    let i = p .most in
+    record { least = omega arith; most = omega arith }
+
+form-of-3 : {a b c : ℕ} → From 0xE0 0xEF a → UTF8-tail b → UTF8-tail c → 0x7FF < spelt-3 a b c → a ∷ (b ∷ (c ∷ [])) ≡ encode (spelt-3 a b c)
+form-of-3 {a} {b} {c} r q p long =
+    let n = spelt-3 a b c in
+    let h = r .least in
+    let k = r .most in
+    let l = q .least in
+    let m = q .most in
+    let o = p .least in
+    let i = p .most in
+    let e : a ≡ 0xE0 + n / 4096 = omega arith in
+    let d : n / 64 ≡ 64 * (a - 0xE0) + (b - 0x80) = omega arith in
+    let f : b ≡ six n 64 = omega arith in
+    let g : c ≡ six n 1 = omega arith in
+    (λ j. e j ∷ (f j ∷ (g j ∷ []))) ∙ sym (form-3 n long (omega arith))
 
 only-3 : (s : Bytes) → UTF8-3 s → Only s
 unfolding decode
-only-3 s (at-e0 {a} {b} {c} r q p) =
-    let h = r .least in
-    let k = r .most in
-    let l = q .least in
-    let m = q .most in
-    let o = p .least in
-    let i = p .most in (
-      below (n₃ a b c (record { least = h; most = omega arith }) (record { least = omega arith; most = m }) p) (omega arith),
-      form-of-3 a b c (record { least = h; most = omega arith }) (record { least = omega arith; most = m }) p (omega arith),
-    )
-only-3 s (from-e1 {a} {b} {c} r q p) =
-    let h = r .least in
-    let k = r .most in
-    let l = q .least in
-    let m = q .most in
-    let o = p .least in
-    let i = p .most in (
-      below (n₃ a b c (record { least = omega arith; most = omega arith }) q p) (omega arith),
-      form-of-3 a b c (record { least = omega arith; most = omega arith }) q p (omega arith),
-    )
-only-3 s (at-ed {a} {b} {c} r q p) =
-    let h = r .least in
-    let k = r .most in
-    let l = q .least in
-    let m = q .most in
-    let o = p .least in
-    let i = p .most in (
-      below (n₃ a b c (record { least = omega arith; most = omega arith }) (record { least = l; most = omega arith }) p) (omega arith),
-      form-of-3 a b c (record { least = omega arith; most = omega arith }) (record { least = l; most = omega arith }) p (omega arith),
-    )
-only-3 s (from-ee {a} {b} {c} r q p) =
-    let h = r .least in
-    let k = r .most in
-    let l = q .least in
-    let m = q .most in
-    let o = p .least in
-    let i = p .most in (
-      above (n₃ a b c (record { least = omega arith; most = k }) q p) (omega arith) (omega arith),
-      form-of-3 a b c (record { least = omega arith; most = k }) q p (omega arith),
-    )
+only-3 s (at-e0 r q p) =
+    let w = within-3 r q p in
+    (below _ (omega (arith, w .most)), form-of-3 (wider 0xE0 0xEF r (omega arith) (omega arith)) (wider 0x80 0xBF q (omega arith) (omega arith)) p (omega (arith, w .least)))
+only-3 s (from-e1 r q p) =
+    let w = within-3 r q p in
+    (below _ (omega (arith, w .most)), form-of-3 (wider 0xE0 0xEF r (omega arith) (omega arith)) q p (omega (arith, w .least)))
+only-3 s (at-ed r q p) =
+    let w = within-3 r q p in
+    (below _ (omega (arith, w .most)), form-of-3 (wider 0xE0 0xEF r (omega arith) (omega arith)) (wider 0x80 0xBF q (omega arith) (omega arith)) p (omega (arith, w .least)))
+only-3 s (from-ee r q p) =
+    let w = within-3 r q p in
+    (above _ (omega (arith, w .least)) (omega (arith, w .most)), form-of-3 (wider 0xE0 0xEF r (omega arith) (omega arith)) q p (omega (arith, w .least)))
 
--- a first byte from F0 to F4 and three tails, where the number has no shorter form
-module _ (a b c d : ℕ) (r : From 0xF0 0xF4 a) (q : UTF8-tail b) (p : UTF8-tail c) (t : UTF8-tail d) where
-  abbrev n₄ : ℕ
-  n₄ = 262144 * (a - 0xF0) + (4096 * (b - 0x80) + (64 * (c - 0x80) + (d - 0x80)))
+-- the same with a first byte from F0 to F4 and three tails
+abbrev spelt-4 : ℕ → ℕ → ℕ → ℕ → ℕ
+spelt-4 a b c d = 262144 * (a - 0xF0) + (4096 * (b - 0x80) + (64 * (c - 0x80) + (d - 0x80)))
 
-  form-of-4 : 0xFFFF < n₄ → a ∷ (b ∷ (c ∷ (d ∷ []))) ≡ encode n₄
-  form-of-4 long =
-      let n = n₄ in
-      let h = r .least in
-      let k = r .most in
-      let l = q .least in
-      let m = q .most in
-      let o = p .least in
-      let i = p .most in
-      let u = t .least in
-      let v = t .most in
-      let e : a ≡ 0xF0 + n / 262144 = omega arith in
-      let x : n / 4096 ≡ 64 * (a - 0xF0) + (b - 0x80) = omega arith in
-      let y : n / 64 ≡ 4096 * (a - 0xF0) + (64 * (b - 0x80) + (c - 0x80)) = omega arith in
-      let f : b ≡ six n 4096 = omega arith in
-      let g : c ≡ six n 64 = omega arith in
-      let z : d ≡ six n 1 = omega arith in
-      (λ j. e j ∷ (f j ∷ (g j ∷ (z j ∷ [])))) ∙ sym (form-4 n long)
+within-4 : {la ha lb hb a b c d : ℕ} → From la ha a → From lb hb b → UTF8-tail c → UTF8-tail d
+    → From (spelt-4 la lb 0x80 0x80) (spelt-4 ha hb 0xBF 0xBF) (spelt-4 a b c d)
+within-4 r q p t =
+    let h = r .least in
+    let k = r .most in
+    let l = q .least in
+    let m = q .most in
+    let o = p .least in
+    let i = p .most in
+    let u = t .least in
+    let v = t .most in
+    record { least = omega arith; most = omega arith }
+
+form-of-4 : {a b c d : ℕ} → From 0xF0 0xF4 a → UTF8-tail b → UTF8-tail c → UTF8-tail d → 0xFFFF < spelt-4 a b c d
+    → a ∷ (b ∷ (c ∷ (d ∷ []))) ≡ encode (spelt-4 a b c d)
+form-of-4 {a} {b} {c} {d} r q p t long =
+    let n = spelt-4 a b c d in
+    let h = r .least in
+    let k = r .most in
+    let l = q .least in
+    let m = q .most in
+    let o = p .least in
+    let i = p .most in
+    let u = t .least in
+    let v = t .most in
+    let e : a ≡ 0xF0 + n / 262144 = omega arith in
+    let x : n / 4096 ≡ 64 * (a - 0xF0) + (b - 0x80) = omega arith in
+    let y : n / 64 ≡ 4096 * (a - 0xF0) + (64 * (b - 0x80) + (c - 0x80)) = omega arith in
+    let f : b ≡ six n 4096 = omega arith in
+    let g : c ≡ six n 64 = omega arith in
+    let z : d ≡ six n 1 = omega arith in
+    (λ j. e j ∷ (f j ∷ (g j ∷ (z j ∷ [])))) ∙ sym (form-4 n long)
 
 only-4 : (s : Bytes) → UTF8-4 s → Only s
 unfolding decode
-only-4 s (at-f0 {a} {b} {c} {d} r q p t) =
-    let h = r .least in
-    let k = r .most in
-    let l = q .least in
-    let m = q .most in
-    let o = p .most in
-    let i = t .most in (
-      above (n₄ a b c d (record { least = h; most = omega arith }) (record { least = omega arith; most = m }) p t) (omega arith) (omega arith),
-      form-of-4 a b c d (record { least = h; most = omega arith }) (record { least = omega arith; most = m }) p t (omega arith),
-    )
-only-4 s (from-f1 {a} {b} {c} {d} r q p t) =
-    let h = r .least in
-    let k = r .most in
-    let l = q .least in
-    let m = q .most in
-    let o = p .most in
-    let i = t .most in (
-      above (n₄ a b c d (record { least = omega arith; most = omega arith }) q p t) (omega arith) (omega arith),
-      form-of-4 a b c d (record { least = omega arith; most = omega arith }) q p t (omega arith),
-    )
-only-4 s (at-f4 {a} {b} {c} {d} r q p t) =
-    let h = r .least in
-    let k = r .most in
-    let l = q .least in
-    let m = q .most in
-    let o = p .most in
-    let i = t .most in (
-      above (n₄ a b c d (record { least = omega arith; most = k }) (record { least = l; most = omega arith }) p t) (omega arith) (omega arith),
-      form-of-4 a b c d (record { least = omega arith; most = k }) (record { least = l; most = omega arith }) p t (omega arith),
-    )
+only-4 s (at-f0 r q p t) =
+    let w = within-4 r q p t in
+    (above _ (omega (arith, w .least)) (omega (arith, w .most)), form-of-4 (wider 0xF0 0xF4 r (omega arith) (omega arith)) (wider 0x80 0xBF q (omega arith) (omega arith)) p t (omega (arith, w .least)))
+only-4 s (from-f1 r q p t) =
+    let w = within-4 r q p t in
+    (above _ (omega (arith, w .least)) (omega (arith, w .most)), form-of-4 (wider 0xF0 0xF4 r (omega arith) (omega arith)) q p t (omega (arith, w .least)))
+only-4 s (at-f4 r q p t) =
+    let w = within-4 r q p t in
+    (above _ (omega (arith, w .least)) (omega (arith, w .most)), form-of-4 (wider 0xF0 0xF4 r (omega arith) (omega arith)) (wider 0x80 0xBF q (omega arith) (omega arith)) p t (omega (arith, w .least)))
 
 pub one-form : OneForm
 unfolding decode

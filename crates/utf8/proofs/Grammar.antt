@@ -56,7 +56,7 @@ complete s (more c {t} h k) = over c t h ∙ complete t k
 -- ---- what is accepted the grammar has
 
 -- a character, and right bytes behind it
-pub record Came (s : Bytes) : Type 0 where
+pub record CharacterCame (s : Bytes) : Type 0 where
   pub char : Bytes
   pub rest : Bytes
   pub good : UTF8-char char
@@ -68,10 +68,10 @@ module _ (x : ℕ) (s : Bytes) (e : ends nothing (x ∷ s) ≡ true) where
   behind-it : (n low high : ℕ) → behindFirst x ≡ awaited n low high → ends (awaited n low high) s ≡ true
   behind-it n low high b = sym (first n low high x s b) ∙ e
 
-  came-none : behindFirst x ≡ never → Came (x ∷ s)
+  came-none : behindFirst x ≡ never → CharacterCame (x ∷ s)
   came-none b = absurd (false≢true (sym (ends-never s) ∙ behind-it 1 1 0 b))
 
-  came-1 : From 0 0x7F x → Came (x ∷ s)
+  came-1 : From 0 0x7F x → CharacterCame (x ∷ s)
   came-1 r =
       record {
         char = x ∷ [];
@@ -82,7 +82,7 @@ module _ (x : ℕ) (s : Bytes) (e : ends nothing (x ∷ s) ≡ true) where
         right = behind-it 0 0x80 0xBF (first-plain x r);
       }
 
-  came-2 : From 0xC2 0xDF x → Came (x ∷ s)
+  came-2 : From 0xC2 0xDF x → CharacterCame (x ∷ s)
   came-2 r =
       let t = tail-came 0 0x80 0xBF s (behind-it 1 0x80 0xBF (first-c2 x r)) in
       let l : length s ≡ suc (length (t .rest)) = ap length (t .is) in
@@ -95,7 +95,7 @@ module _ (x : ℕ) (s : Bytes) (e : ends nothing (x ∷ s) ≡ true) where
         right = t .right;
       }
 
-  came-3 : (low high : ℕ) → behindFirst x ≡ awaited 2 low high → ((b c : ℕ) → From low high b → UTF8-tail c → UTF8-3 (x ∷ (b ∷ (c ∷ [])))) → Came (x ∷ s)
+  came-3 : (low high : ℕ) → behindFirst x ≡ awaited 2 low high → ((b c : ℕ) → From low high b → UTF8-tail c → UTF8-3 (x ∷ (b ∷ (c ∷ [])))) → CharacterCame (x ∷ s)
   came-3 low high b make =
       let t = tail-came 1 low high s (behind-it 2 low high b) in
       let u = tail-came 0 0x80 0xBF (t .rest) (t .right) in
@@ -110,7 +110,7 @@ module _ (x : ℕ) (s : Bytes) (e : ends nothing (x ∷ s) ≡ true) where
         right = u .right;
       }
 
-  came-4 : (low high : ℕ) → behindFirst x ≡ awaited 3 low high → ((b c d : ℕ) → From low high b → UTF8-tail c → UTF8-tail d → UTF8-4 (x ∷ (b ∷ (c ∷ (d ∷ []))))) → Came (x ∷ s)
+  came-4 : (low high : ℕ) → behindFirst x ≡ awaited 3 low high → ((b c d : ℕ) → From low high b → UTF8-tail c → UTF8-tail d → UTF8-4 (x ∷ (b ∷ (c ∷ (d ∷ []))))) → CharacterCame (x ∷ s)
   came-4 low high b make =
       let t = tail-came 2 low high s (behind-it 3 low high b) in
       let u = tail-came 1 0x80 0xBF (t .rest) (t .right) in
@@ -135,7 +135,7 @@ module _ (x : ℕ) (s : Bytes) (e : ends nothing (x ∷ s) ≡ true) where
       go false h = inr (leb-false x m h)
 
   -- from F0 on
-  came-f0 : 0xEF < x → Came (x ∷ s)
+  came-f0 : 0xEF < x → CharacterCame (x ∷ s)
   came-f0 h =
       elim (up-to 0xF0) [
         | inl k ↦ (let r : From 0xF0 0xF0 x = record { least = h; most = k } in came-4 0x90 0xBF (first-f0 x r) (λ b c d. at-f0 r))
@@ -149,7 +149,7 @@ module _ (x : ℕ) (s : Bytes) (e : ends nothing (x ∷ s) ≡ true) where
       ]
 
   -- from E0 on
-  came-e0 : 0xDF < x → Came (x ∷ s)
+  came-e0 : 0xDF < x → CharacterCame (x ∷ s)
   came-e0 h =
       elim (up-to 0xE0) [
         | inl k ↦ (let r : From 0xE0 0xE0 x = record { least = h; most = k } in came-3 0xA0 0xBF (first-e0 x r) (λ b c. at-e0 r))
@@ -165,7 +165,7 @@ module _ (x : ℕ) (s : Bytes) (e : ends nothing (x ∷ s) ≡ true) where
         ]
       ]
 
-  pub came : Came (x ∷ s)
+  pub came : CharacterCame (x ∷ s)
   came =
       elim (up-to 0x7F) [
         | inl k ↦ came-1 (record { least = omega arith; most = k })

@@ -7,12 +7,12 @@ use native.Mathlib.Omega.{arith}
 use borrow.Author.Tests.{le-leb, lt-leb, leb-true, eq-eqb, ne-eqb, eqb-true}
 use lib.Dec.{leb, eqb}
 use lib.ListN.{length, take, drop, getD}
+use Rattle.paper.specs.Next.{if}
 use Rattle.paper.proofs.Relation.{both, false≢true}
 use Rattle.meaning.proofs.Every.{both-true}
 use Rattle.meaning.specs.Card.{Bytes, part}
 use Rattle.utf8.specs.Grammar.{From}
 use Rattle.utf8.specs.declared.Awaited.{Awaited}
-use Rattle.utf8.specs.Characters.{if}
 use Rattle.utf8.specs.Reading.{awaited, never, begins, tailsOf, lowOf, highOf, behindFirst, behindTail, behind, awaitedBehind}
 
 -- ---- a step, by what was tested

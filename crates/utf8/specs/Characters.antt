@@ -1,16 +1,11 @@
 -- The characters' numbers: RFC 3629, section 3, "UTF-8 definition": the table from numbers to bytes and back.
-use mathlib.Core.Bool.{Bool, true, false}
 use mathlib.Core.List.{[], _∷_}
 use mathlib.Core.Logic.{_⊎_}
 use Prim.Native.Nat.{ℕ, _+_, _*_, _-_, _/_, _%_}
 use lib.Dec.{leb}
+use Rattle.paper.specs.Next.{if}
 use Rattle.meaning.specs.Card.{Bytes}
 use Rattle.utf8.specs.Grammar.{From}
-
--- one of two, by a truth value
-abbrev pub if : {X : Type 0} → Bool → X → X → X
-if true x y = x
-if false x y = y
 
 -- RFC 3629, section 3: "characters from the U+0000..U+10FFFF range", of which it "prohibits encoding character numbers between
 -- U+D800 and U+DFFF": 1,112,064 of them.

@@ -4,8 +4,8 @@ use mathlib.Core.Bool.{Bool, _&&_, _||_}
 use mathlib.Core.List.{[], _∷_}
 use Prim.Native.Nat.{ℕ, _-_}
 use lib.Dec.{leb, eqb}
+use Rattle.paper.specs.Next.{if}
 use Rattle.meaning.specs.Card.{Bytes}
-use Rattle.utf8.specs.Characters.{if}
 use Rattle.utf8.specs.declared.Awaited.{Awaited}
 
 -- so many tails, the next of them within a range

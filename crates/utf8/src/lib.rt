@@ -1,9 +1,11 @@
 // UTF-8 as RFC 3629 has it: whether a part of lent bytes is. One pass over the part, byte by byte.
 ghost use mathlib.Core.Path.{_≡_};
 ghost use Prim.Native.Nat.{_-_, _≤_};
+ghost use lib.Dec.{eqb};
 ghost use lib.ListN.{length};
+ghost use Rattle.paper.specs.Next as Next;
 ghost use Rattle.meaning.specs.Card.{part};
-ghost use Rattle.utf8.specs.Reading.{begins, tailsOf, lowOf, highOf, behindFirst, behindTail, behind, utf8};
+ghost use Rattle.utf8.specs.Reading.{begins, tailsOf, behindFirst, behindTail, behind, utf8};
 
 // What is awaited behind the bytes that were read: so many tails, the next of them within a range.
 pub struct Awaited {
@@ -35,30 +37,17 @@ fn tails_of(x: u8) -> u8
     3
 }
 
-// The least that its second byte may be: lower ones would spell a number that has a shorter form.
-fn low_of(x: u8) -> u8
-    ensures { λ r. ⌜ r ≡ lowOf x ⌝ }
+// A bound of a character's second byte, by its first: one for each of two bytes, and one for every other.
+fn bound(x: u8, k: u8, a: u8, m: u8, b: u8, other: u8) -> u8
+    ensures { λ r. ⌜ r ≡ Next.if (eqb x k) a (Next.if (eqb x m) b other) ⌝ }
 {
-    if x == 0xE0 {
-        return 0xA0;
+    if x == k {
+        return a;
     }
-    if x == 0xF0 {
-        return 0x90;
+    if x == m {
+        return b;
     }
-    0x80
-}
-
-// The most that its second byte may be: higher ones would spell a surrogate, or a number above 10FFFF.
-fn high_of(x: u8) -> u8
-    ensures { λ r. ⌜ r ≡ highOf x ⌝ }
-{
-    if x == 0xED {
-        return 0x9F;
-    }
-    if x == 0xF4 {
-        return 0x8F;
-    }
-    0xBF
+    other
 }
 
 // What is awaited behind a character's first byte.
@@ -75,8 +64,10 @@ fn behind_first(x: u8) -> Awaited
     if begins(x) {
         Awaited {
             tails: tails_of(x),
-            low: low_of(x),
-            high: high_of(x),
+            // lower ones would spell a number that has a shorter form
+            low: bound(x, 0xE0, 0xA0, 0xF0, 0x90, 0x80),
+            // higher ones would spell a surrogate, or a number above 10FFFF
+            high: bound(x, 0xED, 0x9F, 0xF4, 0x8F, 0xBF),
         }
     } else {
         Awaited {

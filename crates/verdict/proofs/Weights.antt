@@ -13,12 +13,14 @@ use Rattle.runs.specs.Order.{numbers}
 use Rattle.runs.proofs.Numbers.{length-made, made-at}
 use Rattle.runs.proofs.Weight.{weigh-append}
 use Rattle.meaning.specs.declared.Layout.{Layout}
-use Rattle.meaning.specs.Card.{Bytes, part, layout, weightAt, weights, weight}
+use Rattle.meaning.specs.Sizes.{setBytes, headerBytes}
+use Rattle.meaning.specs.Card.{Bytes, byte, numberAt, part, layout, weightAt, weights, weight}
 use Rattle.card.specs.GoodCard.{GoodCard}
+use Rattle.verdict.specs.Summed.{Weighable}
 
-pub weight-known : (b : Bytes) (a : ℕ) → a < layout b .actions → weight b a ≡ weightAt b a
+pub weight-known : (b : Bytes) (a : ℕ) → a < layout b .actions → weight b a ≡ weightAt (layout b) b a
 unfolding weight weights
-weight-known b a h = made-at (weightAt b) 0 (layout b .actions) a 1 h ∙ ap (weightAt b) (zero-add a)
+weight-known b a h = made-at (weightAt (layout b) b) 0 (layout b .actions) a 1 h ∙ ap (weightAt (layout b) b) (zero-add a)
 
 pub weigh-next : (w : ℕ → ℕ) (π : List ℕ) (i : ℕ) → i < length π → weigh w (drop i π) ≡ w (getD π i 0) + weigh w (drop (i + 1) π)
 unfolding weigh
@@ -51,10 +53,53 @@ unfolding weight weights
 weight-most l b g a = elim (decLt a (layout b .actions)) [
   | yes h ↦ rw (weight-known b a h) (g .weights a (subst (λ (x : Layout). a < x .actions) (sym (g .layout .says)) h) .most)
   | no h ↦
-      let past : length (map (weightAt b) (numbers 0 (layout b .actions))) ≤ a = rw (length-made (weightAt b) 0 (layout b .actions)) (omega arith) in
-      rw (List·getD-eq-default (map (weightAt b) (numbers 0 (layout b .actions))) 1 past) (omega arith)
+      let past : length (map (weightAt (layout b) b) (numbers 0 (layout b .actions))) ≤ a = rw (length-made (weightAt (layout b) b) 0 (layout b .actions)) (omega arith) in
+      rw (List·getD-eq-default (map (weightAt (layout b) b) (numbers 0 (layout b .actions))) 1 past) (omega arith)
 ]
 
-pub part-most : (l : Layout) (b : Bytes) → GoodCard l b → (at n : ℕ) → weigh (weight b) (part b at n) ≤ 1024 * n
-unfolding part
-part-most l b g at n = weigh-most (weight b) (weight-most l b g) n (drop at b)
+module _ (b : Bytes) (weights at n : ℕ) (p : Weighable b weights at n) where
+  -- of these too, m from one of them on
+  pub weighable-part : (from m : ℕ) → from + m ≤ n → Weighable b weights (at + from) m
+  weighable-part from m h =
+      let few = p .few in
+      let inside = p .inside in
+      let near = p .near in
+      let e : (i : ℕ) → at + (from + i) ≡ at + from + i = λ i. omega arith in record {
+        few = omega arith;
+        inside = omega arith;
+        near = omega arith;
+        weights-near = p .weights-near;
+        there = λ i k. subst (λ x. weights + 2 * byte b x + 2 ≤ length b) (e i) (p .there (from + i) (omega arith));
+        weighs = λ i k. subst (λ x. numberAt b (weights + 2 * byte b x) ≡ weight b (byte b x)) (e i) (p .weighs (from + i) (omega arith));
+        light = p .light;
+      }
+
+  pub part-most : (from m : ℕ) → weigh (weight b) (part b from m) ≤ 1024 * m
+  unfolding part
+  part-most from m = weigh-most (weight b) (p .light) m (drop from b)
+
+-- the pool of an accepted card, whose weights begin behind the header
+pub weighable : (l : Layout) (b : Bytes) → GoodCard l b → (weights : ℕ) → weights ≡ headerBytes (setBytes l) → Weighable b weights (l .pool .offset) (l .pool .count)
+weighable l b g weights e =
+    let d = g .layout in
+    let few = d .pool in
+    let ends = d .ends in
+    let some = d .actions in
+    let nodes = d .nodes in
+    let specifications = d .specifications in
+    let selections = d .selections in
+    let revisions = d .revisions in
+    let at = d .nodes-at in
+    let at₁ = d .specifications-at in
+    let at₂ = d .selections-at in
+    let at₃ = d .revisions-at in
+    let at₄ = d .pool-at in
+    let known : (a : ℕ) → a < l .actions → a < layout b .actions = λ a h. subst (λ (x : Layout). a < x .actions) (d .says) h in record {
+      few = few;
+      inside = omega arith;
+      near = omega arith;
+      weights-near = omega arith;
+      there = λ i h. let k = g .pool i h in omega arith;
+      weighs = λ i h. ap (λ w. numberAt b (w + 2 * byte b (l .pool .offset + i))) e ∙ sym (weight-known b (byte b (l .pool .offset + i)) (known _ (g .pool i h)));
+      light = weight-most l b g;
+    }

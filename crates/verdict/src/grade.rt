@@ -18,6 +18,7 @@ use card::check::check;
 use layout::entries::read_revision;
 use layout::entries::read_selection;
 use layout::limits::heaviest_plan;
+use layout::sizes::header_bytes;
 use meaning::Answer;
 use meaning::Checked;
 use meaning::Layout;
@@ -26,28 +27,31 @@ use runs::Verdict;
 
 // Whether selection rule i's plan weighs at most 1,024.
 fn selection_light(card: &[u8], l: Layout, sums: &[u32; 257], i: usize) -> bool
-    requires { ⌜ GoodCard l (now card) × Summed l (now card) (now sums) × (i < l .selections .count) ⌝ }
+    requires { ⌜ GoodCard l (now card) × Summed (l .pool) (now card) (now sums) × (i < l .selections .count) ⌝ }
     ensures { λ r. ⌜ r ≡ leb (planWeight l (now (card .entry)) (selectionAt l (now (card .entry)) i .plan)) heaviestPlan ⌝ }
 {
     let e = read_selection(card, l, i);
-    plan_weight(card, l, sums, e.plan) <= heaviest_plan()
+    let pool = l.pool;
+    plan_weight(card, header_bytes(l), pool, sums, e.plan) <= heaviest_plan()
 }
 
 // Whether revision rule i's body weighs less than its head.
 fn revision_lowers(card: &[u8], l: Layout, sums: &[u32; 257], i: usize) -> bool
-    requires { ⌜ GoodCard l (now card) × Summed l (now card) (now sums) × (i < l .revisions .count) ⌝ }
+    requires { ⌜ GoodCard l (now card) × Summed (l .pool) (now card) (now sums) × (i < l .revisions .count) ⌝ }
     ensures { λ r. ⌜ r ≡ ltb (planWeight l (now (card .entry)) (revisionAt l (now (card .entry)) i .body))
         (planWeight l (now (card .entry)) (revisionAt l (now (card .entry)) i .head)) ⌝ }
 {
     let e = read_revision(card, l, i);
-    let head = plan_weight(card, l, sums, e.head);
-    let body = plan_weight(card, l, sums, e.body);
+    let pool = l.pool;
+    let weights = header_bytes(l);
+    let head = plan_weight(card, weights, pool, sums, e.head);
+    let body = plan_weight(card, weights, pool, sums, e.body);
     body < head
 }
 
 // The first revision rule that does not lower the weight.
 fn from_revisions(card: &[u8], l: Layout, sums: &[u32; 257]) -> Verdict
-    requires { ⌜ GoodCard l (now card) × Summed l (now card) (now sums) ⌝ }
+    requires { ⌜ GoodCard l (now card) × Summed (l .pool) (now card) (now sums) ⌝ }
     ensures { λ r. ⌜ r ≡ revisionsVerdict l (now (card .entry)) ⌝ }
 {
     let section = l.revisions;
@@ -64,7 +68,7 @@ fn from_revisions(card: &[u8], l: Layout, sums: &[u32; 257]) -> Verdict
 
 // The first selection rule whose plan is too heavy; then the revision rules.
 fn from_selections(card: &[u8], l: Layout, sums: &[u32; 257]) -> Verdict
-    requires { ⌜ GoodCard l (now card) × Summed l (now card) (now sums) ⌝ }
+    requires { ⌜ GoodCard l (now card) × Summed (l .pool) (now card) (now sums) ⌝ }
     ensures { λ r. ⌜ r ≡ selectionsVerdict l (now (card .entry)) ⌝ }
 {
     let section = l.selections;
@@ -81,11 +85,12 @@ fn from_selections(card: &[u8], l: Layout, sums: &[u32; 257]) -> Verdict
 
 // The initial plan, if it is too heavy; then the selection rules.
 fn from_initial(card: &[u8], l: Layout, sums: &[u32; 257]) -> Verdict
-    requires { ⌜ GoodCard l (now card) × Summed l (now card) (now sums) ⌝ }
+    requires { ⌜ GoodCard l (now card) × Summed (l .pool) (now card) (now sums) ⌝ }
     ensures { λ r. ⌜ r ≡ verdict (weight (now (card .entry))) (agent (now (card .entry))) (initialPlan (now (card .entry))) ⌝ }
 {
     let initial = l.initial;
-    if plan_weight(card, l, sums, initial) <= heaviest_plan() {
+    let pool = l.pool;
+    if plan_weight(card, header_bytes(l), pool, sums, initial) <= heaviest_plan() {
         from_selections(card, l, sums)
     } else {
         Verdict::Open(Offender::InitialPlan)
@@ -110,7 +115,8 @@ pub fn grade(card: &[u8]) -> GradedInPlace
         };
     };
     let mut sums = no_sums();
-    sum(card, l, &mut sums);
+    let pool = l.pool;
+    sum(card, header_bytes(l), pool, &mut sums);
     let verdict = from_initial(card, l, &sums);
     GradedInPlace {
         answer: Answer::Done,

@@ -7,9 +7,6 @@ use Rattle.answers.proofs.answer_carried.Tie as tie
 enum-told : tie.Need-enum-told
 enum-told c = search needs
 
-enum-known-a : tie.Need-enum-known-a
-enum-known-a c = search needs
-
 refusal-carried-requires : tie.Need-refusal-carried-requires
 refusal-carried-requires c κs = search needs
 
@@ -22,4 +19,4 @@ unfolding answerCarried
 returns-2 c = c .refusal-carried .ensures ∙ sym (ap answerCarried (c .before .before .a .given .1))
 
 pub answer-carried-spec : {M : Type 1} → statement M
-answer-carried-spec = tie.close (tie.spec enum-told enum-known-a refusal-carried-requires returns returns-2)
+answer-carried-spec = tie.close (tie.spec enum-told (λ c. search needs) refusal-carried-requires returns returns-2)

@@ -7,9 +7,6 @@ use Rattle.answers.proofs.answer_number.Tie as tie
 enum-told : tie.Need-enum-told
 enum-told c = search needs
 
-enum-known-a : tie.Need-enum-known-a
-enum-known-a c = search needs
-
 refusal-number-requires : tie.Need-refusal-number-requires
 refusal-number-requires c κs = search needs
 
@@ -23,4 +20,4 @@ returns-2 c = c .refusal-number .ensures ∙ sym (ap answerNumber (c .before .be
 
 pub answer-number-spec : {M : Type 1} → statement M
 answer-number-spec =
-    tie.close (tie.spec enum-told enum-known-a refusal-number-requires returns returns-2)
+    tie.close (tie.spec enum-told (λ c. search needs) refusal-number-requires returns returns-2)

@@ -6,15 +6,6 @@ use Rattle.answers.proofs.deliberation_ending_number.Tie as tie
 enum-told : tie.Need-enum-told
 enum-told c = search needs
 
-enum-told-2 : tie.Need-enum-told-2
-enum-told-2 c = search needs
-
-enum-told-3 : tie.Need-enum-told-3
-enum-told-3 c = search needs
-
-enum-told-4 : tie.Need-enum-told-4
-enum-told-4 c = search needs
-
 returns : tie.Need-returns
 unfolding deliberationEndingNumber
 returns c = rw (c .enum-told .given .1)
@@ -33,4 +24,4 @@ returns-4 c = rw (c .enum-told4 .given .1)
 
 pub deliberation-ending-number-spec : {M : Type 1} → statement M
 deliberation-ending-number-spec =
-    tie.close (tie.spec enum-told enum-told-2 enum-told-3 enum-told-4 returns returns-2 returns-3 returns-4)
+    tie.close (tie.spec enum-told (λ c. search needs) (λ c. search needs) (λ c. search needs) returns returns-2 returns-3 returns-4)

@@ -6,12 +6,6 @@ use Rattle.answers.proofs.ending_number.Tie as tie
 enum-told : tie.Need-enum-told
 enum-told c = search needs
 
-enum-told-2 : tie.Need-enum-told-2
-enum-told-2 c = search needs
-
-enum-told-3 : tie.Need-enum-told-3
-enum-told-3 c = search needs
-
 returns : tie.Need-returns
 unfolding endingNumber
 returns c = rw (c .enum-told .given .1)
@@ -26,4 +20,4 @@ returns-3 c = rw (c .enum-told3 .given .1)
 
 pub ending-number-spec : {M : Type 1} → statement M
 ending-number-spec =
-    tie.close (tie.spec enum-told enum-told-2 enum-told-3 returns returns-2 returns-3)
+    tie.close (tie.spec enum-told (λ c. search needs) (λ c. search needs) returns returns-2 returns-3)

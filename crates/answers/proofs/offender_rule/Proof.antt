@@ -9,17 +9,11 @@ use Rattle.answers.proofs.offender_rule.Tie as tie
 enum-told : tie.Need-enum-told
 enum-told c = search needs
 
-enum-known-o : tie.Need-enum-known-o
-enum-known-o c = search needs
-
 cast-result : tie.Need-cast-result
 unfolding offenderRule
 cast-result c =
     let h : c .before .o .given .0 .0 < 65536 = subst (λ (x : Offender). offenderRule x < 65536) (c .before .o .given .1) (c .before .before .before .pre) in
     search needs
-
-enum-known-o-2 : tie.Need-enum-known-o-2
-enum-known-o-2 c = search needs
 
 cast-result-2 : tie.Need-cast-result-2
 unfolding offenderRule
@@ -44,9 +38,9 @@ offender-rule-spec =
     tie.close
     (tie.spec
     enum-told
-    enum-known-o
+    (λ c. search needs)
     cast-result
-    enum-known-o-2
+    (λ c. search needs)
     cast-result-2
     returns
     returns-2

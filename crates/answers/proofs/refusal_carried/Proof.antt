@@ -5,15 +5,6 @@ use borrow.Author.Needs.{needs}
 use Rattle.answers.proofs.refusal_carried.Statement.{statement}
 use Rattle.answers.proofs.refusal_carried.Tie as tie
 
-enum-known-r : tie.Need-enum-known-r
-enum-known-r c = search needs
-
-enum-known-r-2 : tie.Need-enum-known-r-2
-enum-known-r-2 c = search needs
-
-enum-known-r-3 : tie.Need-enum-known-r-3
-enum-known-r-3 c = search needs
-
 returns : tie.Need-returns
 unfolding carried
 returns c = rw (c .before .r .given .1)
@@ -30,4 +21,4 @@ returns-4 : tie.Need-returns-4
 returns-4 c = sym (carries-nothing (c .before .args .r) (c .match .keys4))
 
 pub refusal-carried-spec : {M : Type 1} → statement M
-refusal-carried-spec = tie.close (tie.spec enum-known-r enum-known-r-2 enum-known-r-3 returns returns-2 returns-3 returns-4)
+refusal-carried-spec = tie.close (tie.spec (λ c. search needs) (λ c. search needs) (λ c. search needs) returns returns-2 returns-3 returns-4)

@@ -17,9 +17,6 @@ cast-result c =
     let h = subst (λ (x : Answer). sheetNumber x (a .sheet) < 256) (c .enum-told .given .1) (c .before .before .pre) in
     omega (arith, h)
 
-enum-known-a : tie.Need-enum-known-a
-enum-known-a c = search needs
-
 refusal-carried-requires : tie.Need-refusal-carried-requires
 refusal-carried-requires c κs = search needs
 
@@ -46,7 +43,7 @@ sheet-number-spec =
     (tie.spec
     enum-told
     cast-result
-    enum-known-a
+    (λ c. search needs)
     refusal-carried-requires
     cast-result-2
     returns

@@ -6,9 +6,6 @@ use Rattle.answers.proofs.verdict_number.Tie as tie
 enum-told : tie.Need-enum-told
 enum-told c = search needs
 
-enum-told-2 : tie.Need-enum-told-2
-enum-told-2 c = search needs
-
 returns : tie.Need-returns
 unfolding verdictNumber
 returns c = rw (c .enum-told .given .1)
@@ -18,4 +15,4 @@ unfolding verdictNumber
 returns-2 c = rw (c .enum-told2 .given .1)
 
 pub verdict-number-spec : {M : Type 1} → statement M
-verdict-number-spec = tie.close (tie.spec enum-told enum-told-2 returns returns-2)
+verdict-number-spec = tie.close (tie.spec enum-told (λ c. search needs) returns returns-2)

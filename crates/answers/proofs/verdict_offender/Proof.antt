@@ -7,9 +7,6 @@ use Rattle.answers.proofs.verdict_offender.Tie as tie
 enum-told : tie.Need-enum-told
 enum-told c = search needs
 
-enum-known-v : tie.Need-enum-known-v
-enum-known-v c = search needs
-
 offender-number-requires : tie.Need-offender-number-requires
 offender-number-requires c κs = search needs
 
@@ -23,4 +20,4 @@ returns-2 c = c .offender-number .ensures ∙ sym (ap verdictOffender (c .before
 
 pub verdict-offender-spec : {M : Type 1} → statement M
 verdict-offender-spec =
-    tie.close (tie.spec enum-told enum-known-v offender-number-requires returns returns-2)
+    tie.close (tie.spec enum-told (λ c. search needs) offender-number-requires returns returns-2)

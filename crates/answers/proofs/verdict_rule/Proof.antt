@@ -9,9 +9,6 @@ use Rattle.answers.proofs.verdict_rule.Tie as tie
 enum-told : tie.Need-enum-told
 enum-told c = search needs
 
-enum-known-v : tie.Need-enum-known-v
-enum-known-v c = search needs
-
 offender-rule-requires : tie.Need-offender-rule-requires
 unfolding verdictRule
 offender-rule-requires c κs = subst (λ (x : Verdict). verdictRule x < 65536) (c .before .v .given .1) (c .before .before .before .pre)
@@ -26,4 +23,4 @@ returns-2 c = c .offender-rule .ensures ∙ sym (ap verdictRule (c .before .befo
 
 pub verdict-rule-spec : {M : Type 1} → statement M
 verdict-rule-spec =
-    tie.close (tie.spec enum-told enum-known-v offender-rule-requires returns returns-2)
+    tie.close (tie.spec enum-told (λ c. search needs) offender-rule-requires returns returns-2)

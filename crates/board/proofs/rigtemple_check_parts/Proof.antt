@@ -10,9 +10,6 @@ check-requires c κs = search needs
 enum-told : tie.Need-enum-told
 enum-told c = search needs
 
-enum-known-v : tie.Need-enum-known-v
-enum-known-v c = search needs
-
 refusal-number-requires : tie.Need-refusal-number-requires
 refusal-number-requires c κs = search needs
 
@@ -27,4 +24,4 @@ returns-2 c = c .refusal-number .ensures ∙ sym (ap checkedNumber (sym (c .befo
 pub rigtemple-check-parts-spec : {M : Type 1} → statement M
 rigtemple-check-parts-spec =
     tie.close
-    (tie.spec check-requires enum-told enum-known-v refusal-number-requires returns returns-2)
+    (tie.spec check-requires enum-told (λ c. search needs) refusal-number-requires returns returns-2)

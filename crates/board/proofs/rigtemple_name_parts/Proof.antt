@@ -20,12 +20,6 @@ sheet-number-requires c κs =
     let h = sheet-told (now (a .card)) (asked (now (a .shed)) (now (a .master)) (a .action)) (c .named .result) (c .named .ensures .0) in
     omega (arith, h)
 
-cast-start : tie.Need-cast-start
-cast-start c = search needs
-
-cast-length : tie.Need-cast-length
-cast-length c = search needs
-
 answer-number-requires : tie.Need-answer-number-requires
 answer-number-requires c κs = search needs
 
@@ -44,7 +38,7 @@ rigtemple-name-parts-spec =
     (tie.spec
     named-requires
     sheet-number-requires
-    cast-start
-    cast-length
+    (λ c. search needs)
+    (λ c. search needs)
     answer-number-requires
     returns)

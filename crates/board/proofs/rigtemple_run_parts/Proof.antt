@@ -1,5 +1,5 @@
 use Rattle.board.specs.Header.{whole}
-use Rattle.layout.specs.PlaceParts.{lent}
+use Rattle.layout.specs.PlaceParts.{configured}
 use Rattle.meaning.specs.Refusals.{answerNumber}
 use Rattle.meaning.specs.declared.Mind.{Mind}
 use Rattle.meaning.specs.Numbers.{endingNumber}
@@ -31,7 +31,7 @@ returns c =
     let a = c .before .before .before .before .before .before .before .before .before .before .before .before .before .before .before .before .before .before .args in
     let t = c .before .before .before .before .before .before .before .before .before .run in
     let u = c .before .before .put .ensures in
-    let e = t .ensures ∙ ap (λ (x : Mind). runs (now (a .card)) (lent x (now (a .plan))) (a .budget)) (c .before .before .before .before .before .before .before .before .before .before .before .mind .ensures) in (
+    let e = t .ensures ∙ ap (λ (x : Mind). runs (now (a .card)) (configured x (now (a .plan))) (a .budget)) (c .before .before .before .before .before .before .before .before .before .before .before .mind .ensures) in (
       c .answer-number .ensures ∙ ap (λ (x : Ran). answerNumber (x .answer)) e,
       (λ i. whole (u .0 i) (u .1 i) (t .last .1 .1 .0) (u .2 i) (u .3 i) (u .4 i)) ∙ ap (λ (x : Ran). x .configuration) e,
       ap (λ (x : Ran). x .count) e,

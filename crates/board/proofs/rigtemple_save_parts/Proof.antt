@@ -1,4 +1,4 @@
-use Rattle.layout.specs.PlaceParts.{lent}
+use Rattle.layout.specs.PlaceParts.{configured}
 use Rattle.meaning.specs.Refusals.{answerNumber}
 use Rattle.meaning.specs.declared.Mind.{Mind}
 use Rattle.meaning.specs.declared.Written.{Written}
@@ -18,20 +18,17 @@ save-requires c κs = search needs
 answer-number-requires : tie.Need-answer-number-requires
 answer-number-requires c κs = search needs
 
-same-length : tie.Need-same-length
-same-length c = search needs
-
 returns : tie.Need-returns
 returns c =
     let a = c .before .before .before .before .before .before .before .before .args in
     let t = c .before .before .before .save .ensures in
     let m = c .before .before .before .before .before .mind .ensures in
-    let e = t .0 ∙ ap (λ (x : Mind). saves (now (a .card)) (lent x (now (a .plan))) (now (a .place))) m in (
+    let e = t .0 ∙ ap (λ (x : Mind). saves (now (a .card)) (configured x (now (a .plan))) (now (a .place))) m in (
       c .answer-number .ensures ∙ ap (λ (x : Written). answerNumber (x .answer)) e,
       ap (λ (x : Written). x .count) e,
-      t .1 ∙ ap (λ (x : Mind). saveLeaves (now (a .card)) (lent x (now (a .plan))) (now (a .place))) m,
+      t .1 ∙ ap (λ (x : Mind). saveLeaves (now (a .card)) (configured x (now (a .plan))) (now (a .place))) m,
     )
 
 pub rigtemple-save-parts-spec : {M : Type 1} → statement M
 rigtemple-save-parts-spec =
-    tie.close (tie.spec mind-requires save-requires answer-number-requires same-length returns)
+    tie.close (tie.spec mind-requires save-requires answer-number-requires (λ c. search needs) returns)

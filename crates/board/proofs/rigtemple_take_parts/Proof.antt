@@ -1,5 +1,5 @@
 use Rattle.board.specs.Header.{whole}
-use Rattle.layout.specs.PlaceParts.{lent}
+use Rattle.layout.specs.PlaceParts.{configured}
 use Rattle.meaning.specs.Refusals.{answerNumber, answerCarried}
 use Rattle.demands.proofs.Showing.{node-narrow}
 use Rattle.meaning.specs.declared.Reply.{Reply}
@@ -28,7 +28,7 @@ answer-carried-requires c κs = search needs
 cast-node : tie.Need-cast-node
 cast-node c =
     let a = c .before .before .before .before .before .before .before .before .before .before .before .before .before .before .before .before .before .args in
-    let e = c .before .before .before .before .before .before .before .before .take .ensures ∙ ap (λ (x : Mind). takes (now (a .card)) (lent x (now (a .plan))) (a .choice)) (c .before .before .before .before .before .before .before .before .before .before .mind .ensures) in
+    let e = c .before .before .before .before .before .before .before .before .take .ensures ∙ ap (λ (x : Mind). takes (now (a .card)) (configured x (now (a .plan))) (a .choice)) (c .before .before .before .before .before .before .before .before .before .before .mind .ensures) in
     let h = node-narrow (now (a .card)) _ (a .choice) _ e in
     omega (arith, c .answer-carried .ensures)
 
@@ -40,7 +40,7 @@ returns c =
     let a = c .before .before .before .before .before .before .before .before .before .before .before .before .before .before .before .before .before .before .args in
     let t = c .before .before .before .before .before .before .before .before .before .take in
     let u = c .before .before .put .ensures in
-    let e = t .ensures ∙ ap (λ (x : Mind). takes (now (a .card)) (lent x (now (a .plan))) (a .choice)) (c .before .before .before .before .before .before .before .before .before .before .before .mind .ensures) in (
+    let e = t .ensures ∙ ap (λ (x : Mind). takes (now (a .card)) (configured x (now (a .plan))) (a .choice)) (c .before .before .before .before .before .before .before .before .before .before .before .mind .ensures) in (
       c .answer-number .ensures ∙ ap (λ (x : Reply). answerNumber (x .answer)) e,
       (λ i. whole (u .0 i) (u .1 i) (t .last .1 .1 .0) (u .2 i) (u .3 i) (u .4 i)) ∙ ap (λ (x : Reply). x .configuration) e,
       c .before .answer-carried .ensures ∙ ap (λ (x : Reply). answerCarried (x .answer)) e,

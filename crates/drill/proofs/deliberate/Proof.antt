@@ -10,12 +10,6 @@ use Rattle.drill.proofs.deliberate.Tie as tie
 next-number-requires : tie.Need-next-number-requires
 next-number-requires c κs = search needs
 
-enum-known-size : tie.Need-enum-known-size
-enum-known-size c = search needs
-
-enum-told : tie.Need-enum-told
-enum-told c = search needs
-
 returns : tie.Need-returns
 returns c = search needs
 
@@ -24,12 +18,6 @@ returns-2 c = search needs
 
 buffer-requires : tie.Need-buffer-requires
 buffer-requires c κs = search needs
-
-cast-program : tie.Need-cast-program
-cast-program c = search needs
-
-array-borrow-prefix-program : tie.Need-array-borrow-prefix-program
-array-borrow-prefix-program c = search needs
 
 slice-aggregate-deliberate-from : tie.Need-slice-aggregate-deliberate-from
 slice-aggregate-deliberate-from c =
@@ -48,13 +36,13 @@ deliberate-spec =
     tie.close
     (tie.spec
     next-number-requires
-    enum-known-size
-    enum-told
+    (λ c. search needs)
+    (λ c. search needs)
     returns
     returns-2
     buffer-requires
-    cast-program
-    array-borrow-prefix-program
+    (λ c. search needs)
+    (λ c. search needs)
     slice-aggregate-deliberate-from
     deliberate-from-requires
     returns-3)

@@ -20,12 +20,6 @@ answer-number-requires c κs = search needs
 tell-requires : tie.Need-tell-requires
 tell-requires c κs = search needs
 
-enum-told : tie.Need-enum-told
-enum-told c = search needs
-
-enum-told-2 : tie.Need-enum-told-2
-enum-told-2 c = search needs
-
 tell-verdict-requires : tie.Need-tell-verdict-requires
 tell-verdict-requires c κs = search needs
 
@@ -52,8 +46,8 @@ grade-spec =
     verdict-rule-requires
     answer-number-requires
     tell-requires
-    enum-told
-    enum-told-2
+    (λ c. search needs)
+    (λ c. search needs)
     tell-verdict-requires
     returns
     verdict-number-requires

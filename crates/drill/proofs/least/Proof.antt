@@ -12,17 +12,8 @@ abbrev μ-loop : tie.MeasureT-loop
 loop-holds : tie.Need-loop-holds Inv-loop μ-loop
 loop-holds c = search needs
 
-sub-if1 : tie.Need-sub-if1 Inv-loop μ-loop
-sub-if1 c = search needs
-
-element-copy-out-if1 : tie.Need-element-copy-out-if1 Inv-loop μ-loop
-element-copy-out-if1 c = search needs
-
 returns : tie.Need-returns Inv-loop μ-loop
 returns c = search needs
-
-sub-m : tie.Need-sub-m Inv-loop μ-loop
-sub-m c = search needs
 
 loop-less : tie.Need-loop-less Inv-loop μ-loop
 loop-less c = search needs
@@ -40,10 +31,10 @@ least-spec =
     Inv-loop
     μ-loop
     loop-holds
-    sub-if1
-    element-copy-out-if1
+    (λ c. search needs)
+    (λ c. search needs)
     returns
-    sub-m
+    (λ c. search needs)
     loop-less
     loop-again
     returns-2)

@@ -10,23 +10,11 @@ use Rattle.drill.proofs.name.Tie as tie
 next-number-requires : tie.Need-next-number-requires
 next-number-requires c κs = search needs
 
-enum-known-size : tie.Need-enum-known-size
-enum-known-size c = search needs
-
-enum-told : tie.Need-enum-told
-enum-told c = search needs
-
 returns : tie.Need-returns
 returns c = search needs
 
 room-requires : tie.Need-room-requires
 room-requires c κs = search needs
-
-cast-shed : tie.Need-cast-shed
-cast-shed c = search needs
-
-array-borrow-prefix-shed : tie.Need-array-borrow-prefix-shed
-array-borrow-prefix-shed c = search needs
 
 slice-aggregate-name-from : tie.Need-slice-aggregate-name-from
 slice-aggregate-name-from c =
@@ -45,12 +33,12 @@ name-spec =
     tie.close
     (tie.spec
     next-number-requires
-    enum-known-size
-    enum-told
+    (λ c. search needs)
+    (λ c. search needs)
     returns
     room-requires
-    cast-shed
-    array-borrow-prefix-shed
+    (λ c. search needs)
+    (λ c. search needs)
     slice-aggregate-name-from
     name-from-requires
     returns-2)

@@ -10,35 +10,17 @@ use Rattle.drill.proofs.name_from.Tie as tie
 fill-requires : tie.Need-fill-requires
 fill-requires c κs = search needs
 
-same-length : tie.Need-same-length
-same-length c = search needs
-
 returns : tie.Need-returns
 returns c = search needs
 
 next-number-requires : tie.Need-next-number-requires
 next-number-requires c κs = search needs
 
-enum-known-size : tie.Need-enum-known-size
-enum-known-size c = search needs
-
-enum-told : tie.Need-enum-told
-enum-told c = search needs
-
-same-length-2 : tie.Need-same-length-2
-same-length-2 c = search needs
-
 returns-2 : tie.Need-returns-2
 returns-2 c = search needs
 
 room-requires : tie.Need-room-requires
 room-requires c κs = search needs
-
-cast-master : tie.Need-cast-master
-cast-master c = search needs
-
-array-borrow-prefix-master : tie.Need-array-borrow-prefix-master
-array-borrow-prefix-master c = search needs
 
 slice-aggregate-name-by : tie.Need-slice-aggregate-name-by
 slice-aggregate-name-by c =
@@ -49,9 +31,6 @@ slice-aggregate-name-by c =
 name-by-requires : tie.Need-name-by-requires
 name-by-requires c κs = search needs
 
-same-length-3 : tie.Need-same-length-3
-same-length-3 c = search needs
-
 returns-3 : tie.Need-returns-3
 returns-3 c = search needs
 
@@ -60,17 +39,17 @@ name-from-spec =
     tie.close
     (tie.spec
     fill-requires
-    same-length
+    (λ c. search needs)
     returns
     next-number-requires
-    enum-known-size
-    enum-told
-    same-length-2
+    (λ c. search needs)
+    (λ c. search needs)
+    (λ c. search needs)
     returns-2
     room-requires
-    cast-master
-    array-borrow-prefix-master
+    (λ c. search needs)
+    (λ c. search needs)
     slice-aggregate-name-by
     name-by-requires
-    same-length-3
+    (λ c. search needs)
     returns-3)

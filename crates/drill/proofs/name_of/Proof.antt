@@ -15,20 +15,11 @@ sheet-number-requires c κs =
     let h = sheet-told (now (a .card)) (asked (now (a .shed)) (now (a .master)) (a .action)) (c .named .result) (c .named .ensures .0) in
     omega (arith, h)
 
-cast-start : tie.Need-cast-start
-cast-start c = search needs
-
-cast-length : tie.Need-cast-length
-cast-length c = search needs
-
 answer-number-requires : tie.Need-answer-number-requires
 answer-number-requires c κs = search needs
 
 tell-requires : tie.Need-tell-requires
 tell-requires c κs = search needs
-
-slice-aggregate-write-all : tie.Need-slice-aggregate-write-all
-slice-aggregate-write-all c = search needs
 
 write-all-requires : tie.Need-write-all-requires
 write-all-requires c κs = search needs
@@ -48,11 +39,11 @@ name-of-spec =
     (tie.spec
     named-requires
     sheet-number-requires
-    cast-start
-    cast-length
+    (λ c. search needs)
+    (λ c. search needs)
     answer-number-requires
     tell-requires
-    slice-aggregate-write-all
+    (λ c. search needs)
     write-all-requires
     tell-requires-2
     tell-requires-3

@@ -10,26 +10,11 @@ use Rattle.drill.proofs.next_image.Tie as tie
 no-plan-requires : tie.Need-no-plan-requires
 no-plan-requires c κs = search needs
 
-slice-aggregate-read-full : tie.Need-slice-aggregate-read-full
-slice-aggregate-read-full c = search needs
-
 read-full-requires : tie.Need-read-full-requires
 read-full-requires c κs = search needs
 
-array-read-joined : tie.Need-array-read-joined
-array-read-joined c = search needs
-
-array-read-joined-2 : tie.Need-array-read-joined-2
-array-read-joined-2 c = search needs
-
 joined-requires : tie.Need-joined-requires
 joined-requires c κs = search needs
-
-cast-plan : tie.Need-cast-plan
-cast-plan c = search needs
-
-array-borrow-prefix-plan : tie.Need-array-borrow-prefix-plan
-array-borrow-prefix-plan c = search needs
 
 slice-aggregate-fill : tie.Need-slice-aggregate-fill
 slice-aggregate-fill c =
@@ -40,35 +25,14 @@ slice-aggregate-fill c =
 fill-requires : tie.Need-fill-requires
 fill-requires c κs = search needs
 
-slice-aggregate-set-at : tie.Need-slice-aggregate-set-at
-slice-aggregate-set-at c = search needs
-
 set-at-requires : tie.Need-set-at-requires
 set-at-requires c κs = search needs
-
-slice-aggregate-set-at-2 : tie.Need-slice-aggregate-set-at-2
-slice-aggregate-set-at-2 c = search needs
 
 set-at-requires-2 : tie.Need-set-at-requires-2
 set-at-requires-2 c κs = search needs
 
-array-read-joined-3 : tie.Need-array-read-joined-3
-array-read-joined-3 c = search needs
-
-array-read-joined-4 : tie.Need-array-read-joined-4
-array-read-joined-4 c = search needs
-
 joined-requires-2 : tie.Need-joined-requires-2
 joined-requires-2 c κs = search needs
-
-array-read-t34 : tie.Need-array-read-t34
-array-read-t34 c = search needs
-
-array-read-joined-5 : tie.Need-array-read-joined-5
-array-read-joined-5 c = search needs
-
-array-read-joined-6 : tie.Need-array-read-joined-6
-array-read-joined-6 c = search needs
 
 joined-requires-3 : tie.Need-joined-requires-3
 joined-requires-3 c κs = search needs
@@ -81,24 +45,24 @@ next-image-spec =
     tie.close
     (tie.spec
     no-plan-requires
-    slice-aggregate-read-full
+    (λ c. search needs)
     read-full-requires
-    array-read-joined
-    array-read-joined-2
+    (λ c. search needs)
+    (λ c. search needs)
     joined-requires
-    cast-plan
-    array-borrow-prefix-plan
+    (λ c. search needs)
+    (λ c. search needs)
     slice-aggregate-fill
     fill-requires
-    slice-aggregate-set-at
+    (λ c. search needs)
     set-at-requires
-    slice-aggregate-set-at-2
+    (λ c. search needs)
     set-at-requires-2
-    array-read-joined-3
-    array-read-joined-4
+    (λ c. search needs)
+    (λ c. search needs)
     joined-requires-2
-    array-read-t34
-    array-read-joined-5
-    array-read-joined-6
+    (λ c. search needs)
+    (λ c. search needs)
+    (λ c. search needs)
     joined-requires-3
     returns)

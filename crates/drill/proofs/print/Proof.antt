@@ -10,23 +10,11 @@ use Rattle.drill.proofs.print.Tie as tie
 next-number-requires : tie.Need-next-number-requires
 next-number-requires c κs = search needs
 
-enum-known-asked : tie.Need-enum-known-asked
-enum-known-asked c = search needs
-
-enum-told : tie.Need-enum-told
-enum-told c = search needs
-
 returns : tie.Need-returns
 returns c = search needs
 
 next-number-requires-2 : tie.Need-next-number-requires-2
 next-number-requires-2 c κs = search needs
-
-enum-known-size : tie.Need-enum-known-size
-enum-known-size c = search needs
-
-enum-told-2 : tie.Need-enum-told-2
-enum-told-2 c = search needs
 
 returns-2 : tie.Need-returns-2
 returns-2 c = search needs
@@ -36,12 +24,6 @@ returns-3 c = search needs
 
 lent-bytes-requires : tie.Need-lent-bytes-requires
 lent-bytes-requires c κs = search needs
-
-cast-out : tie.Need-cast-out
-cast-out c = search needs
-
-array-borrow-prefix-out : tie.Need-array-borrow-prefix-out
-array-borrow-prefix-out c = search needs
 
 slice-aggregate-print-into : tie.Need-slice-aggregate-print-into
 slice-aggregate-print-into c =
@@ -60,17 +42,17 @@ print-spec =
     tie.close
     (tie.spec
     next-number-requires
-    enum-known-asked
-    enum-told
+    (λ c. search needs)
+    (λ c. search needs)
     returns
     next-number-requires-2
-    enum-known-size
-    enum-told-2
+    (λ c. search needs)
+    (λ c. search needs)
     returns-2
     returns-3
     lent-bytes-requires
-    cast-out
-    array-borrow-prefix-out
+    (λ c. search needs)
+    (λ c. search needs)
     slice-aggregate-print-into
     print-into-requires
     returns-4)

@@ -10,12 +10,6 @@ use Rattle.drill.proofs.restore.Tie as tie
 next-number-requires : tie.Need-next-number-requires
 next-number-requires c κs = search needs
 
-enum-known-size : tie.Need-enum-known-size
-enum-known-size c = search needs
-
-enum-told : tie.Need-enum-told
-enum-told c = search needs
-
 returns : tie.Need-returns
 returns c = search needs
 
@@ -24,12 +18,6 @@ returns-2 c = search needs
 
 buffer-requires : tie.Need-buffer-requires
 buffer-requires c κs = search needs
-
-cast-place : tie.Need-cast-place
-cast-place c = search needs
-
-array-borrow-prefix-place : tie.Need-array-borrow-prefix-place
-array-borrow-prefix-place c = search needs
 
 slice-aggregate-restore-from : tie.Need-slice-aggregate-restore-from
 slice-aggregate-restore-from c =
@@ -48,13 +36,13 @@ restore-spec =
     tie.close
     (tie.spec
     next-number-requires
-    enum-known-size
-    enum-told
+    (λ c. search needs)
+    (λ c. search needs)
     returns
     returns-2
     buffer-requires
-    cast-place
-    array-borrow-prefix-place
+    (λ c. search needs)
+    (λ c. search needs)
     slice-aggregate-restore-from
     restore-from-requires
     returns-3)

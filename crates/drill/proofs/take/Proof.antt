@@ -14,12 +14,6 @@ returns c = search needs
 next-number-requires : tie.Need-next-number-requires
 next-number-requires c κs = search needs
 
-enum-known-code : tie.Need-enum-known-code
-enum-known-code c = search needs
-
-enum-told : tie.Need-enum-told
-enum-told c = search needs
-
 returns-2 : tie.Need-returns-2
 returns-2 c = search needs
 
@@ -56,8 +50,8 @@ take-spec =
     next-image-requires
     returns
     next-number-requires
-    enum-known-code
-    enum-told
+    (λ c. search needs)
+    (λ c. search needs)
     returns-2
     take-requires
     answer-carried-requires

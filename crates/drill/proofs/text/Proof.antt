@@ -10,12 +10,6 @@ use Rattle.drill.proofs.text.Tie as tie
 next-length-requires : tie.Need-next-length-requires
 next-length-requires c κs = search needs
 
-enum-known-size : tie.Need-enum-known-size
-enum-known-size c = search needs
-
-enum-told : tie.Need-enum-told
-enum-told c = search needs
-
 returns : tie.Need-returns
 returns c = search needs
 
@@ -24,9 +18,6 @@ returns-2 c = search needs
 
 text-room-requires : tie.Need-text-room-requires
 text-room-requires c κs = search needs
-
-array-borrow-prefix-bytes : tie.Need-array-borrow-prefix-bytes
-array-borrow-prefix-bytes c = search needs
 
 slice-aggregate-text-from : tie.Need-slice-aggregate-text-from
 slice-aggregate-text-from c =
@@ -45,12 +36,12 @@ text-spec =
     tie.close
     (tie.spec
     next-length-requires
-    enum-known-size
-    enum-told
+    (λ c. search needs)
+    (λ c. search needs)
     returns
     returns-2
     text-room-requires
-    array-borrow-prefix-bytes
+    (λ c. search needs)
     slice-aggregate-text-from
     text-from-requires
     returns-3)

@@ -10,41 +10,20 @@ use Rattle.drill.proofs.text_from.Tie as tie
 fill-requires : tie.Need-fill-requires
 fill-requires c κs = search needs
 
-same-length : tie.Need-same-length
-same-length c = search needs
-
 returns : tie.Need-returns
 returns c = search needs
 
 next-number-requires : tie.Need-next-number-requires
 next-number-requires c κs = search needs
 
-enum-known-size : tie.Need-enum-known-size
-enum-known-size c = search needs
-
-enum-told : tie.Need-enum-told
-enum-told c = search needs
-
-same-length-2 : tie.Need-same-length-2
-same-length-2 c = search needs
-
 returns-2 : tie.Need-returns-2
 returns-2 c = search needs
-
-same-length-3 : tie.Need-same-length-3
-same-length-3 c = search needs
 
 returns-3 : tie.Need-returns-3
 returns-3 c = search needs
 
 lent-card-requires : tie.Need-lent-card-requires
 lent-card-requires c κs = search needs
-
-cast-out : tie.Need-cast-out
-cast-out c = search needs
-
-array-borrow-prefix-out : tie.Need-array-borrow-prefix-out
-array-borrow-prefix-out c = search needs
 
 slice-aggregate-text-into : tie.Need-slice-aggregate-text-into
 slice-aggregate-text-into c =
@@ -55,9 +34,6 @@ slice-aggregate-text-into c =
 text-into-requires : tie.Need-text-into-requires
 text-into-requires c κs = search needs
 
-same-length-4 : tie.Need-same-length-4
-same-length-4 c = search needs
-
 returns-4 : tie.Need-returns-4
 returns-4 c = search needs
 
@@ -66,19 +42,19 @@ text-from-spec =
     tie.close
     (tie.spec
     fill-requires
-    same-length
+    (λ c. search needs)
     returns
     next-number-requires
-    enum-known-size
-    enum-told
-    same-length-2
+    (λ c. search needs)
+    (λ c. search needs)
+    (λ c. search needs)
     returns-2
-    same-length-3
+    (λ c. search needs)
     returns-3
     lent-card-requires
-    cast-out
-    array-borrow-prefix-out
+    (λ c. search needs)
+    (λ c. search needs)
     slice-aggregate-text-into
     text-into-requires
-    same-length-4
+    (λ c. search needs)
     returns-4)

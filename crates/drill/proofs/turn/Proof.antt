@@ -11,29 +11,17 @@ use Rattle.drill.proofs.turn.Tie as tie
 next-byte-requires : tie.Need-next-byte-requires
 next-byte-requires c κs = search needs
 
-enum-known-asked : tie.Need-enum-known-asked
-enum-known-asked c = search needs
-
-enum-told : tie.Need-enum-told
-enum-told c = search needs
-
 returns : tie.Need-returns
 returns c = search needs
 
 take-card-requires : tie.Need-take-card-requires
 take-card-requires c κs = search needs
 
-same-length : tie.Need-same-length
-same-length c = search needs
-
 returns-2 : tie.Need-returns-2
 returns-2 c = search needs
 
 returns-3 : tie.Need-returns-3
 returns-3 c = search needs
-
-slice-reshare-prefix-answer : tie.Need-slice-reshare-prefix-answer
-slice-reshare-prefix-answer c = search needs
 
 slice-aggregate-answer : tie.Need-slice-aggregate-answer
 slice-aggregate-answer c =
@@ -44,14 +32,8 @@ slice-aggregate-answer c =
 answer-requires : tie.Need-answer-requires
 answer-requires c κs = search needs
 
-same-length-2 : tie.Need-same-length-2
-same-length-2 c = search needs
-
 returns-4 : tie.Need-returns-4
 returns-4 c = search needs
-
-same-length-3 : tie.Need-same-length-3
-same-length-3 c = search needs
 
 returns-5 : tie.Need-returns-5
 returns-5 c = search needs
@@ -61,17 +43,17 @@ turn-spec =
     tie.close
     (tie.spec
     next-byte-requires
-    enum-known-asked
-    enum-told
+    (λ c. search needs)
+    (λ c. search needs)
     returns
     take-card-requires
-    same-length
+    (λ c. search needs)
     returns-2
     returns-3
-    slice-reshare-prefix-answer
+    (λ c. search needs)
     slice-aggregate-answer
     answer-requires
-    same-length-2
+    (λ c. search needs)
     returns-4
-    same-length-3
+    (λ c. search needs)
     returns-5)

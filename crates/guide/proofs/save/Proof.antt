@@ -21,13 +21,10 @@ finished c = search needs
 save-requires : tie.Need-save-requires
 save-requires c κs = search needs
 
-same-length : tie.Need-same-length
-same-length c = search needs
-
 returns : tie.Need-returns
 returns c =
     let s = c .before .before .before .before .before .before .before .before .before in
     (c .before .before .save .ensures, record { beliefs = beliefs s; goals = goals s; plan = plan s; finished = finished s })
 
 pub save-spec : {M : Type 1} → statement M
-save-spec = tie.close (tie.spec save-requires same-length returns)
+save-spec = tie.close (tie.spec save-requires (λ c. search needs) returns)

@@ -8,12 +8,6 @@ use Rattle.move_names.proofs.show.Tie as tie
 named-requires : tie.Need-named-requires
 named-requires c κs = search needs
 
-enum-told : tie.Need-enum-told
-enum-told c = search needs
-
-enum-told-2 : tie.Need-enum-told-2
-enum-told-2 c = search needs
-
 refused-requires : tie.Need-refused-requires
 refused-requires c κs = search needs
 
@@ -22,12 +16,6 @@ returns c = search needs
 
 check-requires : tie.Need-check-requires
 check-requires c κs = search needs
-
-enum-known-checked : tie.Need-enum-known-checked
-enum-known-checked c = search needs
-
-enum-told-3 : tie.Need-enum-told-3
-enum-told-3 c = search needs
 
 returns-2 : tie.Need-returns-2
 returns-2 c = search needs
@@ -45,13 +33,13 @@ show-spec =
     tie.close
     (tie.spec
     named-requires
-    enum-told
-    enum-told-2
+    (λ c. search needs)
+    (λ c. search needs)
     refused-requires
     returns
     check-requires
-    enum-known-checked
-    enum-told-3
+    (λ c. search needs)
+    (λ c. search needs)
     returns-2
     write-lines-requires
     returns-3)

@@ -18,14 +18,8 @@ read-specification-requires c κs = search needs
 print-decimal-requires : tie.Need-print-decimal-requires Inv-loop μ-loop
 print-decimal-requires c κs = search needs
 
-slice-aggregate-write : tie.Need-slice-aggregate-write Inv-loop μ-loop
-slice-aggregate-write c = search needs
-
 write-requires : tie.Need-write-requires Inv-loop μ-loop
 write-requires c κs = search needs
-
-cast-name : tie.Need-cast-name Inv-loop μ-loop
-cast-name c = search needs
 
 name-requires : tie.Need-name-requires Inv-loop μ-loop
 name-requires c κs = search needs
@@ -33,14 +27,8 @@ name-requires c κs = search needs
 write-name-requires : tie.Need-write-name-requires Inv-loop μ-loop
 write-name-requires c κs = search needs
 
-slice-aggregate-write-2 : tie.Need-slice-aggregate-write-2 Inv-loop μ-loop
-slice-aggregate-write-2 c = search needs
-
 write-requires-2 : tie.Need-write-requires-2 Inv-loop μ-loop
 write-requires-2 c κs = search needs
-
-add-i : tie.Need-add-i Inv-loop μ-loop
-add-i c = search needs
 
 loop-less : tie.Need-loop-less Inv-loop μ-loop
 loop-less c = search needs
@@ -60,14 +48,14 @@ write-lines-spec =
     loop-holds
     read-specification-requires
     print-decimal-requires
-    slice-aggregate-write
+    (λ c. search needs)
     write-requires
-    cast-name
+    (λ c. search needs)
     name-requires
     write-name-requires
-    slice-aggregate-write-2
+    (λ c. search needs)
     write-requires-2
-    add-i
+    (λ c. search needs)
     loop-less
     loop-again
     returns)

@@ -15,23 +15,11 @@ loop-holds c = search needs
 pass-byte-requires : tie.Need-pass-byte-requires Inv-loop μ-loop
 pass-byte-requires c κs = search needs
 
-add-i : tie.Need-add-i Inv-loop μ-loop
-add-i c = search needs
-
 loop-less : tie.Need-loop-less Inv-loop μ-loop
 loop-less c = search needs
 
 loop-again : tie.Need-loop-again Inv-loop μ-loop
 loop-again c = search needs
-
-sub-write : tie.Need-sub-write Inv-loop μ-loop
-sub-write c = search needs
-
-part-write-start : tie.Need-part-write-start Inv-loop μ-loop
-part-write-start c = search needs
-
-part-write-end : tie.Need-part-write-end Inv-loop μ-loop
-part-write-end c = search needs
 
 write-requires : tie.Need-write-requires Inv-loop μ-loop
 write-requires c κs = search needs
@@ -47,11 +35,11 @@ write-name-spec =
     μ-loop
     loop-holds
     pass-byte-requires
-    add-i
+    (λ c. search needs)
     loop-less
     loop-again
-    sub-write
-    part-write-start
-    part-write-end
+    (λ c. search needs)
+    (λ c. search needs)
+    (λ c. search needs)
     write-requires
     returns)

@@ -24,12 +24,6 @@ loop-holds c =
     let z : List ℕ = replicate (a .to - a .from) 0 in
     (omega arith, omega arith, paste-zero d (a .from) z ∙ ap (paste d (a .from) z) e)
 
-element-write-s : tie.Need-element-write-s Inv-loop μ-loop
-element-write-s c = search needs
-
-add-i : tie.Need-add-i Inv-loop μ-loop
-add-i c = search needs
-
 loop-less : tie.Need-loop-less Inv-loop μ-loop
 loop-less c = search needs
 
@@ -58,4 +52,4 @@ returns c =
 pub clear-spec : {M : Type 1} → statement M
 clear-spec =
     tie.close
-    (tie.spec Inv-loop μ-loop loop-holds element-write-s add-i loop-less loop-again returns)
+    (tie.spec Inv-loop μ-loop loop-holds (λ c. search needs) (λ c. search needs) loop-less loop-again returns)

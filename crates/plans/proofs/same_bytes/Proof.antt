@@ -22,21 +22,6 @@ loop-holds c =
     let a = c .args in
     (omega arith, kept-start (same (now (a .card)) (a .at) (now (a .plan)) (a .from)) (a .n))
 
-add-differing : tie.Need-add-differing Inv-loop μ-loop
-add-differing c = search needs
-
-shared-slice-read-differing : tie.Need-shared-slice-read-differing Inv-loop μ-loop
-shared-slice-read-differing c = search needs
-
-add-differing-2 : tie.Need-add-differing-2 Inv-loop μ-loop
-add-differing-2 c = search needs
-
-element-copy-out-differing : tie.Need-element-copy-out-differing Inv-loop μ-loop
-element-copy-out-differing c = search needs
-
-add-i : tie.Need-add-i Inv-loop μ-loop
-add-i c = search needs
-
 loop-less : tie.Need-loop-less Inv-loop μ-loop
 loop-less c = search needs
 
@@ -61,11 +46,11 @@ same-bytes-spec =
     Inv-loop
     μ-loop
     loop-holds
-    add-differing
-    shared-slice-read-differing
-    add-differing-2
-    element-copy-out-differing
-    add-i
+    (λ c. search needs)
+    (λ c. search needs)
+    (λ c. search needs)
+    (λ c. search needs)
+    (λ c. search needs)
     loop-less
     loop-again
     returns)

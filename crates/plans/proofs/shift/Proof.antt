@@ -6,17 +6,8 @@ use denote.Ref.{now}
 use Rattle.plans.proofs.shift.Statement.{statement}
 use Rattle.plans.proofs.shift.Tie as tie
 
-sub-tail : tie.Need-sub-tail
-sub-tail c = search needs
-
 down-requires : tie.Need-down-requires
-down-requires c κs =
-    let a = c .before .before .args in
-    let p = c .before .before .pre in
-    (omega arith, omega arith, length-zeroed (now (a .plan)) (a .len) (p .1) (p .3))
-
-add-clear : tie.Need-add-clear
-add-clear c = search needs
+down-requires c κs = search needs
 
 clear-requires : tie.Need-clear-requires
 clear-requires c κs =
@@ -46,4 +37,4 @@ returns-2 c =
 pub shift-spec : {M : Type 1} → statement M
 shift-spec =
     tie.close
-    (tie.spec sub-tail down-requires add-clear clear-requires up-requires returns returns-2)
+    (tie.spec (λ c. search needs) down-requires (λ c. search needs) clear-requires up-requires returns returns-2)

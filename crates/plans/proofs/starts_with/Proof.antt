@@ -28,12 +28,6 @@ returns c =
     let n : length π ≡ a .len = length-take-le (a .len) (now (a .plan)) (omega arith) in
     sym (too-long h π (omega arith))
 
-shared-slice-read-if2 : tie.Need-shared-slice-read-if2 Inv-loop μ-loop
-shared-slice-read-if2 c = search needs
-
-element-copy-out-if2 : tie.Need-element-copy-out-if2 Inv-loop μ-loop
-element-copy-out-if2 c = search needs
-
 returns-2 : tie.Need-returns-2 Inv-loop μ-loop
 returns-2 c =
     let a = c .before .before .before .before .before .args in
@@ -60,9 +54,6 @@ returns-3 c =
 loop-holds : tie.Need-loop-holds Inv-loop μ-loop
 loop-holds c = (omega arith, λ j g. absurd (omega arith))
 
-add-same-bytes : tie.Need-add-same-bytes Inv-loop μ-loop
-add-same-bytes c = search needs
-
 same-bytes-requires-2 : tie.Need-same-bytes-requires-2 Inv-loop μ-loop
 same-bytes-requires-2 c κs = search needs
 
@@ -74,9 +65,6 @@ returns-4 c =
     let l = c .before .before .before .loop in
     block-differs b d (a .hstart) (a .hlen) (a .len) (omega arith) (omega arith) (omega arith) (a .hstart + l .i) (l .i) 64 refl (omega arith) (c .before .same-bytes2 .result) (c .before .same-bytes2 .ensures) (not-true _ (c .if4 .taken))
 
-add-i : tie.Need-add-i Inv-loop μ-loop
-add-i c = search needs
-
 loop-less : tie.Need-loop-less Inv-loop μ-loop
 loop-less c = search needs
 
@@ -87,9 +75,6 @@ loop-again c =
     let d = now (a .plan) in
     let l = c .before .before .before .loop in
     (omega arith, agree-more b d (a .hstart) (a .hlen) (a .len) (omega arith) (omega arith) (omega arith) (a .hstart + l .i) (l .i) 64 (l .i) refl (omega arith) (l .inv .1) (sym (c .before .same-bytes2 .ensures) ∙ not-false _ (c .if4 .left)))
-
-add-same-bytes-2 : tie.Need-add-same-bytes-2 Inv-loop μ-loop
-add-same-bytes-2 c = search needs
 
 same-bytes-requires-3 : tie.Need-same-bytes-requires-3 Inv-loop μ-loop
 same-bytes-requires-3 c κs = search needs
@@ -109,18 +94,18 @@ starts-with-spec =
     Inv-loop
     μ-loop
     returns
-    shared-slice-read-if2
-    element-copy-out-if2
+    (λ c. search needs)
+    (λ c. search needs)
     returns-2
     same-bytes-requires
     returns-3
     loop-holds
-    add-same-bytes
+    (λ c. search needs)
     same-bytes-requires-2
     returns-4
-    add-i
+    (λ c. search needs)
     loop-less
     loop-again
-    add-same-bytes-2
+    (λ c. search needs)
     same-bytes-requires-3
     returns-5)

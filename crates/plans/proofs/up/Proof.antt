@@ -24,21 +24,6 @@ loop-holds c =
     let e : 0 ≡ a .n - a .n = omega arith in
     (omega arith, paste-zero d (a .to + a .n) (drop (a .from + a .n) d) ∙ ap (paste d (a .to + a .n) (drop (a .from + a .n) d)) e)
 
-sub-i : tie.Need-sub-i Inv-loop μ-loop
-sub-i c = search needs
-
-add-s : tie.Need-add-s Inv-loop μ-loop
-add-s c = search needs
-
-element-copy-out-s : tie.Need-element-copy-out-s Inv-loop μ-loop
-element-copy-out-s c = search needs
-
-add-s-2 : tie.Need-add-s-2 Inv-loop μ-loop
-add-s-2 c = search needs
-
-element-write-s : tie.Need-element-write-s Inv-loop μ-loop
-element-write-s c = search needs
-
 loop-less : tie.Need-loop-less Inv-loop μ-loop
 loop-less c = search needs
 
@@ -69,11 +54,11 @@ up-spec =
     Inv-loop
     μ-loop
     loop-holds
-    sub-i
-    add-s
-    element-copy-out-s
-    add-s-2
-    element-write-s
+    (λ c. search needs)
+    (λ c. search needs)
+    (λ c. search needs)
+    (λ c. search needs)
+    (λ c. search needs)
     loop-less
     loop-again
     returns)

@@ -1,7 +1,7 @@
 use mathlib.Core.Path.{sym, _∙_}
 use native.Mathlib.Omega.{arith}
 use borrow.Author.Needs.{needs}
-use Rattle.choices.proofs.Accepting.{accepted-card}
+use Rattle.door.proofs.Accepting.{accepted-card}
 use denote.Ref.{now}
 use lib.ListN.{length}
 use Rattle.print_text.proofs.show.Statement.{statement}

@@ -1,11 +1,14 @@
-use mathlib.Core.Bool.{Bool, _&&_}
+use mathlib.Core.Bool.{Bool, false, _&&_}
+use lib.Dec.{ltb}
+use Rattle.deliberation.specs.Kinds.{entryKind}
 use Rattle.deliberation.specs.Entries.{kindGood}
 use mathlib.Core.Path.{ap₂, _≡_, sym, ap, _∙_}
 use mathlib.Core.Logic.{⊎-elim}
 use Rattle.card.proofs.Laws.{either-of}
 use Rattle.meaning.specs.Refusals.{conditionGood, containing}
-use Prim.Native.Nat.{ℕ, suc, _-_, _<_}
+use Prim.Native.Nat.{ℕ, _<_}
 use native.Mathlib.Omega.{arith}
+use borrow.Author.Tests.{le-ltb}
 use borrow.Author.Needs.{needs}
 use Rattle.program.proofs.kind_good.Statement.{statement}
 use Rattle.program.proofs.kind_good.Tie as tie
@@ -54,13 +57,13 @@ returns-6 : tie.Need-returns-6
 returns-6 c = λ b m.
     let a = c .before .before .before .before .args in
     let s = ap₂ _&&_ (c .before .byte-below5 .ensures) (c .byte-below6 .ensures) in
-    let kept : ℕ → Bool = λ k. kindGood (containing 2 (a .l) b) (a .l) (a .i) k (a .e .a) (a .e .b) in
+    let kept : ℕ → Bool = λ k. ltb k 7 && kindGood (containing 2 (a .l) b) (a .l) (a .i) (entryKind k) (a .e .a) (a .e .b) in
     ⊎-elim (λ e. s ∙ ap kept (sym e)) (λ e. s ∙ ap kept (sym e)) (either-of 5 (a .e .kind) (omega arith) (omega arith))
 
 returns-7 : tie.Need-returns-7
 returns-7 c = λ b m.
     let k = c .before .before .args .e .kind in
-    let e : k ≡ suc (suc (suc (suc (suc (suc (suc (k - 7))))))) = omega arith in
+    let e : ltb k 7 ≡ false = le-ltb k 7 (omega arith) in
     rw e
 
 pub kind-good-spec : {M : Type 1} → statement M

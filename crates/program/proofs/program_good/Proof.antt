@@ -1,7 +1,7 @@
 use Rattle.meaning.specs.Refusals.{containing, every}
 use borrow.Author.Tests.{not-true, not-false}
 use mathlib.Core.Bool.{_&&_, true}
-use Rattle.deliberation.specs.Entries.{entryAt, entryCount, entryGood, lengthGood, programGood}
+use Rattle.deliberation.specs.Entries.{entryOf, entryCount, entryGood, lengthGood, programGood}
 use mathlib.Core.Path.{_≡_, sym, ap, _∙_}
 use borrow.Author.Needs.{needs}
 use denote.Ref.{now}
@@ -18,7 +18,7 @@ returns c =
     let a = c .before .before .before .before .args in
     let p = now (a .program) in
     let e = sym (c .before .length-good .ensures) ∙ not-true _ (c .if1 .taken) in
-    sym (ap (λ t. t && every (entryCount p) (λ i. entryGood (containing 2 (a .l) (now (a .card))) (a .l) i (entryAt p i))) e)
+    sym (ap (λ t. t && every (entryCount p) (λ i. entryGood (containing 2 (a .l) (now (a .card))) (a .l) i (entryOf p i))) e)
 
 all-marks-requires : tie.Need-all-marks-requires
 all-marks-requires c κs = search needs
@@ -36,7 +36,7 @@ returns-2 c =
     let p = now (a .program) in
     let e : lengthGood (length p) ≡ true = sym (c .before .before .before .before .before .before .length-good .ensures) ∙ not-false _ (c .before .before .before .before .before .if1 .left) in
     c .entries-good .ensures (now (a .card)) (c .before .before .mark-nodes .ensures .1)
-    ∙ sym (ap (λ t. t && every (entryCount p) (λ i. entryGood (containing 2 (a .l) (now (a .card))) (a .l) i (entryAt p i))) e)
+    ∙ sym (ap (λ t. t && every (entryCount p) (λ i. entryGood (containing 2 (a .l) (now (a .card))) (a .l) i (entryOf p i))) e)
 
 pub program-good-spec : {M : Type 1} → statement M
 program-good-spec =

@@ -4,10 +4,10 @@ use Rattle.rigtemple.proofs.plan_weight.Statement.{statement}
 use Rattle.rigtemple.proofs.plan_weight.Tie as tie
 
 abbrev Inv-loop : tie.InvT-loop
-Inv-loop card plan n total₀ i₀ total i = (i ≤ 1024) × (total ≤ 65535 * i)
+Inv-loop card l plan n total₀ i₀ total i = (i ≤ 1024) × (total ≤ 65535 * i)
 
 abbrev μ-loop : tie.MeasureT-loop
-μ-loop card plan n total₀ i₀ total i = 1024 - i
+μ-loop card l plan n total₀ i₀ total i = 1024 - i
 
 loop-holds : tie.Need-loop-holds Inv-loop μ-loop
 loop-holds c = search needs
@@ -15,17 +15,8 @@ loop-holds c = search needs
 returns : tie.Need-returns Inv-loop μ-loop
 returns c = search needs
 
-element-copy-out-weight : tie.Need-element-copy-out-weight Inv-loop μ-loop
-element-copy-out-weight c = search needs
-
 weight-requires : tie.Need-weight-requires Inv-loop μ-loop
 weight-requires c κs = search needs
-
-add-total : tie.Need-add-total Inv-loop μ-loop
-add-total c = search needs
-
-add-i : tie.Need-add-i Inv-loop μ-loop
-add-i c = search needs
 
 loop-less : tie.Need-loop-less Inv-loop μ-loop
 loop-less c = search needs
@@ -44,10 +35,10 @@ plan-weight-spec =
     μ-loop
     loop-holds
     returns
-    element-copy-out-weight
+    (λ c. search needs)
     weight-requires
-    add-total
-    add-i
+    (λ c. search needs)
+    (λ c. search needs)
     loop-less
     loop-again
     returns-2)

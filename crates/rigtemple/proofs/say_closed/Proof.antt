@@ -9,9 +9,6 @@ Inv-loop card l m plan marks kind n none₀ i₀ t10 none i = i ≤ n
 abbrev μ-loop : tie.MeasureT-loop
 μ-loop card l m plan marks kind n none₀ i₀ t10 none i = n - i
 
-element-copy-out-say-kind : tie.Need-element-copy-out-say-kind Inv-loop μ-loop
-element-copy-out-say-kind c = search needs
-
 say-kind-requires : tie.Need-say-kind-requires Inv-loop μ-loop
 say-kind-requires c κs = search needs
 
@@ -33,9 +30,6 @@ say-conditions-requires c κs = search needs
 say-closed-choice-requires : tie.Need-say-closed-choice-requires Inv-loop μ-loop
 say-closed-choice-requires c κs = search needs
 
-add-i : tie.Need-add-i Inv-loop μ-loop
-add-i c = search needs
-
 loop-less : tie.Need-loop-less Inv-loop μ-loop
 loop-less c = search needs
 
@@ -44,9 +38,6 @@ loop-again c = search needs
 
 say-front-requires : tie.Need-say-front-requires Inv-loop μ-loop
 say-front-requires c κs = search needs
-
-slice-aggregate-say : tie.Need-slice-aggregate-say Inv-loop μ-loop
-slice-aggregate-say c = search needs
 
 say-requires : tie.Need-say-requires Inv-loop μ-loop
 say-requires c κs = search needs
@@ -60,7 +51,7 @@ say-closed-spec =
     (tie.spec
     Inv-loop
     μ-loop
-    element-copy-out-say-kind
+    (λ c. search needs)
     say-kind-requires
     count-of-requires
     loop-holds
@@ -68,10 +59,10 @@ say-closed-spec =
     waits-requires
     say-conditions-requires
     say-closed-choice-requires
-    add-i
+    (λ c. search needs)
     loop-less
     loop-again
     say-front-requires
-    slice-aggregate-say
+    (λ c. search needs)
     say-requires
     returns)

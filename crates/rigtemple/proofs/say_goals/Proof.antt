@@ -4,16 +4,16 @@ use Rattle.rigtemple.proofs.say_goals.Statement.{statement}
 use Rattle.rigtemple.proofs.say_goals.Tie as tie
 
 abbrev Inv-loop : tie.InvT-loop
-Inv-loop goals none₀ k₀ t5 t6 t7 none k = k ≤ 128
+Inv-loop goals n none₀ k₀ t5 t6 t7 none k = k ≤ n
 
 abbrev μ-loop : tie.MeasureT-loop
-μ-loop goals none₀ k₀ t5 t6 t7 none k = 128 - k
-
-slice-aggregate-say : tie.Need-slice-aggregate-say Inv-loop μ-loop
-slice-aggregate-say c = search needs
+μ-loop goals n none₀ k₀ t5 t6 t7 none k = n - k
 
 say-requires : tie.Need-say-requires Inv-loop μ-loop
 say-requires c κs = search needs
+
+most-atoms-requires : tie.Need-most-atoms-requires Inv-loop μ-loop
+most-atoms-requires c κs = search needs
 
 loop-holds : tie.Need-loop-holds Inv-loop μ-loop
 loop-holds c = search needs
@@ -21,17 +21,8 @@ loop-holds c = search needs
 member-requires : tie.Need-member-requires Inv-loop μ-loop
 member-requires c κs = search needs
 
-slice-aggregate-say-in-row : tie.Need-slice-aggregate-say-in-row Inv-loop μ-loop
-slice-aggregate-say-in-row c = search needs
-
-cast-say-in-row : tie.Need-cast-say-in-row Inv-loop μ-loop
-cast-say-in-row c = search needs
-
 say-in-row-requires : tie.Need-say-in-row-requires Inv-loop μ-loop
 say-in-row-requires c κs = search needs
-
-add-k : tie.Need-add-k Inv-loop μ-loop
-add-k c = search needs
 
 loop-less : tie.Need-loop-less Inv-loop μ-loop
 loop-less c = search needs
@@ -39,14 +30,8 @@ loop-less c = search needs
 loop-again : tie.Need-loop-again Inv-loop μ-loop
 loop-again c = search needs
 
-slice-aggregate-say-2 : tie.Need-slice-aggregate-say-2 Inv-loop μ-loop
-slice-aggregate-say-2 c = search needs
-
 say-requires-2 : tie.Need-say-requires-2 Inv-loop μ-loop
 say-requires-2 c κs = search needs
-
-slice-aggregate-say-3 : tie.Need-slice-aggregate-say-3 Inv-loop μ-loop
-slice-aggregate-say-3 c = search needs
 
 say-requires-3 : tie.Need-say-requires-3 Inv-loop μ-loop
 say-requires-3 c κs = search needs
@@ -60,18 +45,19 @@ say-goals-spec =
     (tie.spec
     Inv-loop
     μ-loop
-    slice-aggregate-say
+    (λ c. search needs)
     say-requires
+    most-atoms-requires
     loop-holds
+    (λ c. search needs)
     member-requires
-    slice-aggregate-say-in-row
-    cast-say-in-row
+    (λ c. search needs)
     say-in-row-requires
-    add-k
+    (λ c. search needs)
     loop-less
     loop-again
-    slice-aggregate-say-2
+    (λ c. search needs)
     say-requires-2
-    slice-aggregate-say-3
+    (λ c. search needs)
     say-requires-3
     returns)

@@ -4,25 +4,16 @@ use Rattle.rigtemple.proofs.steps.Statement.{statement}
 use Rattle.rigtemple.proofs.steps.Tie as tie
 
 abbrev Inv-loop : tie.InvT-loop
-Inv-loop card m₀ plan₀ count₀ m plan count = count ≤ 1000
+Inv-loop card l m₀ plan₀ count₀ m plan count = count ≤ 1000
 
 abbrev μ-loop : tie.MeasureT-loop
-μ-loop card m₀ plan₀ count₀ m plan count = 1000 - count
+μ-loop card l m₀ plan₀ count₀ m plan count = 1000 - count
 
 loop-holds : tie.Need-loop-holds Inv-loop μ-loop
 loop-holds c = search needs
 
 next-move-requires : tie.Need-next-move-requires Inv-loop μ-loop
 next-move-requires c κs = search needs
-
-enum-known-transition : tie.Need-enum-known-transition Inv-loop μ-loop
-enum-known-transition c = search needs
-
-add-count : tie.Need-add-count Inv-loop μ-loop
-add-count c = search needs
-
-cast-plan-weight : tie.Need-cast-plan-weight Inv-loop μ-loop
-cast-plan-weight c = search needs
 
 plan-weight-requires : tie.Need-plan-weight-requires Inv-loop μ-loop
 plan-weight-requires c κs = search needs
@@ -36,17 +27,11 @@ loop-less c = search needs
 loop-again : tie.Need-loop-again Inv-loop μ-loop
 loop-again c = search needs
 
-enum-told : tie.Need-enum-told Inv-loop μ-loop
-enum-told c = search needs
-
 ended-requires : tie.Need-ended-requires Inv-loop μ-loop
 ended-requires c κs = search needs
 
 returns : tie.Need-returns Inv-loop μ-loop
 returns c = search needs
-
-enum-told-2 : tie.Need-enum-told-2 Inv-loop μ-loop
-enum-told-2 c = search needs
 
 ended-requires-2 : tie.Need-ended-requires-2 Inv-loop μ-loop
 ended-requires-2 c κs = search needs
@@ -68,17 +53,17 @@ steps-spec =
     μ-loop
     loop-holds
     next-move-requires
-    enum-known-transition
-    add-count
-    cast-plan-weight
+    (λ c. search needs)
+    (λ c. search needs)
+    (λ c. search needs)
     plan-weight-requires
     step-line-requires
     loop-less
     loop-again
-    enum-told
+    (λ c. search needs)
     ended-requires
     returns
-    enum-told-2
+    (λ c. search needs)
     ended-requires-2
     returns-2
     ended-requires-3

@@ -33,17 +33,8 @@ returns c =
     found-all (λ x. eqb x 0) X 0 true 16 (omega arith) (asked-from (a .atoms) (a .t1) (omega arith) bytes 16 (omega arith) (omega (arith, c .if1 .taken)))
     ∙ known (a .atoms) (a .t1) (omega arith) p bytes
 
-array-read-unknown : tie.Need-array-read-unknown Inv-loop μ-loop
-array-read-unknown c = search needs
-
-array-read-unknown-2 : tie.Need-array-read-unknown-2 Inv-loop μ-loop
-array-read-unknown-2 c = search needs
-
 low-bits-requires : tie.Need-low-bits-requires Inv-loop μ-loop
 low-bits-requires c κs = search needs
-
-add-i : tie.Need-add-i Inv-loop μ-loop
-add-i c = search needs
 
 loop-holds : tie.Need-loop-holds Inv-loop μ-loop
 loop-holds c =
@@ -56,12 +47,6 @@ loop-holds c =
     let low = at-below (a .atoms) (a .atoms / 8) (omega arith) ∙ ap lowBits own ∙ sym (c .low-bits .ensures) in
     let found = found-turn (λ x. eqb x 0) X 0 true (a .atoms / 8) 0 (omega arith) (asked-from (a .atoms) (a .t1) (omega arith) bytes (a .atoms / 8) (omega arith) (omega arith)) in
     (omega arith, omega arith, rw (at-∖ (a .t1) (below (a .atoms)) (a .atoms / 8), low) at found)
-
-array-read-good : tie.Need-array-read-good Inv-loop μ-loop
-array-read-good c = search needs
-
-add-i-2 : tie.Need-add-i-2 Inv-loop μ-loop
-add-i-2 c = search needs
 
 loop-less : tie.Need-loop-less Inv-loop μ-loop
 loop-less c = search needs
@@ -92,13 +77,13 @@ known-spec =
     Inv-loop
     μ-loop
     returns
-    array-read-unknown
-    array-read-unknown-2
+    (λ c. search needs)
+    (λ c. search needs)
     low-bits-requires
-    add-i
+    (λ c. search needs)
     loop-holds
-    array-read-good
-    add-i-2
+    (λ c. search needs)
+    (λ c. search needs)
     loop-less
     loop-again
     returns-2)

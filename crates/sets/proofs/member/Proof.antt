@@ -7,24 +7,15 @@ use borrow.Author.Needs.{needs}
 use Rattle.sets.proofs.member.Statement.{statement}
 use Rattle.sets.proofs.member.Tie as tie
 
-cast-i : tie.Need-cast-i
-cast-i c = search needs
-
 returns : tie.Need-returns
 unfolding bit _∈_
 returns c =
     let past : length (c .before .args .t1) ≤ c .before .args .k / 8 = omega arith in
     rw (List·getD-eq-default (c .before .args .t1) 0 past, zero-div)
 
-array-read-result : tie.Need-array-read-result
-array-read-result c = search needs
-
-shr-result : tie.Need-shr-result
-shr-result c = search needs
-
 returns-2 : tie.Need-returns-2
 unfolding bit _∈_
 returns-2 c = search needs
 
 pub member-spec : {M : Type 1} → statement M
-member-spec = tie.close (tie.spec cast-i returns array-read-result shr-result returns-2)
+member-spec = tie.close (tie.spec (λ c. search needs) returns (λ c. search needs) (λ c. search needs) returns-2)

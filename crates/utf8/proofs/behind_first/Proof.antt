@@ -13,11 +13,11 @@ begins-requires c κs = search needs
 tails-of-requires : tie.Need-tails-of-requires
 tails-of-requires c κs = search needs
 
-low-of-requires : tie.Need-low-of-requires
-low-of-requires c κs = search needs
+bound-requires : tie.Need-bound-requires
+bound-requires c κs = search needs
 
-high-of-requires : tie.Need-high-of-requires
-high-of-requires c κs = search needs
+bound-requires-2 : tie.Need-bound-requires-2
+bound-requires-2 c κs = search needs
 
 returns : tie.Need-returns
 returns c = sym (first-plain (c .before .args .x) (record { least = omega arith; most = c .if1 .taken }))
@@ -27,7 +27,7 @@ returns-2 c =
     first-begun
     (c .before .before .before .before .before .before .args .x) _
     (sym (c .before .before .before .before .begins .ensures) ∙ c .before .before .before .if2 .taken)
-    (λ j. awaited (c .before .before .tails-of .ensures j) (c .before .low-of .ensures j) (c .high-of .ensures j))
+    (λ j. awaited (c .before .before .tails-of .ensures j) (c .before .bound .ensures j) (c .bound2 .ensures j))
 
 returns-3 : tie.Need-returns-3
 returns-3 c = first-not-begun (c .before .before .before .args .x) (sym (c .before .begins .ensures) ∙ c .if2 .left)
@@ -35,4 +35,4 @@ returns-3 c = first-not-begun (c .before .before .before .args .x) (sym (c .befo
 pub behind-first-spec : {M : Type 1} → statement M
 behind-first-spec =
     tie.close
-    (tie.spec returns begins-requires tails-of-requires low-of-requires high-of-requires returns-2 returns-3)
+    (tie.spec returns begins-requires tails-of-requires bound-requires bound-requires-2 returns-2 returns-3)

@@ -18,14 +18,8 @@ abbrev μ-loop : tie.MeasureT-loop
 loop-holds : tie.Need-loop-holds Inv-loop μ-loop
 loop-holds c = (omega arith, c .before .pre .0, refl)
 
-shared-slice-read-behind : tie.Need-shared-slice-read-behind Inv-loop μ-loop
-shared-slice-read-behind c = search needs
-
 behind-requires : tie.Need-behind-requires Inv-loop μ-loop
 behind-requires c κs = search needs
-
-add-at : tie.Need-add-at Inv-loop μ-loop
-add-at c = search needs
 
 loop-less : tie.Need-loop-less Inv-loop μ-loop
 loop-less c = search needs
@@ -59,9 +53,9 @@ utf8-part-spec =
     Inv-loop
     μ-loop
     loop-holds
-    shared-slice-read-behind
+    (λ c. search needs)
     behind-requires
-    add-at
+    (λ c. search needs)
     loop-less
     loop-again
     returns)

@@ -9,9 +9,6 @@ use Rattle.card.proofs.check.check.Tie as tie
 read-header-requires : tie.Need-read-header-requires
 read-header-requires c κs = search needs
 
-enum-known-header : tie.Need-enum-known-header
-enum-known-header c = search needs
-
 enum-told : tie.Need-enum-told
 enum-told c = search needs
 
@@ -23,12 +20,6 @@ judge-card-requires c κs =
     let v = c .before .before .before .read-header in
     let (n, s) = header-read (now (c .before .before .before .before .before .args .card)) (v .result) (v .ensures .0) _ (c .before .header .given .1) in
     (n, s, v .ensures .1 _ (c .before .header .given .1))
-
-enum-told-2 : tie.Need-enum-told-2
-enum-told-2 c = search needs
-
-enum-told-3 : tie.Need-enum-told-3
-enum-told-3 c = search needs
 
 checked-by-requires : tie.Need-checked-by-requires
 checked-by-requires c κs = search needs
@@ -52,12 +43,12 @@ check-spec =
     tie.close
     (tie.spec
     read-header-requires
-    enum-known-header
+    (λ c. search needs)
     enum-told
     returns
     judge-card-requires
-    enum-told-2
-    enum-told-3
+    (λ c. search needs)
+    (λ c. search needs)
     checked-by-requires
     returns-2
     returns-3)

@@ -1,5 +1,6 @@
 use Rattle.card.proofs.Rows.{stops, goes-on}
 use Rattle.card.specs.Rows.{rowsFrom}
+use Rattle.meaning.specs.Sizes.{edition1Set, headerBytes}
 use Rattle.meaning.specs.Refusals.{cardLongEnough, cardMarkGood, cardTable, cardAnswer}
 use Rattle.meaning.proofs.Tables.{not-given}
 use borrow.Author.Tests.{le-leb}
@@ -19,15 +20,12 @@ row-requires c κs = search needs
 enum-told : tie.Need-enum-told
 enum-told c = search needs
 
-enum-told-2 : tie.Need-enum-told-2
-enum-told-2 c = search needs
-
 returns : tie.Need-returns
 unfolding cardAnswer cardTable cardLongEnough cardMarkGood
 returns c =
     let b = now (c .before .before .before .before .before .args .card) in
     stops _ _ b (c .before .before .before .mark-good .result) (ap not (sym (c .before .before .before .mark-good .ensures))) (c .before .before .row .result) (c .before .before .row .ensures) _ (c .enum-told2 .given .1)
-    ∙ sym (not-given _ _ b (ap not (le-leb 64 _ (c .before .before .before .before .before .pre .0))))
+    ∙ sym (not-given _ _ b (ap not (le-leb (headerBytes edition1Set) _ (c .before .before .before .before .before .pre .0))))
 
 from-counts-requires : tie.Need-from-counts-requires
 from-counts-requires c κs = search needs
@@ -38,7 +36,7 @@ returns-2 c =
     let b = now (c .before .before .before .before .before .before .args .card) in
     c .from-counts .ensures
     ∙ sym (goes-on _ _ b (c .before .before .before .before .mark-good .result) (ap not (sym (c .before .before .before .before .mark-good .ensures))) (c .before .before .before .row .result) (c .before .before .before .row .ensures) (c .before .enum-told .given .1))
-    ∙ sym (not-given _ _ b (ap not (le-leb 64 _ (c .before .before .before .before .before .before .pre .0))))
+    ∙ sym (not-given _ _ b (ap not (le-leb (headerBytes edition1Set) _ (c .before .before .before .before .before .before .pre .0))))
 
 pub judge-card-spec : {M : Type 1} → statement M
 judge-card-spec =
@@ -47,7 +45,7 @@ judge-card-spec =
     mark-good-requires
     row-requires
     enum-told
-    enum-told-2
+    (λ c. search needs)
     returns
     from-counts-requires
     returns-2)

@@ -26,7 +26,7 @@ entry l b k i = bothGood k (specificationAt l b i .add) (specificationAt l b i .
 
 -- what was found of the first i, and what is left to ask
 abbrev Asked : Layout → Bytes → ℕ → Atoms → ℕ → Type 0
-Asked l b n s i = (k : ℕ) → (setGood k s && all (entry l b k) (numbers i (n - i))) ≡ (bothGood k (initialBeliefs b) (initialGoals b) && every n (entry l b k))
+Asked l b n s i = (k : ℕ) → (setGood k s && all (entry l b k) (numbers i (n - i))) ≡ (bothGood k (initialBeliefs l b) (initialGoals l b) && every n (entry l b k))
 
 abbrev Inv-loop : tie.InvT-loop
 Inv-loop card l n all₀ i₀ all i = (i ≤ n) × (length all ≡ 16) × Asked l card n all i
@@ -48,8 +48,8 @@ loop-holds c =
     let a = c .before .before .before .before .before .args in
     let p = c .before .before .before .before .before .pre in
     let b = now (a .card) in
-    let X = initialBeliefs b in
-    let Y = initialGoals b in
+    let X = initialBeliefs (a .l) b in
+    let Y = initialGoals (a .l) b in
     let lx : length X ≡ 16 = length-part b 32 16 (omega arith) in
     let ly : length Y ≡ 16 = length-part b 48 16 (omega arith) in
     let e : c .union .result ≡ X ∪ Y = c .union .ensures ∙ ap₂ _∪_ (c .before .before .initial-beliefs .ensures) (c .before .initial-goals .ensures) in
@@ -69,9 +69,6 @@ union-requires-2 c κs = search needs
 
 union-requires-3 : tie.Need-union-requires-3 Inv-loop μ-loop
 union-requires-3 c κs = search needs
-
-add-i : tie.Need-add-i Inv-loop μ-loop
-add-i c = search needs
 
 loop-less : tie.Need-loop-less Inv-loop μ-loop
 loop-less c = search needs
@@ -127,7 +124,7 @@ all-sets-spec =
     read-specification-requires
     union-requires-2
     union-requires-3
-    add-i
+    (λ c. search needs)
     loop-less
     loop-again
     returns)

@@ -11,7 +11,7 @@ use Rattle.card.proofs.contents.weights_good.Statement.{statement}
 use Rattle.card.proofs.contents.weights_good.Tie as tie
 
 abbrev Inv-loop : tie.InvT-loop
-Inv-loop card l n good₀ a₀ good a = (a ≤ n) × Kept (λ a. within 1 1024 (weightAt card a)) n good a
+Inv-loop card l n good₀ a₀ good a = (a ≤ n) × Kept (λ a. within 1 1024 (weightAt l card a)) n good a
 
 abbrev μ-loop : tie.MeasureT-loop
 μ-loop card l n good₀ a₀ good a = n - a
@@ -28,9 +28,6 @@ read-weight-requires c κs = search needs
 in-range-requires : tie.Need-in-range-requires Inv-loop μ-loop
 in-range-requires c κs = search needs
 
-add-a : tie.Need-add-a Inv-loop μ-loop
-add-a c = search needs
-
 loop-less : tie.Need-loop-less Inv-loop μ-loop
 loop-less c = search needs
 
@@ -38,7 +35,7 @@ loop-again : tie.Need-loop-again Inv-loop μ-loop
 loop-again c =
     let a = c .before .before .before .before .before .before .args in
     let l = c .before .before .before .before .loop in
-    let t : ℕ → Bool = λ i. within 1 1024 (weightAt (now (a .card)) i) in
+    let t : ℕ → Bool = λ i. within 1 1024 (weightAt (a .l) (now (a .card)) i) in
     let e : c .in-range .result ≡ t (l .a) = c .in-range .ensures ∙ (λ i. within 1 (c .before .before .heaviest-action .ensures i) (c .before .read-weight .ensures .0 i)) in
     (omega arith, rw e (kept-turn t (a .l .actions) (l .good) (l .a) (omega arith) (l .inv .1)))
 
@@ -47,7 +44,7 @@ unfolding weightsGood
 returns c =
     let a = c .before .before .before .args in
     let l = c .before .loop in
-    let t : ℕ → Bool = λ i. within 1 1024 (weightAt (now (a .card)) i) in
+    let t : ℕ → Bool = λ i. within 1 1024 (weightAt (a .l) (now (a .card)) i) in
     kept-all t (a .l .actions) (l .good) (l .a) (omega arith) (l .inv .1)
 
 pub weights-good-spec : {M : Type 1} → statement M
@@ -60,7 +57,7 @@ weights-good-spec =
     heaviest-action-requires
     read-weight-requires
     in-range-requires
-    add-a
+    (λ c. search needs)
     loop-less
     loop-again
     returns)

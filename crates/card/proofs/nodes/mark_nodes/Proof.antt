@@ -1,3 +1,5 @@
+use Rattle.meaning.specs.Kinds.{nodeKind}
+use Rattle.meaning.proofs.NodeKinds.{known-kind}
 use Rattle.meaning.proofs.Nodes.{node-rule}
 use Rattle.card.proofs.Laws.{tells-mark, MarkedTo, marked-start, marked-turn, marked-all}
 use Rattle.card.specs.Marks.{tells, markOf}
@@ -27,26 +29,11 @@ loop-holds c =
 read-node-requires : tie.Need-read-node-requires Inv-loop μ-loop
 read-node-requires c κs = search needs
 
-cast-first : tie.Need-cast-first Inv-loop μ-loop
-cast-first c = search needs
-
-element-copy-out-first : tie.Need-element-copy-out-first Inv-loop μ-loop
-element-copy-out-first c = search needs
-
-cast-second : tie.Need-cast-second Inv-loop μ-loop
-cast-second c = search needs
-
-element-copy-out-second : tie.Need-element-copy-out-second Inv-loop μ-loop
-element-copy-out-second c = search needs
-
 mark-of-requires : tie.Need-mark-of-requires Inv-loop μ-loop
-mark-of-requires c κs = search needs
-
-element-write-marks : tie.Need-element-write-marks Inv-loop μ-loop
-element-write-marks c = search needs
-
-add-i : tie.Need-add-i Inv-loop μ-loop
-add-i c = search needs
+mark-of-requires c κs =
+    let p = c .before .before .before .before .before .before .before .before .before .pre in
+    let k = node-rule _ _ (p .1) (c .before .before .before .before .before .before .loop .i) (omega arith) .kinds in
+    rw (c .before .before .before .before .read-node .ensures) k
 
 loop-less : tie.Need-loop-less Inv-loop μ-loop
 loop-less c = search needs
@@ -60,8 +47,8 @@ loop-again c =
     let k : l .i < a .l .nodes .count = omega arith in
     let m : l .i < 256 = omega arith in
     let x = nodeAt (a .l) b (l .i) in
-    let e = c .mark-of .ensures ∙ ap (λ (n : Node). markOf (n .kind) (getD (l .marks) (n .a) 0) (getD (l .marks) (n .b) 0)) (c .before .before .before .before .before .read-node .ensures) in
-    let t = tells-mark (x .kind) (node-rule (a .l) b good (l .i) k .kinds) (x .a) (x .b) (λ j. getD (l .marks) j 0) in
+    let e = c .mark-of .ensures ∙ ap (λ (n : Node). markOf (nodeKind (n .kind)) (getD (l .marks) (n .a) 0) (getD (l .marks) (n .b) 0)) (c .before .before .before .before .before .read-node .ensures) in
+    let t = tells-mark (known-kind (x .kind) (node-rule (a .l) b good (l .i) k .kinds)) (x .a) (x .b) (λ j. getD (l .marks) j 0) in
     (omega arith, marked-turn 1 (a .l) b good (l .marks) (l .i) _ k m (ap (tells 1) e ∙ t .0) (l .inv .1), marked-turn 2 (a .l) b good (l .marks) (l .i) _ k m (ap (tells 2) e ∙ t .1) (l .inv .2))
 
 returns : tie.Need-returns Inv-loop μ-loop
@@ -80,13 +67,13 @@ mark-nodes-spec =
     μ-loop
     loop-holds
     read-node-requires
-    cast-first
-    element-copy-out-first
-    cast-second
-    element-copy-out-second
+    (λ c. search needs)
+    (λ c. search needs)
+    (λ c. search needs)
+    (λ c. search needs)
     mark-of-requires
-    element-write-marks
-    add-i
+    (λ c. search needs)
+    (λ c. search needs)
     loop-less
     loop-again
     returns)

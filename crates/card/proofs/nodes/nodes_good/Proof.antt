@@ -24,9 +24,6 @@ read-node-requires c κs = search needs
 kind-good-requires : tie.Need-kind-good-requires Inv-loop μ-loop
 kind-good-requires c κs = search needs
 
-add-i : tie.Need-add-i Inv-loop μ-loop
-add-i c = search needs
-
 loop-less : tie.Need-loop-less Inv-loop μ-loop
 loop-less c = search needs
 
@@ -54,7 +51,7 @@ nodes-good-spec =
     loop-holds
     read-node-requires
     kind-good-requires
-    add-i
+    (λ c. search needs)
     loop-less
     loop-again
     returns)

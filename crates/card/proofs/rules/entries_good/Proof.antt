@@ -26,9 +26,6 @@ entry-good-requires c κs =
     let h : c .before .loop .i < countOf (c .before .before .before .before .args .l) (c .before .before .before .before .args .kind) = rw (c .before .before .count-of .ensures) at (c .loop-test .taken) in
     ((p .0, h), p .1)
 
-add-i : tie.Need-add-i Inv-loop μ-loop
-add-i c = search needs
-
 loop-less : tie.Need-loop-less Inv-loop μ-loop
 loop-less c = search needs
 
@@ -55,7 +52,7 @@ entries-good-spec =
     count-of-requires
     loop-holds
     entry-good-requires
-    add-i
+    (λ c. search needs)
     loop-less
     loop-again
     returns)

@@ -8,11 +8,8 @@ longest-plan-requires c κs = search needs
 in-range-requires : tie.Need-in-range-requires
 in-range-requires c κs = search needs
 
-add-result : tie.Need-add-result
-add-result c = search needs
-
 returns : tie.Need-returns
 returns c = rw (c .before .before .in-range .ensures, c .before .before .before .longest-plan .ensures)
 
 pub span-good-spec : {M : Type 1} → statement M
-span-good-spec = tie.close (tie.spec longest-plan-requires in-range-requires add-result returns)
+span-good-spec = tie.close (tie.spec longest-plan-requires in-range-requires (λ c. search needs) returns)

@@ -1,6 +1,6 @@
 use Rattle.meaning.specs.Configurations.{stateOf}
-use Rattle.layout.specs.PlaceParts.{lent}
-use Rattle.choices.proofs.Asking.{no-rule}
+use Rattle.layout.specs.PlaceParts.{configured}
+use Rattle.door.proofs.Asking.{no-rule}
 use native.Mathlib.Omega.{arith}
 use borrow.Author.Needs.{needs}
 use denote.Ref.{now}
@@ -14,7 +14,7 @@ returns : tie.Need-returns
 returns c =
     let a = c .before .before .before .args in
     let n = c .before .count-of .ensures in
-    no-rule (a .l) (now (a .card)) (stateOf (lent (a .m) (now (a .plan))) .mental) (a .kind) (a .i) (omega arith)
+    no-rule (a .l) (now (a .card)) (stateOf (configured (a .m) (now (a .plan))) .mental) (a .kind) (a .i) (omega arith)
 
 ask-entry-requires : tie.Need-ask-entry-requires
 ask-entry-requires c κs = search needs

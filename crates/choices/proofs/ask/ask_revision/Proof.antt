@@ -1,10 +1,10 @@
 use mathlib.Core.Path.{sym, ap, ap₂, _∙_, subst}
-use Rattle.layout.specs.PlaceParts.{lent}
+use Rattle.layout.specs.PlaceParts.{configured}
 use Rattle.meaning.specs.Card.{part, plan}
 use Rattle.paper.specs.Next.{isPrefix}
 use mathlib.Core.Bool.{false}
-use Rattle.choices.specs.Asking.{askedBy}
-use Rattle.choices.proofs.Asking.{asks-revision}
+use Rattle.door.specs.Asking.{askedBy}
+use Rattle.choices.proofs.Marked.{asks-revision}
 use Rattle.card.specs.GoodCard.{GoodSpan}
 use Rattle.meaning.specs.declared.RevisionEntry.{RevisionEntry}
 use native.Mathlib.Omega.{arith}
@@ -19,9 +19,6 @@ read-revision-requires c κs = search needs
 
 pool-at-requires : tie.Need-pool-at-requires
 pool-at-requires c κs = search needs
-
-cast-starts-with : tie.Need-cast-starts-with
-cast-starts-with c = search needs
 
 starts-with-requires : tie.Need-starts-with-requires
 starts-with-requires c κs =
@@ -47,7 +44,7 @@ returns c =
     let b = c .before .holds .ensures ∙ ap (λ (x : RevisionEntry). getD (now (a .marks)) (x .node) false) e in
     let at = c .before .before .before .before .pool-at .ensures in
     let f = c .before .before .starts-with .ensures ∙ (λ j. isPrefix (part (now (a .card)) (at j) (c .before .before .before .before .before .before .read-revision .result .head .length)) (take (a .m .length) (now (a .plan)))) ∙ ap (λ (x : RevisionEntry). isPrefix (plan (a .l) (now (a .card)) (x .head)) (take (a .m .length) (now (a .plan)))) e in
-    c .asked-by .ensures ∙ ap₂ askedBy f b ∙ asks-revision (a .l) (now (a .card)) (lent (a .m) (now (a .plan))) (now (a .marks)) (c .before .before .before .before .before .before .before .before .pre .0) (a .i) (c .before .before .before .before .before .before .before .before .pre .1)
+    c .asked-by .ensures ∙ ap₂ askedBy f b ∙ asks-revision (a .l) (now (a .card)) (configured (a .m) (now (a .plan))) (now (a .marks)) (c .before .before .before .before .before .before .before .before .pre .0) (a .i) (c .before .before .before .before .before .before .before .before .pre .1)
 
 pub ask-revision-spec : {M : Type 1} → statement M
 ask-revision-spec =
@@ -55,7 +52,7 @@ ask-revision-spec =
     (tie.spec
     read-revision-requires
     pool-at-requires
-    cast-starts-with
+    (λ c. search needs)
     starts-with-requires
     holds-requires
     asked-by-requires

@@ -1,10 +1,10 @@
 use mathlib.Core.Path.{ap, ap₂, _∙_}
-use Rattle.layout.specs.PlaceParts.{lent}
+use Rattle.layout.specs.PlaceParts.{configured}
 use lib.Dec.{eqb}
 use mathlib.Core.Bool.{false, _&&_}
-use Rattle.choices.specs.Asking.{askedBy}
+use Rattle.door.specs.Asking.{askedBy}
 use Rattle.meaning.specs.declared.SelectionEntry.{SelectionEntry}
-use Rattle.choices.proofs.Asking.{asks-selection}
+use Rattle.choices.proofs.Marked.{asks-selection}
 use borrow.Author.Needs.{needs}
 use denote.Ref.{now}
 use lib.ListN.{length, getD}
@@ -29,7 +29,7 @@ returns c =
     let e = c .before .before .before .before .read-selection .ensures .0 in
     let b = c .before .before .before .holds .ensures ∙ ap (λ (x : SelectionEntry). getD (now (a .marks)) (x .belief) false) e in
     let g = c .before .before .holds2 .ensures ∙ ap (λ (x : SelectionEntry). getD (now (a .marks)) (x .goal) false) e in
-    c .asked-by .ensures ∙ ap (askedBy (eqb (a .m .length) 0)) (ap₂ _&&_ b g) ∙ asks-selection (a .l) (now (a .card)) (lent (a .m) (now (a .plan))) (now (a .marks)) (c .before .before .before .before .before .before .pre .0) (a .i) (c .before .before .before .before .before .before .pre .1)
+    c .asked-by .ensures ∙ ap (askedBy (eqb (a .m .length) 0)) (ap₂ _&&_ b g) ∙ asks-selection (a .l) (now (a .card)) (configured (a .m) (now (a .plan))) (now (a .marks)) (c .before .before .before .before .before .before .pre .0) (a .i) (c .before .before .before .before .before .before .pre .1)
 
 pub ask-selection-spec : {M : Type 1} → statement M
 ask-selection-spec =

@@ -1,8 +1,8 @@
 use Rattle.runs.specs.Order.{guide}
 use Rattle.meaning.specs.Card.{agentFor}
 use Rattle.meaning.specs.Configurations.{stateOf}
-use Rattle.layout.specs.PlaceParts.{lent}
-use Rattle.choices.proofs.First.{Tried, tried-more, found-in-turn, none-in-turn}
+use Rattle.layout.specs.PlaceParts.{configured}
+use Rattle.door.proofs.First.{Tried, tried-more, found-in-turn, none-in-turn}
 use mathlib.Core.Path.{sym, _∙_}
 use Prim.Native.Nat.{_-_, _≤_}
 use native.Mathlib.Omega.{arith}
@@ -12,7 +12,7 @@ use Rattle.choices.proofs.ask.choose.Statement.{statement}
 use Rattle.choices.proofs.ask.choose.Tie as tie
 
 abbrev Inv-loop : tie.InvT-loop
-Inv-loop card l m plan marks p t₀ t = (t ≤ 3) × Tried (agentFor l card) (stateOf (lent m plan) .mental) p t
+Inv-loop card l m plan marks p t₀ t = (t ≤ 3) × Tried (agentFor l card) (stateOf (configured m plan) .mental) p t
 
 abbrev μ-loop : tie.MeasureT-loop
 μ-loop card l m plan marks p t₀ t = 3 - t
@@ -29,18 +29,12 @@ first-of-kind-requires c κs = search needs
 enum-told : tie.Need-enum-told Inv-loop μ-loop
 enum-told c = search needs
 
-enum-told-2 : tie.Need-enum-told-2 Inv-loop μ-loop
-enum-told-2 c = search needs
-
 returns : tie.Need-returns Inv-loop μ-loop
 unfolding guide stateOf
 returns c =
     let a = c .before .before .before .before .before .before .args in
     let l = c .before .before .before .before .loop in
-    found-in-turn (agentFor (a .l) (now (a .card))) (stateOf (lent (a .m) (now (a .plan))) .mental) (a .m .phase) (l .t) (omega arith) (l .inv .1) (c .before .before .first-of-kind .result) (c .before .before .first-of-kind .ensures) _ _ (c .enum-told2 .given .1)
-
-add-t : tie.Need-add-t Inv-loop μ-loop
-add-t c = search needs
+    found-in-turn (agentFor (a .l) (now (a .card))) (stateOf (configured (a .m) (now (a .plan))) .mental) (a .m .phase) (l .t) (omega arith) (l .inv .1) (c .before .before .first-of-kind .result) (c .before .before .first-of-kind .ensures) _ _ (c .enum-told2 .given .1)
 
 loop-less : tie.Need-loop-less Inv-loop μ-loop
 loop-less c = search needs
@@ -49,14 +43,14 @@ loop-again : tie.Need-loop-again Inv-loop μ-loop
 loop-again c =
     let a = c .before .before .before .before .before .before .args in
     let l = c .before .before .before .before .loop in
-    (omega arith, tried-more (agentFor (a .l) (now (a .card))) (stateOf (lent (a .m) (now (a .plan))) .mental) (a .m .phase) (l .t) (l .inv .1) (sym (c .before .before .first-of-kind .ensures) ∙ c .enum-told .given .1))
+    (omega arith, tried-more (agentFor (a .l) (now (a .card))) (stateOf (configured (a .m) (now (a .plan))) .mental) (a .m .phase) (l .t) (l .inv .1) (sym (c .before .before .first-of-kind .ensures) ∙ c .enum-told .given .1))
 
 returns-2 : tie.Need-returns-2 Inv-loop μ-loop
 unfolding guide stateOf
 returns-2 c =
     let a = c .before .before .before .args in
     let l = c .before .loop in
-    none-in-turn (agentFor (a .l) (now (a .card))) (stateOf (lent (a .m) (now (a .plan))) .mental) (a .m .phase) (λ k h. l .inv .1 k (omega arith))
+    none-in-turn (agentFor (a .l) (now (a .card))) (stateOf (configured (a .m) (now (a .plan))) .mental) (a .m .phase) (λ k h. l .inv .1 k (omega arith))
 
 pub choose-spec : {M : Type 1} → statement M
 choose-spec =
@@ -68,9 +62,9 @@ choose-spec =
     add-first-of-kind
     first-of-kind-requires
     enum-told
-    enum-told-2
+    (λ c. search needs)
     returns
-    add-t
+    (λ c. search needs)
     loop-less
     loop-again
     returns-2)

@@ -1,21 +1,21 @@
 use Rattle.paper.specs.Language.{Config}
-use Rattle.choices.specs.Asking.{choiceAt}
+use Rattle.door.specs.Asking.{choiceAt}
 use Rattle.meaning.specs.Card.{agentFor}
 use Rattle.meaning.specs.Configurations.{stateOf}
-use Rattle.layout.specs.PlaceParts.{lent}
+use Rattle.layout.specs.PlaceParts.{configured}
 use Rattle.layout.specs.Entries.{countOf}
-use Rattle.choices.proofs.Asking.{told}
-use Rattle.choices.proofs.First.{LeftOf, left-start, left-turn, found-of-kind, none-of-kind}
+use Rattle.door.proofs.First.{LeftOf, left-start, left-turn, found-of-kind, none-of-kind}
 use mathlib.Core.Path.{sym}
 use Prim.Native.Nat.{_-_, _≤_}
 use native.Mathlib.Omega.{arith}
+use Rattle.door.proofs.Asking.{asked-is}
 use borrow.Author.Needs.{needs}
 use denote.Ref.{now}
 use Rattle.choices.proofs.ask.first_of_kind.Statement.{statement}
 use Rattle.choices.proofs.ask.first_of_kind.Tie as tie
 
 abbrev Inv-loop : tie.InvT-loop
-Inv-loop card l m plan marks kind n i₀ i = (i ≤ countOf l kind) × LeftOf l card (stateOf (lent m plan) .mental) kind i
+Inv-loop card l m plan marks kind n i₀ i = (i ≤ countOf l kind) × LeftOf l card (stateOf (configured m plan) .mental) kind i
 
 abbrev μ-loop : tie.MeasureT-loop
 μ-loop card l m plan marks kind n i₀ i = countOf l kind - i
@@ -37,8 +37,8 @@ returns c =
     let a = c .before .before .before .before .before .before .before .args in
     let l = c .before .before .before .before .loop in
     let A = agentFor (a .l) (now (a .card)) in
-    let s : Config = stateOf (lent (a .m) (now (a .plan))) .mental in
-    let e = sym (told A s (choiceAt (a .kind) (l .i)) (c .before .before .ask-entry .result) _ (c .before .before .ask-entry .ensures) (c .enum-told .given .1)) in
+    let s : Config = stateOf (configured (a .m) (now (a .plan))) .mental in
+    let e = sym (asked-is A s (choiceAt (a .kind) (l .i)) (c .before .before .ask-entry .result) _ (c .before .before .ask-entry .ensures) (c .enum-told .given .1)) in
     found-of-kind (a .l) (now (a .card)) s (a .kind) (l .i) (c .before .before .before .before .before .before .before .pre .1) (omega arith) e (l .inv .1)
 
 enum-told-2 : tie.Need-enum-told-2 Inv-loop μ-loop
@@ -55,8 +55,8 @@ loop-again c =
     let a = c .before .before .before .before .before .before .before .args in
     let l = c .before .before .before .before .loop in
     let A = agentFor (a .l) (now (a .card)) in
-    let s : Config = stateOf (lent (a .m) (now (a .plan))) .mental in
-    let e = sym (told A s (choiceAt (a .kind) (l .i)) (c .before .before .ask-entry .result) _ (c .before .before .ask-entry .ensures) (c .enum-told2 .given .1)) in
+    let s : Config = stateOf (configured (a .m) (now (a .plan))) .mental in
+    let e = sym (asked-is A s (choiceAt (a .kind) (l .i)) (c .before .before .ask-entry .result) _ (c .before .before .ask-entry .ensures) (c .enum-told2 .given .1)) in
     (omega (arith, c .before .before .before .loop-test .taken), left-turn A s (choiceAt (a .kind)) (countOf (a .l) (a .kind)) (l .i) (omega (arith, c .before .before .before .loop-test .taken)) e (l .inv .1))
 
 enum-told-3 : tie.Need-enum-told-3 Inv-loop μ-loop
@@ -73,8 +73,8 @@ loop-again-2 c =
     let a = c .before .before .before .before .before .before .before .args in
     let l = c .before .before .before .before .loop in
     let A = agentFor (a .l) (now (a .card)) in
-    let s : Config = stateOf (lent (a .m) (now (a .plan))) .mental in
-    let e = sym (told A s (choiceAt (a .kind) (l .i)) (c .before .before .ask-entry .result) _ (c .before .before .ask-entry .ensures) (c .enum-told3 .given .1)) in
+    let s : Config = stateOf (configured (a .m) (now (a .plan))) .mental in
+    let e = sym (asked-is A s (choiceAt (a .kind) (l .i)) (c .before .before .ask-entry .result) _ (c .before .before .ask-entry .ensures) (c .enum-told3 .given .1)) in
     (omega (arith, c .before .before .before .loop-test .taken), left-turn A s (choiceAt (a .kind)) (countOf (a .l) (a .kind)) (l .i) (omega (arith, c .before .before .before .loop-test .taken)) e (l .inv .1))
 
 enum-told-4 : tie.Need-enum-told-4 Inv-loop μ-loop
@@ -91,15 +91,15 @@ loop-again-3 c =
     let a = c .before .before .before .before .before .before .before .args in
     let l = c .before .before .before .before .loop in
     let A = agentFor (a .l) (now (a .card)) in
-    let s : Config = stateOf (lent (a .m) (now (a .plan))) .mental in
-    let e = sym (told A s (choiceAt (a .kind) (l .i)) (c .before .before .ask-entry .result) _ (c .before .before .ask-entry .ensures) (c .enum-told4 .given .1)) in
+    let s : Config = stateOf (configured (a .m) (now (a .plan))) .mental in
+    let e = sym (asked-is A s (choiceAt (a .kind) (l .i)) (c .before .before .ask-entry .result) _ (c .before .before .ask-entry .ensures) (c .enum-told4 .given .1)) in
     (omega (arith, c .before .before .before .loop-test .taken), left-turn A s (choiceAt (a .kind)) (countOf (a .l) (a .kind)) (l .i) (omega (arith, c .before .before .before .loop-test .taken)) e (l .inv .1))
 
 returns-2 : tie.Need-returns-2 Inv-loop μ-loop
 returns-2 c =
     let a = c .before .before .before .before .args in
     let l = c .before .loop in
-    none-of-kind (a .l) (now (a .card)) (stateOf (lent (a .m) (now (a .plan))) .mental) (a .kind) (l .i) (omega arith) (l .inv .1)
+    none-of-kind (a .l) (now (a .card)) (stateOf (configured (a .m) (now (a .plan))) .mental) (a .kind) (l .i) (omega arith) (l .inv .1)
 
 pub first-of-kind-spec : {M : Type 1} → statement M
 first-of-kind-spec =

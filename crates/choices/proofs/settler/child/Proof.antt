@@ -1,3 +1,4 @@
+use Rattle.meaning.specs.Kinds.{nodeKind}
 use Rattle.choices.specs.Truth.{childOf}
 use mathlib.Core.Path.{_≡_, sym}
 use mathlib.Core.Bool.{Bool}
@@ -8,14 +9,8 @@ use Rattle.choices.proofs.settler.child.Statement.{statement}
 use Rattle.choices.proofs.settler.child.Tie as tie
 
 -- by the kind and the mark of the left
-by : (a b : ℕ) {k k′ : ℕ} {v v′ : Bool} → k ≡ k′ → v ≡ v′ → childOf k′ a b v′ ≡ childOf k a b v
-by a b e f = λ i. childOf (sym e i) a b (sym f i)
-
-cast-left : tie.Need-cast-left
-cast-left c = search needs
-
-element-copy-out-left : tie.Need-element-copy-out-left
-element-copy-out-left c = search needs
+by : (a b : ℕ) {k k′ : ℕ} {v v′ : Bool} → k ≡ k′ → v ≡ v′ → childOf (nodeKind k′) a b v′ ≡ childOf (nodeKind k) a b v
+by a b e f = λ i. childOf (nodeKind (sym e i)) a b (sym f i)
 
 returns : tie.Need-returns
 returns c = search needs
@@ -34,4 +29,4 @@ returns-5 c = (let e : c .before .before .before .args .x .kind ≡ 5 = omega ar
 
 pub child-spec : {M : Type 1} → statement M
 child-spec =
-    tie.close (tie.spec cast-left element-copy-out-left returns returns-2 returns-3 returns-4 returns-5)
+    tie.close (tie.spec (λ c. search needs) (λ c. search needs) returns returns-2 returns-3 returns-4 returns-5)

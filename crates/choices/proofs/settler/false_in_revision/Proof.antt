@@ -3,7 +3,7 @@ use Rattle.meaning.specs.declared.RevisionEntry.{RevisionEntry}
 use Rattle.meaning.specs.declared.Refusal.{Refusal}
 use Rattle.meaning.specs.Configurations.{stateOf}
 use Rattle.meaning.specs.Why.{settler}
-use Rattle.layout.specs.PlaceParts.{lent}
+use Rattle.layout.specs.PlaceParts.{configured}
 use Rattle.card.specs.GoodCard.{GoodCondition}
 use mathlib.Core.Path.{sym, ap, _∙_, subst}
 use borrow.Author.Needs.{needs}
@@ -23,7 +23,7 @@ returns : tie.Need-returns
 returns c =
     let a = c .before .before .before .args in
     let e = c .before .read-revision .ensures .0 in
-    let d = stateOf (lent (a .m) (now (a .plan))) .mental in
+    let d = stateOf (configured (a .m) (now (a .plan))) .mental in
     let g = subst (GoodCondition (a .l) (now (a .card)) 2) (sym (ap (λ (x : RevisionEntry). x .node) e)) (c .before .before .before .pre .0 .ready .card .revisions (a .i) (c .before .before .before .pre .1) .belief) in
     ap Refusal.Condition (c .find-settler .ensures 𝐁 g ∙ ap (λ (x : RevisionEntry). settler 𝐁 (a .l) (now (a .card)) d (x .node)) e)
 

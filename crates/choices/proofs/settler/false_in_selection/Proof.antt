@@ -4,9 +4,9 @@ use Rattle.meaning.specs.declared.Refusal.{Refusal}
 use Rattle.meaning.specs.Card.{selectionAt}
 use Rattle.meaning.specs.Configurations.{stateOf}
 use Rattle.meaning.specs.Why.{falseOf, settler}
-use Rattle.layout.specs.PlaceParts.{lent}
+use Rattle.layout.specs.PlaceParts.{configured}
 use Rattle.card.specs.GoodCard.{GoodCondition}
-use Rattle.choices.proofs.Asking.{marked}
+use Rattle.choices.proofs.Marked.{marked}
 use mathlib.Core.Bool.{Bool, false}
 use mathlib.Core.Path.{sym, ap, _∙_, subst}
 use borrow.Author.Needs.{needs}
@@ -17,12 +17,6 @@ use Rattle.choices.proofs.settler.false_in_selection.Tie as tie
 
 read-selection-requires : tie.Need-read-selection-requires
 read-selection-requires c κs = search needs
-
-cast-if1 : tie.Need-cast-if1
-cast-if1 c = search needs
-
-element-copy-out-if1 : tie.Need-element-copy-out-if1
-element-copy-out-if1 c = search needs
 
 find-settler-requires : tie.Need-find-settler-requires
 find-settler-requires c κs =
@@ -38,7 +32,7 @@ returns : tie.Need-returns
 returns c =
     let a = c .before .before .before .before .before .before .args in
     let b = now (a .card) in
-    let k = lent (a .m) (now (a .plan)) in
+    let k = configured (a .m) (now (a .plan)) in
     let d = stateOf k .mental in
     let e = c .before .before .before .before .read-selection .ensures .0 in
     let x = selectionAt (a .l) b (a .i) in
@@ -52,7 +46,7 @@ returns-2 : tie.Need-returns-2
 returns-2 c =
     let a = c .before .before .before .before .before .before .args in
     let b = now (a .card) in
-    let k = lent (a .m) (now (a .plan)) in
+    let k = configured (a .m) (now (a .plan)) in
     let d = stateOf k .mental in
     let e = c .before .before .before .before .read-selection .ensures .0 in
     let x = selectionAt (a .l) b (a .i) in
@@ -67,8 +61,8 @@ false-in-selection-spec =
     tie.close
     (tie.spec
     read-selection-requires
-    cast-if1
-    element-copy-out-if1
+    (λ c. search needs)
+    (λ c. search needs)
     find-settler-requires
     find-settler-requires-2
     returns

@@ -1,5 +1,5 @@
 use Rattle.choices.proofs.Descending.{Down, here, child-below, goes-down, settled}
-use Rattle.layout.specs.PlaceParts.{lent}
+use Rattle.layout.specs.PlaceParts.{configured}
 use Rattle.meaning.specs.Card.{nodeAt}
 use Rattle.meaning.proofs.Nodes.{node-rule}
 use mathlib.Core.Path.{_≡_, sym}
@@ -30,9 +30,6 @@ child-requires c κs =
     let t = c .if1 .taken in
     (omega arith, rw (l .inv .1) (r .kinds))
 
-cast-at : tie.Need-cast-at Inv-loop μ-loop
-cast-at c = search needs
-
 read-node-requires-2 : tie.Need-read-node-requires-2 Inv-loop μ-loop
 read-node-requires-2 c κs =
     let a = c .before .before .before .before .before .before .args in
@@ -59,7 +56,7 @@ returns : tie.Need-returns Inv-loop μ-loop
 returns c =
     let a = c .before .before .before .before .before .args in
     let l = c .before .before .loop in
-    λ L g. settled (a .l) (now (a .card)) (lent (a .m) (now (a .plan))) (now (a .marks)) (c .before .before .before .before .before .pre .0) L (a .node) (l .at) g (l .inv .2) (rw (sym (l .inv .1)) (c .if1 .left))
+    λ L g. settled (a .l) (now (a .card)) (configured (a .m) (now (a .plan))) (now (a .marks)) (c .before .before .before .before .before .pre .0) L (a .node) (l .at) g (l .inv .2) (rw (sym (l .inv .1)) (c .if1 .left))
 
 pub find-settler-spec : {M : Type 1} → statement M
 find-settler-spec =
@@ -70,7 +67,7 @@ find-settler-spec =
     read-node-requires
     loop-holds
     child-requires
-    cast-at
+    (λ c. search needs)
     read-node-requires-2
     loop-less
     loop-again

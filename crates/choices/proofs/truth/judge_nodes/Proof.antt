@@ -4,6 +4,7 @@ use mathlib.Core.Bool.{false}
 use lib.ListN.{length-set, length, getD}
 use Rattle.sets.proofs.Loops.{below-turn}
 use Rattle.choices.proofs.Truths.{truth-next}
+use Rattle.meaning.specs.Kinds.{nodeKind}
 use Rattle.choices.specs.Truth.{truthOf, truths}
 use mathlib.Core.Path.{_≡_, ap, _∙_}
 use Prim.Native.Nat.{ℕ, _-_, _≤_, _<_}
@@ -31,12 +32,6 @@ truth-requires c κs =
     let r = node-rule (a .l) (now (a .card)) (c .before .before .before .before .before .before .pre .0 .nodes) (c .before .before .before .loop .i) (omega arith) in
     rw (c .before .read-node .ensures) (r .kinds)
 
-element-write-marks : tie.Need-element-write-marks Inv-loop μ-loop
-element-write-marks c = search needs
-
-add-i : tie.Need-add-i Inv-loop μ-loop
-add-i c = search needs
-
 loop-less : tie.Need-loop-less Inv-loop μ-loop
 loop-less c = search needs
 
@@ -48,7 +43,7 @@ loop-again c =
     let b = now (a .card) in
     let k : l .i < a .l .nodes .count = omega arith in
     let r = l .inv .1 in
-    let e = c .truth .ensures ∙ ap (λ (x : Node). truthOf (x .kind) (x .a) (x .b) (a .m .beliefs) (a .m .goals) (λ j. getD (l .marks) j false)) (c .before .before .read-node .ensures) in (
+    let e = c .truth .ensures ∙ ap (λ (x : Node). truthOf (nodeKind (x .kind)) (x .a) (x .b) (a .m .beliefs) (a .m .goals) (λ j. getD (l .marks) j false)) (c .before .before .read-node .ensures) in (
       omega arith,
       simp length-set (l .inv .1),
       below-turn (λ j. getD (truths (a .l) b (a .m .beliefs) (a .m .goals)) j false) (l .marks) (l .i) (c .truth .result) false (let q = p .layout .nodes in omega arith) (l .inv .2)
@@ -67,8 +62,8 @@ judge-nodes-spec =
     loop-holds
     read-node-requires
     truth-requires
-    element-write-marks
-    add-i
+    (λ c. search needs)
+    (λ c. search needs)
     loop-less
     loop-again
     returns)

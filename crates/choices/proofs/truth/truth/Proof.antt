@@ -10,36 +10,6 @@ member-requires c κs = search needs
 member-requires-2 : tie.Need-member-requires-2
 member-requires-2 c κs = search needs
 
-cast-result : tie.Need-cast-result
-cast-result c = search needs
-
-element-copy-out-result : tie.Need-element-copy-out-result
-element-copy-out-result c = search needs
-
-cast-result-2 : tie.Need-cast-result-2
-cast-result-2 c = search needs
-
-element-copy-out-result-2 : tie.Need-element-copy-out-result-2
-element-copy-out-result-2 c = search needs
-
-cast-result-3 : tie.Need-cast-result-3
-cast-result-3 c = search needs
-
-element-copy-out-result-3 : tie.Need-element-copy-out-result-3
-element-copy-out-result-3 c = search needs
-
-cast-result-4 : tie.Need-cast-result-4
-cast-result-4 c = search needs
-
-element-copy-out-result-4 : tie.Need-element-copy-out-result-4
-element-copy-out-result-4 c = search needs
-
-cast-result-5 : tie.Need-cast-result-5
-cast-result-5 c = search needs
-
-element-copy-out-result-5 : tie.Need-element-copy-out-result-5
-element-copy-out-result-5 c = search needs
-
 returns : tie.Need-returns
 returns c = search needs
 
@@ -67,16 +37,16 @@ truth-spec =
     (tie.spec
     member-requires
     member-requires-2
-    cast-result
-    element-copy-out-result
-    cast-result-2
-    element-copy-out-result-2
-    cast-result-3
-    element-copy-out-result-3
-    cast-result-4
-    element-copy-out-result-4
-    cast-result-5
-    element-copy-out-result-5
+    (λ c. search needs)
+    (λ c. search needs)
+    (λ c. search needs)
+    (λ c. search needs)
+    (λ c. search needs)
+    (λ c. search needs)
+    (λ c. search needs)
+    (λ c. search needs)
+    (λ c. search needs)
+    (λ c. search needs)
     returns
     returns-2
     returns-3

@@ -1,6 +1,6 @@
 use Rattle.conditions.proofs.Atoms.{atom-large, atom-small}
 use Rattle.notation.specs.Built.{node}
-use Rattle.notation.proofs.Making.{addedTo}
+use Rattle.notation.specs.Making.{addedTo}
 use Rattle.conditions.specs.Reads.{nodesOf}
 use mathlib.Core.Path.{_∙_}
 use native.Mathlib.Omega.{arith}

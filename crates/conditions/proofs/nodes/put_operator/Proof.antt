@@ -1,5 +1,5 @@
 use Rattle.notation.specs.Built.{node}
-use Rattle.notation.proofs.Making.{addedTo}
+use Rattle.notation.specs.Making.{addedTo}
 use Rattle.conditions.specs.Reads.{nodesOf}
 use mathlib.Core.Path.{_∙_}
 use borrow.Author.Needs.{needs}

@@ -1,4 +1,4 @@
-use Rattle.conditions.proofs.Numbers.{digit-from-to, Digits, read-over, read-stop, read-on}
+use Rattle.conditions.proofs.Numbers.{digit-from-to, DigitsPassed, read-over, read-stop, read-on}
 use mathlib.Core.Path.{refl, sym, _∙_}
 use Prim.Native.Nat.{_-_}
 use native.Mathlib.Omega.{arith}
@@ -9,7 +9,7 @@ use Rattle.conditions.proofs.number.read_number.Statement.{statement}
 use Rattle.conditions.proofs.number.read_number.Tie as tie
 
 abbrev Inv-loop : tie.InvT-loop
-Inv-loop text at value₀ next₀ value next = Digits text at value next
+Inv-loop text at value₀ next₀ value next = DigitsPassed text at value next
 
 abbrev μ-loop : tie.MeasureT-loop
 μ-loop text at value₀ next₀ value next = length text - next

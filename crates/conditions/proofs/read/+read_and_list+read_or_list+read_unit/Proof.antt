@@ -3,8 +3,8 @@
 -- member, which stands at the place (`Before`).
 use Rattle.conditions.proofs.Told.{Told, told-at, told-nested, nested-told}
 use Rattle.conditions.proofs.Units.{unit-over, unit-deep, not-nested, read-not, brackets-nested, read-brackets}
-use Rattle.conditions.proofs.Lists.{Before, Behind, andKind, orKind, list-starts, list-joined, list-nested, list-on, list-stops, begins-within}
-use Rattle.notation.proofs.Values.{unitOf, andListOf, orListOf}
+use Rattle.conditions.proofs.Lists.{Before, BehindMember, andKind, orKind, list-starts, list-joined, list-nested, list-on, list-stops, begins-within}
+use Rattle.notation.specs.Values.{unitOf, andListOf, orListOf}
 use mathlib.Core.Path.{refl, sym, _∙_}
 use Prim.Native.Nat.{ℕ, _+_, _-_, _*_, _<_}
 use native.Mathlib.Omega.{arith}
@@ -22,7 +22,7 @@ use Rattle.conditions.proofs.read.+read_and_list+read_or_list+read_unit
 use Rattle.conditions.proofs.read.read_unit.Reads as read-unit
 use Rattle.conditions.proofs.read.read_unit.Kinds as read-unit-kinds
 use Rattle.conditions.proofs.read.+read_and_list+read_or_list+read_unit.Lts-read_unit as read-unit-lts
-use Rattle.conditions.proofs.nodes.joined.Reads as joined-reads
+use Rattle.conditions.proofs.nodes.put_member.Reads as put-member-reads
 use Rattle.conditions.proofs.nodes.put_not.Reads as put-not-reads
 use Rattle.conditions.proofs.read.behind_byte.Reads as behind-byte-reads
 use Rattle.conditions.proofs.read.comes.Reads as comes-reads
@@ -89,10 +89,10 @@ unit-calls t = (
 )
 
 abbrev and-calls : ℕ → read-and-list-lts.Claims
-and-calls t = (read-unit-below t, read-unit.Post, joined-reads.Asked, joined-reads.Learnt, comes-reads.Asked, comes-reads.Learnt)
+and-calls t = (read-unit-below t, read-unit.Post, put-member-reads.Asked, put-member-reads.Learnt, comes-reads.Asked, comes-reads.Learnt)
 
 abbrev or-calls : ℕ → read-or-list-lts.Claims
-or-calls t = (read-and-list-below t, read-and-list.Post, joined-reads.Asked, joined-reads.Learnt, comes-reads.Asked, comes-reads.Learnt)
+or-calls t = (read-and-list-below t, read-and-list.Post, put-member-reads.Asked, put-member-reads.Learnt, comes-reads.Asked, comes-reads.Learnt)
 
 abbrev read-and-list-Inv-loop : read-and-list-lts.InvT-loop
 read-and-list-Inv-loop text at left nodes₀ k place₀ count₀ first₀ nodes place count first = Before (andKind left) text at k nodes₀ first place count nodes
@@ -105,9 +105,9 @@ read-and-list-told : (t : ℕ) → (c : read-and-list-lts.After-known-told (and-
 read-and-list-told t c = told-at _ _ _ _ _ _ _ _ _ (c .before .next .given .1) (c .before .before .before .before .before .read-unit .ensures)
 
 read-and-list-behind : (t : ℕ) → (c : read-and-list-lts.After-slice-known3 (and-calls t) (read-and-list-at t) read-and-list.Post read-and-list-Inv-loop read-and-list-μ-loop)
-    → (let a = c .before .before .before .before .before .before .before .before .before .before .before .before .before .before .args in Behind (andKind (a .left)) (now (a .text)) (a .at) (a .k) (now (a .nodes)) (c .before .before .before .before .before .next .given .0 .0) (c .before .before .joined .result) (c .before .before .joined .last .0))
+    → (let a = c .before .before .before .before .before .before .before .before .before .before .before .before .before .before .args in BehindMember (andKind (a .left)) (now (a .text)) (a .at) (a .k) (now (a .nodes)) (c .before .before .before .before .before .next .given .0 .0) (c .before .before .put-member .result) (c .before .before .put-member .last .0))
 read-and-list-behind t c =
-    let put = c .before .before .joined .ensures in
+    let put = c .before .before .put-member .ensures in
     list-joined _ _ _ _ _ _ _ _ _ (c .before .before .before .before .before .before .before .before .before .before .before .loop .inv) _ _ _ _ _ (read-and-list-told t (c .before .before .before .before)) (put .0) (put .1 .0) (put .1 .1)
 
 read-and-list-loop-holds : (t : ℕ) → read-and-list-lts.Need-loop-holds (and-calls t) (read-and-list-at t) read-and-list.Post read-and-list-Inv-loop read-and-list-μ-loop
@@ -137,8 +137,8 @@ read-and-list-returns t c =
     let r = told-nested (now (a .text)) (s .place) (s .nodes) (s .count) (c .before .before .before .before .read-unit .last .1 .1 .1 .0) (unitOf (a .left) (drop (s .place) (now (a .text)))) (c .before .before .before .before .read-unit .result) (c .enum-told .given .1) (c .before .before .before .before .read-unit .ensures) in
     list-nested _ _ _ _ _ _ _ _ _ (s .inv) (c .before .before .before .before .before .before .before .before .before .pre .1 .1 .0) (c .before .before .before .before .read-unit .last .1 .1 .1 .0) (r .0) (r .1)
 
-read-and-list-joined-requires : (t : ℕ) → read-and-list-lts.Need-joined-requires (and-calls t) (read-and-list-at t) read-and-list.Post read-and-list-Inv-loop read-and-list-μ-loop
-read-and-list-joined-requires t c κs =
+read-and-list-put-member-requires : (t : ℕ) → read-and-list-lts.Need-put-member-requires (and-calls t) (read-and-list-at t) read-and-list.Post read-and-list-Inv-loop read-and-list-μ-loop
+read-and-list-put-member-requires t c κs =
     let b = c .before .before .before .before .before .before .before .before .loop .inv in
     let r = read-and-list-told t (c .before) in
     (r .room ∙ b .room, (b .small, r .small))
@@ -166,7 +166,7 @@ read-and-list-loop-again : (t : ℕ) → read-and-list-lts.Need-loop-again (and-
 read-and-list-loop-again t c = list-on _ _ _ _ _ _ _ _ (read-and-list-behind t (c .before .before)) (sym (c .before .comes .ensures) ∙ c .if1 .taken)
 
 read-and-list-same-length-2 : (t : ℕ) → read-and-list-lts.Need-same-length-2 (and-calls t) (read-and-list-at t) read-and-list.Post read-and-list-Inv-loop read-and-list-μ-loop
-read-and-list-same-length-2 t c = c .before .before .before .before .joined .ensures .1 .0 ∙ sym (c .before .before .before .before .before .before .before .before .before .before .before .before .before .before .before .before .pre .1 .1 .0)
+read-and-list-same-length-2 t c = c .before .before .before .before .put-member .ensures .1 .0 ∙ sym (c .before .before .before .before .before .before .before .before .before .before .before .before .before .before .before .before .pre .1 .1 .0)
 
 read-and-list-returns-2 : (t : ℕ) → read-and-list-lts.Need-returns-2 (and-calls t) (read-and-list-at t) read-and-list.Post read-and-list-Inv-loop read-and-list-μ-loop
 read-and-list-returns-2 t c = list-stops _ _ _ _ _ _ _ _ (read-and-list-behind t (c .before .before)) (c .before .before .before .before .before .before .before .before .before .before .before .before .before .before .before .before .pre .1 .1 .0) (sym (c .before .comes .ensures) ∙ c .if1 .left)
@@ -182,9 +182,9 @@ read-or-list-told : (t : ℕ) → (c : read-or-list-lts.After-known-told (or-cal
 read-or-list-told t c = told-at _ _ _ _ _ _ _ _ _ (c .before .next .given .1) (c .before .before .before .before .before .read-and-list .ensures)
 
 read-or-list-behind : (t : ℕ) → (c : read-or-list-lts.After-slice-known3 (or-calls t) (read-or-list-at t) read-or-list.Post read-or-list-Inv-loop read-or-list-μ-loop)
-    → (let a = c .before .before .before .before .before .before .before .before .before .before .before .before .before .before .args in Behind (orKind (a .left)) (now (a .text)) (a .at) (a .k) (now (a .nodes)) (c .before .before .before .before .before .next .given .0 .0) (c .before .before .joined .result) (c .before .before .joined .last .0))
+    → (let a = c .before .before .before .before .before .before .before .before .before .before .before .before .before .before .args in BehindMember (orKind (a .left)) (now (a .text)) (a .at) (a .k) (now (a .nodes)) (c .before .before .before .before .before .next .given .0 .0) (c .before .before .put-member .result) (c .before .before .put-member .last .0))
 read-or-list-behind t c =
-    let put = c .before .before .joined .ensures in
+    let put = c .before .before .put-member .ensures in
     list-joined _ _ _ _ _ _ _ _ _ (c .before .before .before .before .before .before .before .before .before .before .before .loop .inv) _ _ _ _ _ (read-or-list-told t (c .before .before .before .before)) (put .0) (put .1 .0) (put .1 .1)
 
 read-or-list-loop-holds : (t : ℕ) → read-or-list-lts.Need-loop-holds (or-calls t) (read-or-list-at t) read-or-list.Post read-or-list-Inv-loop read-or-list-μ-loop
@@ -214,8 +214,8 @@ read-or-list-returns t c =
     let r = told-nested (now (a .text)) (s .place) (s .nodes) (s .count) (c .before .before .before .before .read-and-list .last .1 .1 .1 .0) (andListOf (a .left) (drop (s .place) (now (a .text)))) (c .before .before .before .before .read-and-list .result) (c .enum-told .given .1) (c .before .before .before .before .read-and-list .ensures) in
     list-nested _ _ _ _ _ _ _ _ _ (s .inv) (c .before .before .before .before .before .before .before .before .before .pre .1 .1 .0) (c .before .before .before .before .read-and-list .last .1 .1 .1 .0) (r .0) (r .1)
 
-read-or-list-joined-requires : (t : ℕ) → read-or-list-lts.Need-joined-requires (or-calls t) (read-or-list-at t) read-or-list.Post read-or-list-Inv-loop read-or-list-μ-loop
-read-or-list-joined-requires t c κs =
+read-or-list-put-member-requires : (t : ℕ) → read-or-list-lts.Need-put-member-requires (or-calls t) (read-or-list-at t) read-or-list.Post read-or-list-Inv-loop read-or-list-μ-loop
+read-or-list-put-member-requires t c κs =
     let b = c .before .before .before .before .before .before .before .before .loop .inv in
     let r = read-or-list-told t (c .before) in
     (r .room ∙ b .room, (b .small, r .small))
@@ -243,7 +243,7 @@ read-or-list-loop-again : (t : ℕ) → read-or-list-lts.Need-loop-again (or-cal
 read-or-list-loop-again t c = list-on _ _ _ _ _ _ _ _ (read-or-list-behind t (c .before .before)) (sym (c .before .comes .ensures) ∙ c .if1 .taken)
 
 read-or-list-same-length-2 : (t : ℕ) → read-or-list-lts.Need-same-length-2 (or-calls t) (read-or-list-at t) read-or-list.Post read-or-list-Inv-loop read-or-list-μ-loop
-read-or-list-same-length-2 t c = c .before .before .before .before .joined .ensures .1 .0 ∙ sym (c .before .before .before .before .before .before .before .before .before .before .before .before .before .before .before .before .pre .1 .1 .0)
+read-or-list-same-length-2 t c = c .before .before .before .before .put-member .ensures .1 .0 ∙ sym (c .before .before .before .before .before .before .before .before .before .before .before .before .before .before .before .before .pre .1 .1 .0)
 
 read-or-list-returns-2 : (t : ℕ) → read-or-list-lts.Need-returns-2 (or-calls t) (read-or-list-at t) read-or-list.Post read-or-list-Inv-loop read-or-list-μ-loop
 read-or-list-returns-2 t c = list-stops _ _ _ _ _ _ _ _ (read-or-list-behind t (c .before .before)) (c .before .before .before .before .before .before .before .before .before .before .before .before .before .before .before .before .pre .1 .1 .0) (sym (c .before .comes .ensures) ∙ c .if1 .left)
@@ -410,7 +410,7 @@ pub +read-and-list+read-or-list+read-unit-spec : {M : Type 1} → statement M
     (read-and-list-enum-told t)
     (read-and-list-same-length t)
     (read-and-list-returns t)
-    (read-and-list-joined-requires t)
+    (read-and-list-put-member-requires t)
     (read-and-list-comes-requires t)
     (read-and-list-add-place t)
     (read-and-list-loop-less t)
@@ -428,7 +428,7 @@ pub +read-and-list+read-or-list+read-unit-spec : {M : Type 1} → statement M
     (read-or-list-enum-told t)
     (read-or-list-same-length t)
     (read-or-list-returns t)
-    (read-or-list-joined-requires t)
+    (read-or-list-put-member-requires t)
     (read-or-list-comes-requires t)
     (read-or-list-add-place t)
     (read-or-list-loop-less t)

@@ -1,7 +1,7 @@
 use Rattle.conditions.proofs.Atoms.{atom-capped}
 use Rattle.notation.specs.Built.{node}
-use Rattle.notation.proofs.Values.{numberValue}
-use Rattle.notation.proofs.Making.{addedTo, when}
+use Rattle.notation.specs.Values.{numberValue}
+use Rattle.notation.specs.Making.{addedTo, when}
 use Rattle.conditions.specs.Reads.{nodesOf}
 use lib.Dec.{leb}
 use mathlib.Core.Path.{sym, ap, _∙_}

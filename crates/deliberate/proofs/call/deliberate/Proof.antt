@@ -1,4 +1,4 @@
-use Rattle.layout.specs.PlaceParts.{lent}
+use Rattle.layout.specs.PlaceParts.{configured}
 use Rattle.card.specs.Rows.{answerOf}
 use Rattle.deliberate.proofs.Calling.{refused-so, by-card}
 use mathlib.Core.Path.{sym, ap, _∙_}
@@ -12,9 +12,6 @@ no-numbers-requires c κs = search needs
 
 check-requires : tie.Need-check-requires
 check-requires c κs = search needs
-
-enum-known-checked : tie.Need-enum-known-checked
-enum-known-checked c = search needs
 
 enum-told : tie.Need-enum-told
 enum-told c = search needs
@@ -30,7 +27,7 @@ returns c =
     let a = c .before .before .before .before .before .before .before .before .args in
     let b = now (a .card) in
     let p = now (a .program) in
-    let d = lent (a .m) (now (a .plan)) in
+    let d = configured (a .m) (now (a .plan)) in
     let told = c .before .before .enum-told .given .1 in
     refused-so b p d (a .budget) _ (by-card b p d (a .budget) _ (sym (c .before .before .before .before .check .ensures) ∙ told)) (c .before .answer-of .result) (c .before .answer-of .ensures ∙ ap answerOf told) (c .refused .result) (c .refused .ensures) (c .before .before .before .before .before .no-numbers .result) (c .before .before .before .before .before .no-numbers .ensures)
 
@@ -46,7 +43,7 @@ deliberate-spec =
     (tie.spec
     no-numbers-requires
     check-requires
-    enum-known-checked
+    (λ c. search needs)
     enum-told
     answer-of-requires
     refused-requires

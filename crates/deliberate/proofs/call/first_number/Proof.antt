@@ -7,18 +7,9 @@ use Rattle.deliberate.proofs.call.first_number.Tie as tie
 no-numbers-requires : tie.Need-no-numbers-requires
 no-numbers-requires c κs = search needs
 
-sub-stack : tie.Need-sub-stack
-sub-stack c = search needs
-
-cast-stack : tie.Need-cast-stack
-cast-stack c = search needs
-
-array-write-stack : tie.Need-array-write-stack
-array-write-stack c = search needs
-
 returns : tie.Need-returns
 returns c = let a = c .before .args in first-there (c .no-numbers .result) (a .entries - 1) (c .no-numbers .ensures)
 
 pub first-number-spec : {M : Type 1} → statement M
 first-number-spec =
-    tie.close (tie.spec no-numbers-requires sub-stack cast-stack array-write-stack returns)
+    tie.close (tie.spec no-numbers-requires (λ c. search needs) (λ c. search needs) (λ c. search needs) returns)

@@ -1,5 +1,6 @@
-use Rattle.layout.specs.PlaceParts.{lent}
-use Rattle.choices.proofs.Accepting.{accepted-card, is-ready}
+use Rattle.layout.proofs.GoodLayout.{counted}
+use Rattle.layout.specs.PlaceParts.{configured}
+use Rattle.door.proofs.Accepting.{accepted-card, is-ready}
 use Rattle.deliberate.proofs.Calling.{refused-so, by-configuration, done-so}
 use mathlib.Core.Path.{_∙_}
 use borrow.Author.Needs.{needs}
@@ -8,13 +9,10 @@ use Rattle.deliberate.proofs.call.from_configuration.Statement.{stateme
 use Rattle.deliberate.proofs.call.from_configuration.Tie as tie
 
 judge-configuration-requires : tie.Need-judge-configuration-requires
-judge-configuration-requires c κs = accepted-card (now (c .before .before .before .args .card)) (c .before .before .before .args .l) (c .before .before .before .pre .0) .layout .atoms
+judge-configuration-requires c κs = counted _ _ (accepted-card (now (c .before .before .before .args .card)) (c .before .before .before .args .l) (c .before .before .before .pre .0) .layout)
 
 enum-told : tie.Need-enum-told
 enum-told c = search needs
-
-enum-told-2 : tie.Need-enum-told-2
-enum-told-2 c = search needs
 
 refused-requires : tie.Need-refused-requires
 refused-requires c κs = search needs
@@ -24,7 +22,7 @@ returns c =
     let a = c .before .before .before .before .before .before .before .args in
     let b = now (a .card) in
     let p = now (a .program) in
-    let d = lent (a .m) (now (a .plan)) in
+    let d = configured (a .m) (now (a .plan)) in
     let (e, g, z) = c .before .before .before .before .before .before .before .pre in
     let j = c .before .before .before .judge-configuration in
     let q = c .before .enum-told2 .given .1 in
@@ -35,14 +33,14 @@ from-moves-requires c κs =
     let a = c .before .before .before .before .before .before .before .before .args in
     let (e, g, z) = c .before .before .before .before .before .before .before .before .pre in
     let j = c .before .before .before .before .judge-configuration in
-    (is-ready (now (a .card)) (lent (a .m) (now (a .plan))) (a .l) e (j .result) (j .ensures .0) (c .before .before .enum-told .given .1) (j .ensures .1), g, z)
+    (is-ready (now (a .card)) (configured (a .m) (now (a .plan))) (a .l) e (j .result) (j .ensures .0) (c .before .before .enum-told .given .1) (j .ensures .1), g, z)
 
 returns-2 : tie.Need-returns-2
 returns-2 c =
     let a = c .before .before .before .before .before .before .before .before .before .args in
     let b = now (a .card) in
     let p = now (a .program) in
-    let d = lent (a .m) (now (a .plan)) in
+    let d = configured (a .m) (now (a .plan)) in
     let (e, g, z) = c .before .before .before .before .before .before .before .before .before .pre in
     let j = c .before .before .before .before .before .judge-configuration in
     done-so b p d (a .budget) (a .l) e (by-configuration b p d (a .budget) (a .l) e g (j .result) (j .ensures .0) ∙ c .before .before .before .enum-told .given .1) _ (c .from-moves .ensures)
@@ -53,7 +51,7 @@ from-configuration-spec =
     (tie.spec
     judge-configuration-requires
     enum-told
-    enum-told-2
+    (λ c. search needs)
     refused-requires
     returns
     from-moves-requires

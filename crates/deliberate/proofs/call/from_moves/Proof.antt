@@ -3,9 +3,9 @@ use mathlib.Core.Path.{subst}
 use Rattle.paper.specs.Language.{𝐁}
 use Rattle.meaning.specs.Configurations.{stateOf}
 use Rattle.meaning.specs.Card.{conditions, agentFor}
-use Rattle.deliberation.specs.Entries.{entries}
+use Rattle.deliberation.specs.Entries.{entriesOf}
 use Rattle.deliberation.specs.Deliberate.{deliberate, whole}
-use Rattle.layout.specs.PlaceParts.{lent}
+use Rattle.layout.specs.PlaceParts.{configured}
 use Rattle.deliberate.proofs.Calling.{first-remains, ran-so}
 use mathlib.Core.List.{List}
 use Prim.Native.Nat.{ℕ}
@@ -33,8 +33,8 @@ returns c =
     let r = c .before .before .before .before .run-moves in
     let plan = r .last .1 .1 .1 .0 in
     let stack = r .last .1 .1 .1 .1 .1 .1 .0 in
-    let t = subst (λ (ns : List ℕ). RanTo (deliberate (agentFor (a .l) b) (conditions 𝐁 (a .l) b) (entries p) (a .budget) ns (stateOf (lent (a .m) (now (a .plan))))) (r .result) plan stack) (c .before .before .before .before .before .before .before .first-number .ensures .0) (r .ensures) in
-    ran-so (deliberate (agentFor (a .l) b) (conditions 𝐁 (a .l) b) (entries p) (a .budget) (whole p) (stateOf (lent (a .m) (now (a .plan))))) (r .result) plan stack (c .before .hand-out .last .1 .1 .0) (c .before .hand-out .result) t (c .before .hand-out .ensures)
+    let t = subst (λ (ns : List ℕ). RanTo (deliberate (agentFor (a .l) b) (conditions 𝐁 (a .l) b) (entriesOf p) (a .budget) ns (stateOf (configured (a .m) (now (a .plan))))) (r .result) plan stack) (c .before .before .before .before .before .before .before .first-number .ensures .0) (r .ensures) in
+    ran-so (deliberate (agentFor (a .l) b) (conditions 𝐁 (a .l) b) (entriesOf p) (a .budget) (whole p) (stateOf (configured (a .m) (now (a .plan))))) (r .result) plan stack (c .before .hand-out .last .1 .1 .0) (c .before .hand-out .result) t (c .before .hand-out .ensures)
 
 pub from-moves-spec : {M : Type 1} → statement M
 from-moves-spec =

@@ -1,5 +1,5 @@
-use Rattle.layout.specs.PlaceParts.{lent}
-use Rattle.choices.proofs.Accepting.{accepted-card}
+use Rattle.layout.specs.PlaceParts.{configured}
+use Rattle.door.proofs.Accepting.{accepted-card}
 use Rattle.deliberate.proofs.Calling.{refused-so, by-program, program-accepted}
 use borrow.Author.Needs.{needs}
 use denote.Ref.{now}
@@ -12,9 +12,6 @@ judge-program-requires c κs = accepted-card (now (c .before .before .args .card
 enum-told : tie.Need-enum-told
 enum-told c = search needs
 
-enum-told-2 : tie.Need-enum-told-2
-enum-told-2 c = search needs
-
 refused-requires : tie.Need-refused-requires
 refused-requires c κs = search needs
 
@@ -23,7 +20,7 @@ returns c =
     let a = c .before .before .before .before .before .before .args in
     let b = now (a .card) in
     let p = now (a .program) in
-    let d = lent (a .m) (now (a .plan)) in
+    let d = configured (a .m) (now (a .plan)) in
     let j = c .before .before .before .judge-program in
     let q = c .before .enum-told2 .given .1 in
     refused-so b p d (a .budget) _ (by-program b p d (a .budget) (a .l) (c .before .before .before .before .before .before .pre .0) (j .result) (j .ensures) _ q) (j .result) q (c .refused .result) (c .refused .ensures) (now (a .remaining)) (c .before .before .before .before .before .before .pre .1)
@@ -32,7 +29,7 @@ from-configuration-requires : tie.Need-from-configuration-requires
 from-configuration-requires c κs =
     let a = c .before .before .before .before .before .before .before .args in
     let j = c .before .before .before .before .judge-program in
-    (c .before .before .before .before .before .before .before .pre .0, program-accepted (now (a .card)) (now (a .program)) (lent (a .m) (now (a .plan))) (a .budget) (a .l) (c .before .before .before .before .before .before .before .pre .0) (j .result) (j .ensures) (c .before .before .enum-told .given .1), c .before .before .before .before .before .before .before .pre .1)
+    (c .before .before .before .before .before .before .before .pre .0, program-accepted (now (a .card)) (now (a .program)) (configured (a .m) (now (a .plan))) (a .budget) (a .l) (c .before .before .before .before .before .before .before .pre .0) (j .result) (j .ensures) (c .before .before .enum-told .given .1), c .before .before .before .before .before .before .before .pre .1)
 
 returns-2 : tie.Need-returns-2
 returns-2 c = search needs
@@ -43,7 +40,7 @@ from-program-spec =
     (tie.spec
     judge-program-requires
     enum-told
-    enum-told-2
+    (λ c. search needs)
     refused-requires
     returns
     from-configuration-requires

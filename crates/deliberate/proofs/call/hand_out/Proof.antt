@@ -8,14 +8,8 @@ use denote.Ref.{now}
 use Rattle.deliberate.proofs.call.hand_out.Statement.{statement}
 use Rattle.deliberate.proofs.call.hand_out.Tie as tie
 
-sub-n : tie.Need-sub-n
-sub-n c = search needs
-
 copy-requires : tie.Need-copy-requires
 copy-requires c κs = search needs
-
-cast-result : tie.Need-cast-result
-cast-result c = search needs
 
 returns : tie.Need-returns
 returns c =
@@ -24,4 +18,4 @@ returns c =
     ap (λ (x : Bytes). remains (128 - a .top) x) (c .copy .ensures) ∙ handed-out (now (a .stack)) (now (a .remaining)) (a .top) h s e
 
 pub hand-out-spec : {M : Type 1} → statement M
-hand-out-spec = tie.close (tie.spec sub-n copy-requires cast-result returns)
+hand-out-spec = tie.close (tie.spec (λ c. search needs) copy-requires (λ c. search needs) returns)

@@ -5,23 +5,8 @@ use denote.Ref.{now}
 use Rattle.deliberate.proofs.made.kept.Statement.{statement}
 use Rattle.deliberate.proofs.made.kept.Tie as tie
 
-enum-told : tie.Need-enum-told
-enum-told c = search needs
-
-enum-told-2 : tie.Need-enum-told-2
-enum-told-2 c = search needs
-
-element-write-stack : tie.Need-element-write-stack
-element-write-stack c = search needs
-
 stays-requires : tie.Need-stays-requires
 stays-requires c κs = search needs
-
-enum-told-3 : tie.Need-enum-told-3
-enum-told-3 c = search needs
-
-element-write-stack-2 : tie.Need-element-write-stack-2
-element-write-stack-2 c = search needs
 
 stays-requires-2 : tie.Need-stays-requires-2
 stays-requires-2 c κs = search needs
@@ -45,12 +30,12 @@ pub kept-spec : {M : Type 1} → statement M
 kept-spec =
     tie.close
     (tie.spec
-    enum-told
-    enum-told-2
-    element-write-stack
+    (λ c. search needs)
+    (λ c. search needs)
+    (λ c. search needs)
     stays-requires
-    enum-told-3
-    element-write-stack-2
+    (λ c. search needs)
+    (λ c. search needs)
     stays-requires-2
     returns
     returns-2

@@ -4,17 +4,11 @@ use borrow.Author.Needs.{needs}
 use Rattle.deliberate.proofs.made.moved_by.Statement.{statement}
 use Rattle.deliberate.proofs.made.moved_by.Tie as tie
 
-enum-known-transition : tie.Need-enum-known-transition
-enum-known-transition c = search needs
-
 enum-told : tie.Need-enum-told
 enum-told c = search needs
 
 stays-requires : tie.Need-stays-requires
 stays-requires c κs = search needs
-
-enum-told-2 : tie.Need-enum-told-2
-enum-told-2 c = search needs
 
 stays-requires-2 : tie.Need-stays-requires-2
 stays-requires-2 c κs = search needs
@@ -32,10 +26,10 @@ pub moved-by-spec : {M : Type 1} → statement M
 moved-by-spec =
     tie.close
     (tie.spec
-    enum-known-transition
+    (λ c. search needs)
     enum-told
     stays-requires
-    enum-told-2
+    (λ c. search needs)
     stays-requires-2
     returns
     returns-2

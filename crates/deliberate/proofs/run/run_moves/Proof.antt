@@ -1,12 +1,12 @@
 use Rattle.paper.proofs.Relation.{false≢true}
 use lib.ListN.{length-replicate, length, drop}
-use Rattle.deliberate.specs.declared.run.Ran.{Ran}
+use Rattle.deliberate.specs.declared.run.RanMoves.{RanMoves}
 use Rattle.deliberate.specs.Ran.{RanTo}
 use mathlib.Core.Path.{subst, _≡_, sym}
 use Rattle.choices.specs.Truth.{Marked}
 use mathlib.Core.Bool.{true, false}
 use Rattle.meaning.specs.Configurations.{stateOf}
-use Rattle.layout.specs.PlaceParts.{lent}
+use Rattle.layout.specs.PlaceParts.{configured}
 use Rattle.deliberate.proofs.Deliberating.{outcome, Deliberating, deliberating-start, is-spent, is-finished, is-stuck, is-full, is-on}
 use Prim.Native.Nat.{_-_, _<_}
 use native.Mathlib.Omega.{arith}
@@ -16,7 +16,7 @@ use Rattle.deliberate.proofs.run.run_moves.Statement.{statement}
 use Rattle.deliberate.proofs.run.run_moves.Tie as tie
 
 abbrev Inv-loop : tie.InvT-loop
-Inv-loop card l plan₀ program budget stack₀ top cur₀ marks₀ known₀ rest₀ count₀ plan stack cur marks known rest count = Deliberating l card program budget (outcome l card program budget (drop top stack₀) (stateOf (lent cur₀ plan₀))) (lent cur plan) stack rest count × (length marks ≡ 256) × (known ≡ true → Marked l card cur marks)
+Inv-loop card l plan₀ program budget stack₀ top cur₀ marks₀ known₀ rest₀ count₀ plan stack cur marks known rest count = Deliberating l card program budget (outcome l card program budget (drop top stack₀) (stateOf (configured cur₀ plan₀))) (configured cur plan) stack rest count × (length marks ≡ 256) × (known ≡ true → Marked l card cur marks)
 
 abbrev μ-loop : tie.MeasureT-loop
 μ-loop card l plan₀ program budget stack₀ top cur₀ marks₀ known₀ rest₀ count₀ plan stack cur marks known rest count = budget - count
@@ -28,7 +28,7 @@ loop-holds : tie.Need-loop-holds Inv-loop μ-loop
 loop-holds c =
     let a = c .before .before .before .args in
     let (h, g, r) = c .before .before .before .pre in (
-      deliberating-start (a .l) (now (a .card)) (now (a .program)) (a .budget) (lent (a .m) (now (a .plan))) (now (a .stack)) (a .top) h r,
+      deliberating-start (a .l) (now (a .card)) (now (a .program)) (a .budget) (configured (a .m) (now (a .plan))) (now (a .stack)) (a .top) h r,
       rw (c .no-marks .ensures) (length-replicate 256 false),
       λ e. absurd (false≢true e),
     )
@@ -41,11 +41,11 @@ returns c =
     let a = c .before .before .before .before .before .before .before .args in
     let b = now (a .card) in
     let p = now (a .program) in
-    let all = outcome (a .l) b p (a .budget) (drop (a .top) (now (a .stack))) (stateOf (lent (a .m) (now (a .plan)))) in
+    let all = outcome (a .l) b p (a .budget) (drop (a .top) (now (a .stack))) (stateOf (configured (a .m) (now (a .plan)))) in
     let l = c .before .before .before .loop in
-    let d = lent (l .cur) (l .plan) in
+    let d = configured (l .cur) (l .plan) in
     let e : l .rest ≡ 128 = (let u = c .before .if1 .taken in omega arith) in
-    subst (λ (x : Ran). RanTo all x (l .plan) (l .stack)) (sym (c .ended .ensures)) (is-finished (a .l) b p (a .budget) all d (l .stack) (l .rest) (l .count) (l .inv .0) (omega (arith, c .before .before .loop-test .taken)) e)
+    subst (λ (x : RanMoves). RanTo all x (l .plan) (l .stack)) (sym (c .ended .ensures)) (is-finished (a .l) b p (a .budget) all d (l .stack) (l .rest) (l .count) (l .inv .0) (omega (arith, c .before .before .loop-test .taken)) e)
 
 refresh-requires : tie.Need-refresh-requires Inv-loop μ-loop
 refresh-requires c κs = search needs
@@ -70,9 +70,9 @@ loop-again c =
     let a = c .before .before .before .before .before .before .before .before .before .before .before .before .before .before .before .args in
     let b = now (a .card) in
     let p = now (a .program) in
-    let all = outcome (a .l) b p (a .budget) (drop (a .top) (now (a .stack))) (stateOf (lent (a .m) (now (a .plan)))) in
+    let all = outcome (a .l) b p (a .budget) (drop (a .top) (now (a .stack))) (stateOf (configured (a .m) (now (a .plan)))) in
     let l = c .before .before .before .before .before .before .before .before .before .before .before .loop in
-    let d = lent (l .cur) (l .plan) in
+    let d = configured (l .cur) (l .plan) in
     let low : l .rest < 128 = (let w = l .inv .0 .remains .within in let u = c .before .before .before .before .before .before .before .before .before .if1 .left in omega arith) in
     let s = c .before .before .before .make-move in
     let f = c .before .before .before .before .before .before .before .refresh in (
@@ -80,9 +80,6 @@ loop-again c =
       f .ensures .1,
       λ h. s .ensures .keeps h (f .last .1 .1 .1 .1 .0) (f .ensures .0),
     )
-
-enum-told-2 : tie.Need-enum-told-2 Inv-loop μ-loop
-enum-told-2 c = search needs
 
 ended-requires-2 : tie.Need-ended-requires-2 Inv-loop μ-loop
 ended-requires-2 c κs = search needs
@@ -92,16 +89,13 @@ returns-2 c =
     let a = c .before .before .before .before .before .before .before .before .before .before .before .before .before .before .before .before .args in
     let b = now (a .card) in
     let p = now (a .program) in
-    let all = outcome (a .l) b p (a .budget) (drop (a .top) (now (a .stack))) (stateOf (lent (a .m) (now (a .plan)))) in
+    let all = outcome (a .l) b p (a .budget) (drop (a .top) (now (a .stack))) (stateOf (configured (a .m) (now (a .plan)))) in
     let l = c .before .before .before .before .before .before .before .before .before .before .before .before .loop in
-    let d = lent (l .cur) (l .plan) in
+    let d = configured (l .cur) (l .plan) in
     let low : l .rest < 128 = (let w = l .inv .0 .remains .within in let u = c .before .before .before .before .before .before .before .before .before .before .if1 .left in omega arith) in
     let s = c .before .before .before .before .make-move in
-    subst (λ (x : Ran). RanTo all x (s .last .1 .1 .1 .0) (s .last .1 .1 .1 .1 .1 .1 .0)) (sym (c .ended2 .ensures))
+    subst (λ (x : RanMoves). RanTo all x (s .last .1 .1 .1 .0) (s .last .1 .1 .1 .1 .1 .1 .0)) (sym (c .ended2 .ensures))
     (is-stuck (a .l) b p (a .budget) all d (l .stack) (l .rest) (l .count) (l .inv .0) (omega (arith, c .before .before .before .before .before .before .before .before .before .before .before .loop-test .taken)) low (s .result) (s .last .1 .1 .1 .0) (s .last .1 .1 .1 .1 .1 .1 .0) (s .ensures) (c .before .enum-told2 .given .1))
-
-enum-told-3 : tie.Need-enum-told-3 Inv-loop μ-loop
-enum-told-3 c = search needs
 
 ended-requires-3 : tie.Need-ended-requires-3 Inv-loop μ-loop
 ended-requires-3 c κs = search needs
@@ -111,12 +105,12 @@ returns-3 c =
     let a = c .before .before .before .before .before .before .before .before .before .before .before .before .before .before .before .before .args in
     let b = now (a .card) in
     let p = now (a .program) in
-    let all = outcome (a .l) b p (a .budget) (drop (a .top) (now (a .stack))) (stateOf (lent (a .m) (now (a .plan)))) in
+    let all = outcome (a .l) b p (a .budget) (drop (a .top) (now (a .stack))) (stateOf (configured (a .m) (now (a .plan)))) in
     let l = c .before .before .before .before .before .before .before .before .before .before .before .before .loop in
-    let d = lent (l .cur) (l .plan) in
+    let d = configured (l .cur) (l .plan) in
     let low : l .rest < 128 = (let w = l .inv .0 .remains .within in let u = c .before .before .before .before .before .before .before .before .before .before .if1 .left in omega arith) in
     let s = c .before .before .before .before .make-move in
-    subst (λ (x : Ran). RanTo all x (s .last .1 .1 .1 .0) (s .last .1 .1 .1 .1 .1 .1 .0)) (sym (c .ended3 .ensures))
+    subst (λ (x : RanMoves). RanTo all x (s .last .1 .1 .1 .0) (s .last .1 .1 .1 .1 .1 .1 .0)) (sym (c .ended3 .ensures))
     (is-full (a .l) b p (a .budget) all d (l .stack) (l .rest) (l .count) (l .inv .0) (omega (arith, c .before .before .before .before .before .before .before .before .before .before .before .loop-test .taken)) low (s .result) (s .last .1 .1 .1 .0) (s .last .1 .1 .1 .1 .1 .1 .0) (s .ensures) (c .before .enum-told3 .given .1))
 
 ended-requires-4 : tie.Need-ended-requires-4 Inv-loop μ-loop
@@ -127,10 +121,10 @@ returns-4 c =
     let a = c .before .before .before .before .before .before .args in
     let b = now (a .card) in
     let p = now (a .program) in
-    let all = outcome (a .l) b p (a .budget) (drop (a .top) (now (a .stack))) (stateOf (lent (a .m) (now (a .plan)))) in
+    let all = outcome (a .l) b p (a .budget) (drop (a .top) (now (a .stack))) (stateOf (configured (a .m) (now (a .plan)))) in
     let l = c .before .before .loop in
-    let d = lent (l .cur) (l .plan) in
-    subst (λ (x : Ran). RanTo all x (l .plan) (l .stack)) (sym (c .ended4 .ensures)) (is-spent (a .l) b p (a .budget) all d (l .stack) (l .rest) (l .count) (l .inv .0) (omega (arith, c .before .loop-test .left)))
+    let d = configured (l .cur) (l .plan) in
+    subst (λ (x : RanMoves). RanTo all x (l .plan) (l .stack)) (sym (c .ended4 .ensures)) (is-spent (a .l) b p (a .budget) all d (l .stack) (l .rest) (l .count) (l .inv .0) (omega (arith, c .before .loop-test .left)))
 
 pub run-moves-spec : {M : Type 1} → statement M
 run-moves-spec =
@@ -148,10 +142,10 @@ run-moves-spec =
     add-count
     loop-less
     loop-again
-    enum-told-2
+    (λ c. search needs)
     ended-requires-2
     returns-2
-    enum-told-3
+    (λ c. search needs)
     ended-requires-3
     returns-3
     ended-requires-4

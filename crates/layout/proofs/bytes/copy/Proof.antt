@@ -19,21 +19,6 @@ abbrev μ-loop : tie.MeasureT-loop
 loop-holds : tie.Need-loop-holds Inv-loop μ-loop
 loop-holds c = (omega arith, refl, paste-zero (now (c .args .dst)) (c .args .to) (drop (c .args .from) (now (c .args .src))))
 
-add-dst : tie.Need-add-dst Inv-loop μ-loop
-add-dst c = search needs
-
-shared-slice-read-dst : tie.Need-shared-slice-read-dst Inv-loop μ-loop
-shared-slice-read-dst c = search needs
-
-add-dst-2 : tie.Need-add-dst-2 Inv-loop μ-loop
-add-dst-2 c = search needs
-
-slice-write-dst : tie.Need-slice-write-dst Inv-loop μ-loop
-slice-write-dst c = search needs
-
-add-i : tie.Need-add-i Inv-loop μ-loop
-add-i c = search needs
-
 loop-less : tie.Need-loop-less Inv-loop μ-loop
 loop-less c = search needs
 
@@ -46,9 +31,6 @@ loop-again c =
       length-set (l .dst) (a .to + l .i) v ∙ l .inv .1,
       ap (λ (x : List ℕ). set x (a .to + l .i) v) (l .inv .2) ∙ copy-more (now (a .dst)) (a .to) (now (a .src)) (a .from) (l .i) (omega arith) (omega arith),
     )
-
-same-length : tie.Need-same-length Inv-loop μ-loop
-same-length c = search needs
 
 returns : tie.Need-returns Inv-loop μ-loop
 returns c =
@@ -64,12 +46,12 @@ copy-spec =
     Inv-loop
     μ-loop
     loop-holds
-    add-dst
-    shared-slice-read-dst
-    add-dst-2
-    slice-write-dst
-    add-i
+    (λ c. search needs)
+    (λ c. search needs)
+    (λ c. search needs)
+    (λ c. search needs)
+    (λ c. search needs)
     loop-less
     loop-again
-    same-length
+    (λ c. search needs)
     returns)

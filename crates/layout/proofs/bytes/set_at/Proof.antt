@@ -7,9 +7,6 @@ use lib.ListN.{replicate}
 use Rattle.layout.proofs.bytes.set_at.Statement.{statement}
 use Rattle.layout.proofs.bytes.set_at.Tie as tie
 
-slice-aggregate-copy : tie.Need-slice-aggregate-copy
-slice-aggregate-copy c = search needs
-
 copy-requires : tie.Need-copy-requires
 copy-requires c κs = search needs
 
@@ -17,4 +14,4 @@ returns : tie.Need-returns
 returns c = c .before .copy .ensures ∙ copy-whole (replicate 16 0) (now (c .before .before .before .before .args .bytes)) (c .before .before .before .before .args .at) 16 (omega arith)
 
 pub set-at-spec : {M : Type 1} → statement M
-set-at-spec = tie.close (tie.spec slice-aggregate-copy copy-requires returns)
+set-at-spec = tie.close (tie.spec (λ c. search needs) copy-requires returns)

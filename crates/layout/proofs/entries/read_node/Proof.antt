@@ -8,27 +8,6 @@ use Rattle.layout.proofs.entries.read_node.Tie as tie
 entry-at-requires : tie.Need-entry-at-requires
 entry-at-requires c κs = search needs
 
-shared-slice-read-t6 : tie.Need-shared-slice-read-t6
-shared-slice-read-t6 c = search needs
-
-add-t7 : tie.Need-add-t7
-add-t7 c = search needs
-
-shared-slice-read-t9 : tie.Need-shared-slice-read-t9
-shared-slice-read-t9 c = search needs
-
-add-t10 : tie.Need-add-t10
-add-t10 c = search needs
-
-shared-slice-read-t12 : tie.Need-shared-slice-read-t12
-shared-slice-read-t12 c = search needs
-
-add-t13 : tie.Need-add-t13
-add-t13 c = search needs
-
-shared-slice-read-t15 : tie.Need-shared-slice-read-t15
-shared-slice-read-t15 c = search needs
-
 returns : tie.Need-returns
 unfolding nodeAt
 returns c =
@@ -41,11 +20,11 @@ read-node-spec =
     tie.close
     (tie.spec
     entry-at-requires
-    shared-slice-read-t6
-    add-t7
-    shared-slice-read-t9
-    add-t10
-    shared-slice-read-t12
-    add-t13
-    shared-slice-read-t15
+    (λ c. search needs)
+    (λ c. search needs)
+    (λ c. search needs)
+    (λ c. search needs)
+    (λ c. search needs)
+    (λ c. search needs)
+    (λ c. search needs)
     returns)

@@ -1,33 +1,51 @@
-use Rattle.layout.proofs.Written.{header-bytes}
-use Prim.Native.Nat.{_<_}
+use Rattle.meaning.specs.Place.{placeHeader}
 use borrow.Author.Needs.{needs}
 use Rattle.layout.proofs.place.header_of.Statement.{statement}
 use Rattle.layout.proofs.place.header_of.Tie as tie
 
--- the numbers are as large as their types say
-length-small : (c : tie.Start) → c .args .n < 65536
-length-small c = search needs
+plan-at-requires : tie.Need-plan-at-requires
+plan-at-requires c κs = search needs
 
-phase-small : (c : tie.Start) → c .args .phase < 256
-phase-small c = search needs
+low-byte-requires : tie.Need-low-byte-requires
+low-byte-requires c κs = search needs
 
-finished-small : (c : tie.Start) → c .args .finished < 65536
-finished-small c = search needs
+high-byte-requires : tie.Need-high-byte-requires
+high-byte-requires c κs = search needs
 
-cast-t5 : tie.Need-cast-t5
-cast-t5 c = search needs
+low-byte-requires-2 : tie.Need-low-byte-requires-2
+low-byte-requires-2 c κs = search needs
 
-cast-t7 : tie.Need-cast-t7
-cast-t7 c = search needs
+high-byte-requires-2 : tie.Need-high-byte-requires-2
+high-byte-requires-2 c κs = search needs
 
-cast-t9 : tie.Need-cast-t9
-cast-t9 c = search needs
+low-byte-requires-3 : tie.Need-low-byte-requires-3
+low-byte-requires-3 c κs = search needs
 
-cast-t11 : tie.Need-cast-t11
-cast-t11 c = search needs
+high-byte-requires-3 : tie.Need-high-byte-requires-3
+high-byte-requires-3 c κs = search needs
+
+low-byte-requires-4 : tie.Need-low-byte-requires-4
+low-byte-requires-4 c κs = search needs
+
+high-byte-requires-4 : tie.Need-high-byte-requires-4
+high-byte-requires-4 c κs = search needs
 
 returns : tie.Need-returns
-returns c = header-bytes (c .args .n) (c .args .phase) (c .args .finished) (length-small c) (phase-small c) (finished-small c)
+unfolding placeHeader
+returns c =
+    rw (c .before .before .before .before .before .before .before .low-byte .ensures, c .before .before .before .before .before .before .high-byte .ensures, c .before .before .before .before .before .low-byte2 .ensures, c .before .before .before .before .high-byte2 .ensures, c .before .before .before .low-byte3 .ensures, c .before .before .high-byte3 .ensures, c .before .low-byte4 .ensures, c .high-byte4 .ensures, c .before .before .before .before .before .before .before .before .plan-at .ensures)
 
 pub header-of-spec : {M : Type 1} → statement M
-header-of-spec = tie.close (tie.spec cast-t5 cast-t7 cast-t9 cast-t11 returns)
+header-of-spec =
+    tie.close
+    (tie.spec
+    plan-at-requires
+    low-byte-requires
+    high-byte-requires
+    low-byte-requires-2
+    high-byte-requires-2
+    low-byte-requires-3
+    high-byte-requires-3
+    low-byte-requires-4
+    high-byte-requires-4
+    returns)

@@ -1,8 +1,7 @@
 use Rattle.meaning.specs.Place.{placeHeader}
 use Rattle.layout.proofs.Written.{place-written}
-use Rattle.layout.specs.PlaceParts.{lent}
+use Rattle.layout.specs.PlaceParts.{configured}
 use mathlib.Core.Path.{_≡_, ap}
-use native.Mathlib.Omega.{arith}
 use borrow.Author.Needs.{needs}
 use denote.Ref.{now}
 use lib.ListN.{length}
@@ -19,60 +18,44 @@ lg c = search needs
 header-of-requires : tie.Need-header-of-requires
 header-of-requires c κs = search needs
 
-slice-aggregate-copy : tie.Need-slice-aggregate-copy
-slice-aggregate-copy c = search needs
-
 copy-requires : tie.Need-copy-requires
 copy-requires c κs = search needs
 
-slice-aggregate-copy-2 : tie.Need-slice-aggregate-copy-2
-slice-aggregate-copy-2 c = search needs
+write-sets-requires : tie.Need-write-sets-requires
+write-sets-requires c κs = search needs
+
+plan-at-requires : tie.Need-plan-at-requires
+plan-at-requires c κs = search needs
 
 copy-requires-2 : tie.Need-copy-requires-2
-copy-requires-2 c κs =
-    let s = c .before .before .before .before .before .before .before .before .before .before .before in
-    (omega (arith, c .before .before .before .before .copy .kept .0), omega (arith, lb s))
-
-slice-aggregate-copy-3 : tie.Need-slice-aggregate-copy-3
-slice-aggregate-copy-3 c = search needs
-
-copy-requires-3 : tie.Need-copy-requires-3
-copy-requires-3 c κs =
-    let s = c .before .before .before .before .before .before .before .before .before .before .before .before .before .before .before .before in
-    (omega (arith, c .before .before .before .before .copy2 .kept .0, c .before .before .before .before .before .before .before .before .before .copy .kept .0), omega (arith, lg s))
-
-cast-copy : tie.Need-cast-copy
-cast-copy c = search needs
-
-copy-requires-4 : tie.Need-copy-requires-4
-copy-requires-4 c κs =
-    let s = c .before .before .before .before .before .before .before .before .before .before .before .before .before .before .before .before .before .before .before .before .before .before in
-    (omega (arith, c .before .before .before .before .before .copy3 .kept .0, c .before .before .before .before .before .before .before .before .before .before .copy2 .kept .0, c .before .before .before .before .before .before .before .before .before .before .before .before .before .before .before .copy .kept .0, s .pre .1), omega (arith, s .pre .2, s .pre .0))
-
-same-length : tie.Need-same-length
-same-length c = search needs
+copy-requires-2 c κs = search needs
 
 returns : tie.Need-returns
 unfolding placeHeader
 returns c =
-    let s = c .before .before .before .before .before .before .before .before .before .before .before .before .before .before .before .before .before .before .before .before .before .before .before .before .before in
+    let s = c .before .before .before .before .before .before .before .before .before .before .before .before .before .before .before .before .before .before .before .before .before .before .before in
     let a = s .args in
-    let h = c .before .before .before .before .before .before .before .before .before .before .before .before .before .before .before .before .before .before .before .before .before .header-of in
-    place-written (lent (a .m) (now (a .plan))) (now (a .out)) (c .before .before .before .before .before .before .before .before .before .before .before .before .before .before .before .before .before .before .copy .last .0) (c .before .before .before .before .before .before .before .before .before .before .before .before .before .copy2 .last .0) (c .before .before .before .before .before .before .before .before .copy3 .last .0) (c .before .before .copy4 .last .0) (lb s) (lg s) (s .pre .2) (s .pre .0)
-    (h .result) (h .ensures) (ap length (h .ensures)) (c .before .before .before .before .before .before .before .before .before .before .before .before .before .before .before .before .before .before .copy .ensures) (c .before .before .before .before .before .before .before .before .before .before .before .before .before .copy2 .ensures) (c .before .before .before .before .before .before .before .before .copy3 .ensures) (c .before .before .copy4 .ensures)
+    let h = c .before .before .before .before .before .before .before .before .before .before .before .before .before .before .before .before .header-of in
+    let d₁ = c .before .before .before .before .before .before .before .before .before .before .before .before .before .copy in
+    let d₃ = c .before .before .before .before .before .before .before .before .before .write-sets in
+    let d₄ = c .before .before .copy2 in
+    let p = c .before .before .before .before .before .plan-at in
+    place-written (a .l) (configured (a .m) (now (a .plan))) (p .result) (p .ensures) (now (a .out)) (d₁ .last .0) (d₃ .last .1 .1 .1 .0) (d₄ .last .0) (lb s) (lg s) (s .pre .2) (s .pre .0)
+    (h .result) (h .ensures) (ap length (h .ensures)) (d₁ .ensures) (d₃ .ensures) (d₄ .ensures)
 
 pub write-place-spec : {M : Type 1} → statement M
 write-place-spec =
     tie.close
     (tie.spec
+    (λ c. search needs)
+    (λ c. search needs)
+    (λ c. search needs)
     header-of-requires
-    slice-aggregate-copy
+    (λ c. search needs)
     copy-requires
-    slice-aggregate-copy-2
+    write-sets-requires
+    plan-at-requires
+    (λ c. search needs)
     copy-requires-2
-    slice-aggregate-copy-3
-    copy-requires-3
-    cast-copy
-    copy-requires-4
-    same-length
+    (λ c. search needs)
     returns)

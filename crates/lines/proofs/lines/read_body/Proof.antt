@@ -18,8 +18,8 @@ pool-size-requires c κs = search needs
 more-than-requires : tie.Need-more-than-requires
 more-than-requires c κs = search needs
 
-last-node-requires : tie.Need-last-node-requires
-last-node-requires c κs = search needs
+last-in-requires : tie.Need-last-in-requires
+last-in-requires c κs = search needs
 
 behind-line-requires : tie.Need-behind-line-requires
 behind-line-requires c κs = search needs
@@ -33,7 +33,7 @@ same-length c = search needs
 returns : tie.Need-returns
 returns c =
     body-steps (now (c .before .before .before .before .before .before .before .before .before .before .before .before .before .before .before .before .args .text)) (c .before .before .before .before .before .before .before .before .before .before .before .before .before .before .before .before .args .at) (c .before .before .before .before .before .before .before .before .before .before .before .before .before .skip .result) (c .before .before .before .before .before .before .before .before .before .before .before .plan-in .result .next) (c .before .before .before .before .before .before .before .before .before .before .before .before .before .before .before .before .args .m) (now (c .before .before .before .before .before .before .before .before .before .before .before .before .before .before .before .before .args .card)) (c .before .before .before .before .before .before .before .before .before .before .before .before .before .before .before .before .pre .1) (c .before .before .before .before .before .before .before .before .before .before .before .plan-in .result .made) (c .before .before .before .before .before .before .before .before .before .before .before .plan-in .last .1 .1 .0) (c .before .before .before .before .behind-line .result) (c .before .before .put-revision .result) (c .before .before .put-revision .last .0)
-    (c .before .before .before .before .before .last-node .result) (c .before .before .before .before .before .before .before .before .before .before .before .before .before .before .before .before .args .head) (c .before .before .before .before .before .before .before .before .before .before .before .before .before .before .before .before .args .h) (c .before .before .before .before .before .before .before .before .before .before .before .before .before .before .before .before .args .body) (c .before .before .before .before .before .before .more-than .result) (c .before .before .before .before .before .before .before .before .before .before .before .before .before .skip .ensures) (c .before .before .before .before .before .before .before .before .before .before .before .plan-in .ensures) (c .before .before .before .before .behind-line .ensures) (c .before .before .before .before .before .last-node .ensures) (c .before .before .before .before .before .before .more-than .ensures ∙ (λ i. c .before .before .before .before .before .before .before .pool-size .ensures i - c .before .before .before .before .before .before .before .before .before .before .before .before .before .before .before .before .args .body)) (c .before .before .put-revision .ensures)
+    (c .before .before .before .before .before .last-in .result) (c .before .before .before .before .before .before .before .before .before .before .before .before .before .before .before .before .args .head) (c .before .before .before .before .before .before .before .before .before .before .before .before .before .before .before .before .args .h) (c .before .before .before .before .before .before .before .before .before .before .before .before .before .before .before .before .args .body) (c .before .before .before .before .before .before .more-than .result) (c .before .before .before .before .before .before .before .before .before .before .before .before .before .skip .ensures) (c .before .before .before .before .before .before .before .before .before .before .before .plan-in .ensures) (c .before .before .before .before .behind-line .ensures) (c .before .before .before .before .before .last-in .ensures) (c .before .before .before .before .before .before .more-than .ensures ∙ (λ i. c .before .before .before .before .before .before .before .pool-size .ensures i - c .before .before .before .before .before .before .before .before .before .before .before .before .before .before .before .before .args .body)) (c .before .before .put-revision .ensures)
 
 pub read-body-spec : {M : Type 1} → statement M
 read-body-spec =
@@ -43,7 +43,7 @@ read-body-spec =
     plan-in-requires
     pool-size-requires
     more-than-requires
-    last-node-requires
+    last-in-requires
     behind-line-requires
     put-revision-requires
     same-length

@@ -1,9 +1,9 @@
-use Rattle.lines.proofs.Whole.{Left, left-start, left-turn, left-nested, left-over, nothing-held}
+use Rattle.lines.proofs.Whole.{LinesLeft, left-start, left-turn, left-nested, left-over, nothing-held}
 use Rattle.lines.proofs.Saying.{line-at}
-use Rattle.lines.specs.Lines.{Held, LineReads}
+use Rattle.lines.specs.Lines.{Held, ReadsPart}
 use Rattle.lines.specs.InPlace.{madeIn}
-use Rattle.notation.proofs.Values.{lineBy}
-use Rattle.notation.proofs.Making.{itemsIn}
+use Rattle.notation.specs.Values.{lineBy}
+use Rattle.notation.specs.Making.{itemsIn}
 use mathlib.Core.Path.{subst, sym, _∙_}
 use Prim.Native.Nat.{_+_, _-_, _≤_}
 use native.Mathlib.Omega.{arith}
@@ -14,7 +14,7 @@ use Rattle.lines.proofs.lines.read_lines.Statement.{statement}
 use Rattle.lines.proofs.lines.read_lines.Tie as tie
 
 abbrev Inv-loop : tie.InvT-loop
-Inv-loop text card₀ m₀ n₀ card m n = (n ≤ length text) × Held m card × Left text n (madeIn m card)
+Inv-loop text card₀ m₀ n₀ card m n = (n ≤ length text) × Held m card × LinesLeft text n (madeIn m card)
 
 abbrev μ-loop : tie.MeasureT-loop
 μ-loop text card₀ m₀ n₀ card m n = length text - n
@@ -38,19 +38,19 @@ same-length c = search needs
 
 returns : tie.Need-returns Inv-loop μ-loop
 returns c =
-    left-nested (now (c .before .before .before .before .before .before .before .before .before .before .before .args .text)) (c .before .before .before .before .before .before .before .loop .n) (c .before .before .before .before .before .before .before .loop .m) (c .before .before .before .before .before .before .before .loop .card) (c .before .before .before .before .read-line .last .1 .1 .0) (c .before .before .before .before .before .before .loop-test .taken) (c .before .before .before .before .before .before .before .loop .inv .2) (subst (λ l. LineReads itemsIn (now (c .before .before .before .before .before .before .before .before .before .before .before .args .text)) (c .before .before .before .before .before .before .before .loop .n + 1) (lineBy (getD (now (c .before .before .before .before .before .before .before .before .before .before .before .args .text)) (c .before .before .before .before .before .before .before .loop .n) 0) (drop (c .before .before .before .before .before .before .before .loop .n) (now (c .before .before .before .before .before .before .before .before .before .before .before .args .text)))) (c .before .before .before .before .before .before .before .loop .m) (c .before .before .before .before .before .before .before .loop .card) l (c .before .before .before .before .read-line .last .1 .1 .0)) (c .enum-told .given .1) (c .before .before .before .before .read-line .ensures))
+    left-nested (now (c .before .before .before .before .before .before .before .before .before .before .before .args .text)) (c .before .before .before .before .before .before .before .loop .n) (c .before .before .before .before .before .before .before .loop .m) (c .before .before .before .before .before .before .before .loop .card) (c .before .before .before .before .read-line .last .1 .1 .0) (c .before .before .before .before .before .before .loop-test .taken) (c .before .before .before .before .before .before .before .loop .inv .2) (subst (λ l. ReadsPart itemsIn (now (c .before .before .before .before .before .before .before .before .before .before .before .args .text)) (c .before .before .before .before .before .before .before .loop .n + 1) (lineBy (getD (now (c .before .before .before .before .before .before .before .before .before .before .before .args .text)) (c .before .before .before .before .before .before .before .loop .n) 0) (drop (c .before .before .before .before .before .before .before .loop .n) (now (c .before .before .before .before .before .before .before .before .before .before .before .args .text)))) (c .before .before .before .before .before .before .before .loop .m) (c .before .before .before .before .before .before .before .loop .card) l (c .before .before .before .before .read-line .last .1 .1 .0)) (c .enum-told .given .1) (c .before .before .before .before .read-line .ensures))
 
 enum-known-line : tie.Need-enum-known-line Inv-loop μ-loop
 enum-known-line c = search needs
 
 loop-less : tie.Need-loop-less Inv-loop μ-loop
 loop-less c =
-    let r = line-at itemsIn (now (c .before .before .before .before .before .before .before .before .before .before .before .before .args .text)) (c .before .before .before .before .before .before .before .before .loop .n + 1) (lineBy (getD (now (c .before .before .before .before .before .before .before .before .before .before .before .before .args .text)) (c .before .before .before .before .before .before .before .before .loop .n) 0) (drop (c .before .before .before .before .before .before .before .before .loop .n) (now (c .before .before .before .before .before .before .before .before .before .before .before .before .args .text)))) (c .before .before .before .before .before .before .before .before .loop .m) (c .before .before .before .before .before .before .before .before .loop .card) (c .before .line .given .0 .0) (c .before .line .given .0 .1 .0) (c .before .before .before .before .before .read-line .last .1 .1 .0) (subst (λ l. LineReads itemsIn (now (c .before .before .before .before .before .before .before .before .before .before .before .before .args .text)) (c .before .before .before .before .before .before .before .before .loop .n + 1) (lineBy (getD (now (c .before .before .before .before .before .before .before .before .before .before .before .before .args .text)) (c .before .before .before .before .before .before .before .before .loop .n) 0) (drop (c .before .before .before .before .before .before .before .before .loop .n) (now (c .before .before .before .before .before .before .before .before .before .before .before .before .args .text)))) (c .before .before .before .before .before .before .before .before .loop .m) (c .before .before .before .before .before .before .before .before .loop .card) l (c .before .before .before .before .before .read-line .last .1 .1 .0)) (c .before .line .given .1) (c .before .before .before .before .before .read-line .ensures)) in let h = c .before .before .before .before .before .before .before .loop-test .taken in let a = r .0 in let b = r .1 in omega arith
+    let r = line-at itemsIn (now (c .before .before .before .before .before .before .before .before .before .before .before .before .args .text)) (c .before .before .before .before .before .before .before .before .loop .n + 1) (lineBy (getD (now (c .before .before .before .before .before .before .before .before .before .before .before .before .args .text)) (c .before .before .before .before .before .before .before .before .loop .n) 0) (drop (c .before .before .before .before .before .before .before .before .loop .n) (now (c .before .before .before .before .before .before .before .before .before .before .before .before .args .text)))) (c .before .before .before .before .before .before .before .before .loop .m) (c .before .before .before .before .before .before .before .before .loop .card) (c .before .line .given .0 .0) (c .before .line .given .0 .1 .0) (c .before .before .before .before .before .read-line .last .1 .1 .0) (subst (λ l. ReadsPart itemsIn (now (c .before .before .before .before .before .before .before .before .before .before .before .before .args .text)) (c .before .before .before .before .before .before .before .before .loop .n + 1) (lineBy (getD (now (c .before .before .before .before .before .before .before .before .before .before .before .before .args .text)) (c .before .before .before .before .before .before .before .before .loop .n) 0) (drop (c .before .before .before .before .before .before .before .before .loop .n) (now (c .before .before .before .before .before .before .before .before .before .before .before .before .args .text)))) (c .before .before .before .before .before .before .before .before .loop .m) (c .before .before .before .before .before .before .before .before .loop .card) l (c .before .before .before .before .before .read-line .last .1 .1 .0)) (c .before .line .given .1) (c .before .before .before .before .before .read-line .ensures)) in let h = c .before .before .before .before .before .before .before .loop-test .taken in let a = r .0 in let b = r .1 in omega arith
 
 loop-again : tie.Need-loop-again Inv-loop μ-loop
 loop-again c =
-    let r = line-at itemsIn (now (c .before .before .before .before .before .before .before .before .before .before .before .before .args .text)) (c .before .before .before .before .before .before .before .before .loop .n + 1) (lineBy (getD (now (c .before .before .before .before .before .before .before .before .before .before .before .before .args .text)) (c .before .before .before .before .before .before .before .before .loop .n) 0) (drop (c .before .before .before .before .before .before .before .before .loop .n) (now (c .before .before .before .before .before .before .before .before .before .before .before .before .args .text)))) (c .before .before .before .before .before .before .before .before .loop .m) (c .before .before .before .before .before .before .before .before .loop .card) (c .before .line .given .0 .0) (c .before .line .given .0 .1 .0) (c .before .before .before .before .before .read-line .last .1 .1 .0) (subst (λ l. LineReads itemsIn (now (c .before .before .before .before .before .before .before .before .before .before .before .before .args .text)) (c .before .before .before .before .before .before .before .before .loop .n + 1) (lineBy (getD (now (c .before .before .before .before .before .before .before .before .before .before .before .before .args .text)) (c .before .before .before .before .before .before .before .before .loop .n) 0) (drop (c .before .before .before .before .before .before .before .before .loop .n) (now (c .before .before .before .before .before .before .before .before .before .before .before .before .args .text)))) (c .before .before .before .before .before .before .before .before .loop .m) (c .before .before .before .before .before .before .before .before .loop .card) l (c .before .before .before .before .before .read-line .last .1 .1 .0)) (c .before .line .given .1) (c .before .before .before .before .before .read-line .ensures)) in
-    (r .0, r .2, left-turn (now (c .before .before .before .before .before .before .before .before .before .before .before .before .args .text)) (c .before .before .before .before .before .before .before .before .loop .n) (c .before .line .given .0 .0) (c .before .before .before .before .before .before .before .before .loop .m) (c .before .line .given .0 .1 .0) (c .before .before .before .before .before .before .before .before .loop .card) (c .before .before .before .before .before .read-line .last .1 .1 .0) (c .before .before .before .before .before .before .before .loop-test .taken) (c .before .before .before .before .before .before .before .before .loop .inv .2) (subst (λ l. LineReads itemsIn (now (c .before .before .before .before .before .before .before .before .before .before .before .before .args .text)) (c .before .before .before .before .before .before .before .before .loop .n + 1) (lineBy (getD (now (c .before .before .before .before .before .before .before .before .before .before .before .before .args .text)) (c .before .before .before .before .before .before .before .before .loop .n) 0) (drop (c .before .before .before .before .before .before .before .before .loop .n) (now (c .before .before .before .before .before .before .before .before .before .before .before .before .args .text)))) (c .before .before .before .before .before .before .before .before .loop .m) (c .before .before .before .before .before .before .before .before .loop .card) l (c .before .before .before .before .before .read-line .last .1 .1 .0)) (c .before .line .given .1) (c .before .before .before .before .before .read-line .ensures)) (r .1))
+    let r = line-at itemsIn (now (c .before .before .before .before .before .before .before .before .before .before .before .before .args .text)) (c .before .before .before .before .before .before .before .before .loop .n + 1) (lineBy (getD (now (c .before .before .before .before .before .before .before .before .before .before .before .before .args .text)) (c .before .before .before .before .before .before .before .before .loop .n) 0) (drop (c .before .before .before .before .before .before .before .before .loop .n) (now (c .before .before .before .before .before .before .before .before .before .before .before .before .args .text)))) (c .before .before .before .before .before .before .before .before .loop .m) (c .before .before .before .before .before .before .before .before .loop .card) (c .before .line .given .0 .0) (c .before .line .given .0 .1 .0) (c .before .before .before .before .before .read-line .last .1 .1 .0) (subst (λ l. ReadsPart itemsIn (now (c .before .before .before .before .before .before .before .before .before .before .before .before .args .text)) (c .before .before .before .before .before .before .before .before .loop .n + 1) (lineBy (getD (now (c .before .before .before .before .before .before .before .before .before .before .before .before .args .text)) (c .before .before .before .before .before .before .before .before .loop .n) 0) (drop (c .before .before .before .before .before .before .before .before .loop .n) (now (c .before .before .before .before .before .before .before .before .before .before .before .before .args .text)))) (c .before .before .before .before .before .before .before .before .loop .m) (c .before .before .before .before .before .before .before .before .loop .card) l (c .before .before .before .before .before .read-line .last .1 .1 .0)) (c .before .line .given .1) (c .before .before .before .before .before .read-line .ensures)) in
+    (r .0, r .2, left-turn (now (c .before .before .before .before .before .before .before .before .before .before .before .before .args .text)) (c .before .before .before .before .before .before .before .before .loop .n) (c .before .line .given .0 .0) (c .before .before .before .before .before .before .before .before .loop .m) (c .before .line .given .0 .1 .0) (c .before .before .before .before .before .before .before .before .loop .card) (c .before .before .before .before .before .read-line .last .1 .1 .0) (c .before .before .before .before .before .before .before .loop-test .taken) (c .before .before .before .before .before .before .before .before .loop .inv .2) (subst (λ l. ReadsPart itemsIn (now (c .before .before .before .before .before .before .before .before .before .before .before .before .args .text)) (c .before .before .before .before .before .before .before .before .loop .n + 1) (lineBy (getD (now (c .before .before .before .before .before .before .before .before .before .before .before .before .args .text)) (c .before .before .before .before .before .before .before .before .loop .n) 0) (drop (c .before .before .before .before .before .before .before .before .loop .n) (now (c .before .before .before .before .before .before .before .before .before .before .before .before .args .text)))) (c .before .before .before .before .before .before .before .before .loop .m) (c .before .before .before .before .before .before .before .before .loop .card) l (c .before .before .before .before .before .read-line .last .1 .1 .0)) (c .before .line .given .1) (c .before .before .before .before .before .read-line .ensures)) (r .1))
 
 same-length-2 : tie.Need-same-length-2 Inv-loop μ-loop
 same-length-2 c =

@@ -1,6 +1,6 @@
 use Rattle.lines.proofs.Saying.{line-at, select-nested, select-nested-2, select-over}
-use Rattle.lines.specs.Lines.{LineReads, conditionIn}
-use Rattle.notation.proofs.Values.{conditionOf}
+use Rattle.lines.specs.Lines.{ReadsPart, conditionIn}
+use Rattle.notation.specs.Values.{conditionOf}
 use mathlib.Core.Path.{subst, sym, _∙_}
 use borrow.Author.Needs.{needs}
 use denote.Ref.{now}
@@ -25,15 +25,15 @@ same-length c = search needs
 
 returns : tie.Need-returns
 returns c =
-    select-nested (now (c .before .before .before .before .before .before .before .before .before .args .text)) (c .before .before .before .before .before .before .before .before .before .args .at) (c .before .before .before .before .before .before .skip .result) (c .before .before .before .before .before .before .before .before .before .args .m) (now (c .before .before .before .before .before .before .before .before .before .args .card)) (c .before .before .before .before .before .before .before .before .before .pre .0) (c .before .before .before .before .before .before .skip .ensures) (c .before .before .before .before .read-tree .last .1 .1 .0) (subst (λ l. LineReads conditionIn (now (c .before .before .before .before .before .before .before .before .before .args .text)) (c .before .before .before .before .before .before .skip .result) (conditionOf (drop (c .before .before .before .before .before .before .skip .result) (now (c .before .before .before .before .before .before .before .before .before .args .text)))) (c .before .before .before .before .before .before .before .before .before .args .m) (now (c .before .before .before .before .before .before .before .before .before .args .card)) l (c .before .before .before .before .read-tree .last .1 .1 .0)) (c .enum-told .given .1) (c .before .before .before .before .read-tree .ensures))
+    select-nested (now (c .before .before .before .before .before .before .before .before .before .args .text)) (c .before .before .before .before .before .before .before .before .before .args .at) (c .before .before .before .before .before .before .skip .result) (c .before .before .before .before .before .before .before .before .before .args .m) (now (c .before .before .before .before .before .before .before .before .before .args .card)) (c .before .before .before .before .before .before .before .before .before .pre .0) (c .before .before .before .before .before .before .skip .ensures) (c .before .before .before .before .read-tree .last .1 .1 .0) (subst (λ l. ReadsPart conditionIn (now (c .before .before .before .before .before .before .before .before .before .args .text)) (c .before .before .before .before .before .before .skip .result) (conditionOf (drop (c .before .before .before .before .before .before .skip .result) (now (c .before .before .before .before .before .before .before .before .before .args .text)))) (c .before .before .before .before .before .before .before .before .before .args .m) (now (c .before .before .before .before .before .before .before .before .before .args .card)) l (c .before .before .before .before .read-tree .last .1 .1 .0)) (c .enum-told .given .1) (c .before .before .before .before .read-tree .ensures))
 
 skip-requires-2 : tie.Need-skip-requires-2
 skip-requires-2 c κs =
-    (line-at conditionIn (now (c .before .before .before .before .before .before .before .before .before .before .args .text)) (c .before .before .before .before .before .before .before .skip .result) (conditionOf (drop (c .before .before .before .before .before .before .before .skip .result) (now (c .before .before .before .before .before .before .before .before .before .before .args .text)))) (c .before .before .before .before .before .before .before .before .before .before .args .m) (now (c .before .before .before .before .before .before .before .before .before .before .args .card)) (c .before .belief .given .0 .0) (c .before .belief .given .0 .1 .0) (c .before .before .before .before .before .read-tree .last .1 .1 .0) (subst (λ l. LineReads conditionIn (now (c .before .before .before .before .before .before .before .before .before .before .args .text)) (c .before .before .before .before .before .before .before .skip .result) (conditionOf (drop (c .before .before .before .before .before .before .before .skip .result) (now (c .before .before .before .before .before .before .before .before .before .before .args .text)))) (c .before .before .before .before .before .before .before .before .before .before .args .m) (now (c .before .before .before .before .before .before .before .before .before .before .args .card)) l (c .before .before .before .before .before .read-tree .last .1 .1 .0)) (c .before .belief .given .1) (c .before .before .before .before .before .read-tree .ensures))) .0
+    (line-at conditionIn (now (c .before .before .before .before .before .before .before .before .before .before .args .text)) (c .before .before .before .before .before .before .before .skip .result) (conditionOf (drop (c .before .before .before .before .before .before .before .skip .result) (now (c .before .before .before .before .before .before .before .before .before .before .args .text)))) (c .before .before .before .before .before .before .before .before .before .before .args .m) (now (c .before .before .before .before .before .before .before .before .before .before .args .card)) (c .before .belief .given .0 .0) (c .before .belief .given .0 .1 .0) (c .before .before .before .before .before .read-tree .last .1 .1 .0) (subst (λ l. ReadsPart conditionIn (now (c .before .before .before .before .before .before .before .before .before .before .args .text)) (c .before .before .before .before .before .before .before .skip .result) (conditionOf (drop (c .before .before .before .before .before .before .before .skip .result) (now (c .before .before .before .before .before .before .before .before .before .before .args .text)))) (c .before .before .before .before .before .before .before .before .before .before .args .m) (now (c .before .before .before .before .before .before .before .before .before .before .args .card)) l (c .before .before .before .before .before .read-tree .last .1 .1 .0)) (c .before .belief .given .1) (c .before .before .before .before .before .read-tree .ensures))) .0
 
 read-tree-requires-2 : tie.Need-read-tree-requires-2
 read-tree-requires-2 c κs =
-    (c .before .skip2 .ensures .2 .0, (line-at conditionIn (now (c .before .before .before .before .before .before .before .before .before .before .before .before .args .text)) (c .before .before .before .before .before .before .before .before .before .skip .result) (conditionOf (drop (c .before .before .before .before .before .before .before .before .before .skip .result) (now (c .before .before .before .before .before .before .before .before .before .before .before .before .args .text)))) (c .before .before .before .before .before .before .before .before .before .before .before .before .args .m) (now (c .before .before .before .before .before .before .before .before .before .before .before .before .args .card)) (c .before .before .before .belief .given .0 .0) (c .before .before .before .belief .given .0 .1 .0) (c .before .before .before .before .before .before .before .read-tree .last .1 .1 .0) (subst (λ l. LineReads conditionIn (now (c .before .before .before .before .before .before .before .before .before .before .before .before .args .text)) (c .before .before .before .before .before .before .before .before .before .skip .result) (conditionOf (drop (c .before .before .before .before .before .before .before .before .before .skip .result) (now (c .before .before .before .before .before .before .before .before .before .before .before .before .args .text)))) (c .before .before .before .before .before .before .before .before .before .before .before .before .args .m) (now (c .before .before .before .before .before .before .before .before .before .before .before .before .args .card)) l (c .before .before .before .before .before .before .before .read-tree .last .1 .1 .0)) (c .before .before .before .belief .given .1) (c .before .before .before .before .before .before .before .read-tree .ensures))) .2)
+    (c .before .skip2 .ensures .2 .0, (line-at conditionIn (now (c .before .before .before .before .before .before .before .before .before .before .before .before .args .text)) (c .before .before .before .before .before .before .before .before .before .skip .result) (conditionOf (drop (c .before .before .before .before .before .before .before .before .before .skip .result) (now (c .before .before .before .before .before .before .before .before .before .before .before .before .args .text)))) (c .before .before .before .before .before .before .before .before .before .before .before .before .args .m) (now (c .before .before .before .before .before .before .before .before .before .before .before .before .args .card)) (c .before .before .before .belief .given .0 .0) (c .before .before .before .belief .given .0 .1 .0) (c .before .before .before .before .before .before .before .read-tree .last .1 .1 .0) (subst (λ l. ReadsPart conditionIn (now (c .before .before .before .before .before .before .before .before .before .before .before .before .args .text)) (c .before .before .before .before .before .before .before .before .before .skip .result) (conditionOf (drop (c .before .before .before .before .before .before .before .before .before .skip .result) (now (c .before .before .before .before .before .before .before .before .before .before .before .before .args .text)))) (c .before .before .before .before .before .before .before .before .before .before .before .before .args .m) (now (c .before .before .before .before .before .before .before .before .before .before .before .before .args .card)) l (c .before .before .before .before .before .before .before .read-tree .last .1 .1 .0)) (c .before .before .before .belief .given .1) (c .before .before .before .before .before .before .before .read-tree .ensures))) .2)
 
 enum-known-goal : tie.Need-enum-known-goal
 enum-known-goal c = search needs
@@ -46,15 +46,15 @@ same-length-2 c = search needs
 
 returns-2 : tie.Need-returns-2
 returns-2 c =
-    select-nested-2 (now (c .before .before .before .before .before .before .before .before .before .before .before .before .before .before .before .before .before .args .text)) (c .before .before .before .before .before .before .before .before .before .before .before .before .before .before .before .before .before .args .at) (c .before .before .before .before .before .before .before .before .before .before .before .before .before .before .skip .result) (c .before .before .before .before .before .before .before .before .before .before .before .before .before .before .before .before .before .args .m) (now (c .before .before .before .before .before .before .before .before .before .before .before .before .before .before .before .before .before .args .card)) (c .before .before .before .before .before .before .before .before .before .before .before .before .before .before .before .before .before .pre .0) (c .before .before .before .before .before .before .before .before .before .before .before .before .before .before .skip .ensures) (c .before .before .before .before .before .before .before .before .belief .given .0 .0) (c .before .before .before .before .before .before .before .before .belief .given .0 .1 .0) (c .before .before .before .before .before .before .before .before .before .before .before .before .read-tree .last .1 .1 .0) (subst (λ l. LineReads conditionIn (now (c .before .before .before .before .before .before .before .before .before .before .before .before .before .before .before .before .before .args .text)) (c .before .before .before .before .before .before .before .before .before .before .before .before .before .before .skip .result) (conditionOf (drop (c .before .before .before .before .before .before .before .before .before .before .before .before .before .before .skip .result) (now (c .before .before .before .before .before .before .before .before .before .before .before .before .before .before .before .before .before .args .text)))) (c .before .before .before .before .before .before .before .before .before .before .before .before .before .before .before .before .before .args .m) (now (c .before .before .before .before .before .before .before .before .before .before .before .before .before .before .before .before .before .args .card)) l (c .before .before .before .before .before .before .before .before .before .before .before .before .read-tree .last .1 .1 .0)) (c .before .before .before .before .before .before .before .before .belief .given .1) (c .before .before .before .before .before .before .before .before .before .before .before .before .read-tree .ensures)) (c .before .before .before .before .before .before .skip2 .result) (c .before .before .before .before .before .before .skip2 .ensures) (c .before .before .before .before .read-tree2 .last .1 .1 .0) (subst (λ l. LineReads conditionIn (now (c .before .before .before .before .before .before .before .before .before .before .before .before .before .before .before .before .before .args .text)) (c .before .before .before .before .before .before .skip2 .result) (conditionOf (drop (c .before .before .before .before .before .before .skip2 .result) (now (c .before .before .before .before .before .before .before .before .before .before .before .before .before .before .before .before .before .args .text)))) (c .before .before .before .before .before .before .before .before .belief .given .0 .1 .0) (c .before .before .before .before .before .before .before .before .before .before .before .before .read-tree .last .1 .1 .0) l (c .before .before .before .before .read-tree2 .last .1 .1 .0)) (c .enum-told2 .given .1) (c .before .before .before .before .read-tree2 .ensures))
+    select-nested-2 (now (c .before .before .before .before .before .before .before .before .before .before .before .before .before .before .before .before .before .args .text)) (c .before .before .before .before .before .before .before .before .before .before .before .before .before .before .before .before .before .args .at) (c .before .before .before .before .before .before .before .before .before .before .before .before .before .before .skip .result) (c .before .before .before .before .before .before .before .before .before .before .before .before .before .before .before .before .before .args .m) (now (c .before .before .before .before .before .before .before .before .before .before .before .before .before .before .before .before .before .args .card)) (c .before .before .before .before .before .before .before .before .before .before .before .before .before .before .before .before .before .pre .0) (c .before .before .before .before .before .before .before .before .before .before .before .before .before .before .skip .ensures) (c .before .before .before .before .before .before .before .before .belief .given .0 .0) (c .before .before .before .before .before .before .before .before .belief .given .0 .1 .0) (c .before .before .before .before .before .before .before .before .before .before .before .before .read-tree .last .1 .1 .0) (subst (λ l. ReadsPart conditionIn (now (c .before .before .before .before .before .before .before .before .before .before .before .before .before .before .before .before .before .args .text)) (c .before .before .before .before .before .before .before .before .before .before .before .before .before .before .skip .result) (conditionOf (drop (c .before .before .before .before .before .before .before .before .before .before .before .before .before .before .skip .result) (now (c .before .before .before .before .before .before .before .before .before .before .before .before .before .before .before .before .before .args .text)))) (c .before .before .before .before .before .before .before .before .before .before .before .before .before .before .before .before .before .args .m) (now (c .before .before .before .before .before .before .before .before .before .before .before .before .before .before .before .before .before .args .card)) l (c .before .before .before .before .before .before .before .before .before .before .before .before .read-tree .last .1 .1 .0)) (c .before .before .before .before .before .before .before .before .belief .given .1) (c .before .before .before .before .before .before .before .before .before .before .before .before .read-tree .ensures)) (c .before .before .before .before .before .before .skip2 .result) (c .before .before .before .before .before .before .skip2 .ensures) (c .before .before .before .before .read-tree2 .last .1 .1 .0) (subst (λ l. ReadsPart conditionIn (now (c .before .before .before .before .before .before .before .before .before .before .before .before .before .before .before .before .before .args .text)) (c .before .before .before .before .before .before .skip2 .result) (conditionOf (drop (c .before .before .before .before .before .before .skip2 .result) (now (c .before .before .before .before .before .before .before .before .before .before .before .before .before .before .before .before .before .args .text)))) (c .before .before .before .before .before .before .before .before .belief .given .0 .1 .0) (c .before .before .before .before .before .before .before .before .before .before .before .before .read-tree .last .1 .1 .0) l (c .before .before .before .before .read-tree2 .last .1 .1 .0)) (c .enum-told2 .given .1) (c .before .before .before .before .read-tree2 .ensures))
 
-last-node-requires : tie.Need-last-node-requires
-last-node-requires c κs =
-    (line-at conditionIn (now (c .before .before .before .before .before .before .before .before .before .before .before .before .before .before .before .before .before .before .before .args .text)) (c .before .before .before .before .before .before .before .before .before .before .before .before .before .before .before .before .skip .result) (conditionOf (drop (c .before .before .before .before .before .before .before .before .before .before .before .before .before .before .before .before .skip .result) (now (c .before .before .before .before .before .before .before .before .before .before .before .before .before .before .before .before .before .before .before .args .text)))) (c .before .before .before .before .before .before .before .before .before .before .before .before .before .before .before .before .before .before .before .args .m) (now (c .before .before .before .before .before .before .before .before .before .before .before .before .before .before .before .before .before .before .before .args .card)) (c .before .before .before .before .before .before .before .before .before .before .belief .given .0 .0) (c .before .before .before .before .before .before .before .before .before .before .belief .given .0 .1 .0) (c .before .before .before .before .before .before .before .before .before .before .before .before .before .before .read-tree .last .1 .1 .0) (subst (λ l. LineReads conditionIn (now (c .before .before .before .before .before .before .before .before .before .before .before .before .before .before .before .before .before .before .before .args .text)) (c .before .before .before .before .before .before .before .before .before .before .before .before .before .before .before .before .skip .result) (conditionOf (drop (c .before .before .before .before .before .before .before .before .before .before .before .before .before .before .before .before .skip .result) (now (c .before .before .before .before .before .before .before .before .before .before .before .before .before .before .before .before .before .before .before .args .text)))) (c .before .before .before .before .before .before .before .before .before .before .before .before .before .before .before .before .before .before .before .args .m) (now (c .before .before .before .before .before .before .before .before .before .before .before .before .before .before .before .before .before .before .before .args .card)) l (c .before .before .before .before .before .before .before .before .before .before .before .before .before .before .read-tree .last .1 .1 .0)) (c .before .before .before .before .before .before .before .before .before .before .belief .given .1) (c .before .before .before .before .before .before .before .before .before .before .before .before .before .before .read-tree .ensures))) .2 .bounded .nodes
+last-in-requires : tie.Need-last-in-requires
+last-in-requires c κs =
+    (line-at conditionIn (now (c .before .before .before .before .before .before .before .before .before .before .before .before .before .before .before .before .before .before .before .args .text)) (c .before .before .before .before .before .before .before .before .before .before .before .before .before .before .before .before .skip .result) (conditionOf (drop (c .before .before .before .before .before .before .before .before .before .before .before .before .before .before .before .before .skip .result) (now (c .before .before .before .before .before .before .before .before .before .before .before .before .before .before .before .before .before .before .before .args .text)))) (c .before .before .before .before .before .before .before .before .before .before .before .before .before .before .before .before .before .before .before .args .m) (now (c .before .before .before .before .before .before .before .before .before .before .before .before .before .before .before .before .before .before .before .args .card)) (c .before .before .before .before .before .before .before .before .before .before .belief .given .0 .0) (c .before .before .before .before .before .before .before .before .before .before .belief .given .0 .1 .0) (c .before .before .before .before .before .before .before .before .before .before .before .before .before .before .read-tree .last .1 .1 .0) (subst (λ l. ReadsPart conditionIn (now (c .before .before .before .before .before .before .before .before .before .before .before .before .before .before .before .before .before .before .before .args .text)) (c .before .before .before .before .before .before .before .before .before .before .before .before .before .before .before .before .skip .result) (conditionOf (drop (c .before .before .before .before .before .before .before .before .before .before .before .before .before .before .before .before .skip .result) (now (c .before .before .before .before .before .before .before .before .before .before .before .before .before .before .before .before .before .before .before .args .text)))) (c .before .before .before .before .before .before .before .before .before .before .before .before .before .before .before .before .before .before .before .args .m) (now (c .before .before .before .before .before .before .before .before .before .before .before .before .before .before .before .before .before .before .before .args .card)) l (c .before .before .before .before .before .before .before .before .before .before .before .before .before .before .read-tree .last .1 .1 .0)) (c .before .before .before .before .before .before .before .before .before .before .belief .given .1) (c .before .before .before .before .before .before .before .before .before .before .before .before .before .before .read-tree .ensures))) .2 .bounded .nodes
 
 read-selected-requires : tie.Need-read-selected-requires
 read-selected-requires c κs =
-    let r = line-at conditionIn (now (c .before .before .before .before .before .before .before .before .before .before .before .before .before .before .before .before .before .before .before .before .args .text)) (c .before .before .before .before .before .before .before .before .before .skip2 .result) (conditionOf (drop (c .before .before .before .before .before .before .before .before .before .skip2 .result) (now (c .before .before .before .before .before .before .before .before .before .before .before .before .before .before .before .before .before .before .before .before .args .text)))) (c .before .before .before .before .before .before .before .before .before .before .before .belief .given .0 .1 .0) (c .before .before .before .before .before .before .before .before .before .before .before .before .before .before .before .read-tree .last .1 .1 .0) (c .before .before .before .goal .given .0 .0) (c .before .before .before .goal .given .0 .1 .0) (c .before .before .before .before .before .before .before .read-tree2 .last .1 .1 .0) (subst (λ l. LineReads conditionIn (now (c .before .before .before .before .before .before .before .before .before .before .before .before .before .before .before .before .before .before .before .before .args .text)) (c .before .before .before .before .before .before .before .before .before .skip2 .result) (conditionOf (drop (c .before .before .before .before .before .before .before .before .before .skip2 .result) (now (c .before .before .before .before .before .before .before .before .before .before .before .before .before .before .before .before .before .before .before .before .args .text)))) (c .before .before .before .before .before .before .before .before .before .before .before .belief .given .0 .1 .0) (c .before .before .before .before .before .before .before .before .before .before .before .before .before .before .before .read-tree .last .1 .1 .0) l (c .before .before .before .before .before .before .before .read-tree2 .last .1 .1 .0)) (c .before .before .before .goal .given .1) (c .before .before .before .before .before .before .before .read-tree2 .ensures)) in (r .0, r .2)
+    let r = line-at conditionIn (now (c .before .before .before .before .before .before .before .before .before .before .before .before .before .before .before .before .before .before .before .before .args .text)) (c .before .before .before .before .before .before .before .before .before .skip2 .result) (conditionOf (drop (c .before .before .before .before .before .before .before .before .before .skip2 .result) (now (c .before .before .before .before .before .before .before .before .before .before .before .before .before .before .before .before .before .before .before .before .args .text)))) (c .before .before .before .before .before .before .before .before .before .before .before .belief .given .0 .1 .0) (c .before .before .before .before .before .before .before .before .before .before .before .before .before .before .before .read-tree .last .1 .1 .0) (c .before .before .before .goal .given .0 .0) (c .before .before .before .goal .given .0 .1 .0) (c .before .before .before .before .before .before .before .read-tree2 .last .1 .1 .0) (subst (λ l. ReadsPart conditionIn (now (c .before .before .before .before .before .before .before .before .before .before .before .before .before .before .before .before .before .before .before .before .args .text)) (c .before .before .before .before .before .before .before .before .before .skip2 .result) (conditionOf (drop (c .before .before .before .before .before .before .before .before .before .skip2 .result) (now (c .before .before .before .before .before .before .before .before .before .before .before .before .before .before .before .before .before .before .before .before .args .text)))) (c .before .before .before .before .before .before .before .before .before .before .before .belief .given .0 .1 .0) (c .before .before .before .before .before .before .before .before .before .before .before .before .before .before .before .read-tree .last .1 .1 .0) l (c .before .before .before .before .before .before .before .read-tree2 .last .1 .1 .0)) (c .before .before .before .goal .given .1) (c .before .before .before .before .before .before .before .read-tree2 .ensures)) in (r .0, r .2)
 
 same-length-3 : tie.Need-same-length-3
 same-length-3 c =
@@ -62,8 +62,8 @@ same-length-3 c =
 
 returns-3 : tie.Need-returns-3
 returns-3 c =
-    select-over (now (c .before .before .before .before .before .before .before .before .before .before .before .before .before .before .before .before .before .before .before .before .before .before .before .before .args .text)) (c .before .before .before .before .before .before .before .before .before .before .before .before .before .before .before .before .before .before .before .before .before .before .before .before .args .at) (c .before .before .before .before .before .before .before .before .before .before .before .before .before .before .before .before .before .before .before .before .before .skip .result) (c .before .before .before .before .before .before .before .before .before .before .before .before .before .before .before .before .before .before .before .before .before .before .before .before .args .m) (now (c .before .before .before .before .before .before .before .before .before .before .before .before .before .before .before .before .before .before .before .before .before .before .before .before .args .card)) (c .before .before .before .before .before .before .before .before .before .before .before .before .before .before .before .before .before .before .before .before .before .before .before .before .pre .0) (c .before .before .before .before .before .before .before .before .before .before .before .before .before .before .before .before .before .before .before .before .before .skip .ensures) (c .before .before .before .before .before .before .before .before .before .before .before .before .before .before .before .belief .given .0 .0) (c .before .before .before .before .before .before .before .before .before .before .before .before .before .before .before .belief .given .0 .1 .0) (c .before .before .before .before .before .before .before .before .before .before .before .before .before .before .before .before .before .before .before .read-tree .last .1 .1 .0) (subst (λ l. LineReads conditionIn (now (c .before .before .before .before .before .before .before .before .before .before .before .before .before .before .before .before .before .before .before .before .before .before .before .before .args .text)) (c .before .before .before .before .before .before .before .before .before .before .before .before .before .before .before .before .before .before .before .before .before .skip .result) (conditionOf (drop (c .before .before .before .before .before .before .before .before .before .before .before .before .before .before .before .before .before .before .before .before .before .skip .result) (now (c .before .before .before .before .before .before .before .before .before .before .before .before .before .before .before .before .before .before .before .before .before .before .before .before .args .text)))) (c .before .before .before .before .before .before .before .before .before .before .before .before .before .before .before .before .before .before .before .before .before .before .before .before .args .m) (now (c .before .before .before .before .before .before .before .before .before .before .before .before .before .before .before .before .before .before .before .before .before .before .before .before .args .card)) l (c .before .before .before .before .before .before .before .before .before .before .before .before .before .before .before .before .before .before .before .read-tree .last .1 .1 .0)) (c .before .before .before .before .before .before .before .before .before .before .before .before .before .before .before .belief .given .1) (c .before .before .before .before .before .before .before .before .before .before .before .before .before .before .before .before .before .before .before .read-tree .ensures)) (c .before .before .before .before .before .before .before .before .before .before .before .before .before .skip2 .result) (c .before .before .before .before .before .before .before .before .before .before .before .before .before .skip2 .ensures) (c .before .before .before .before .before .before .before .goal .given .0 .0) (c .before .before .before .before .before .before .before .goal .given .0 .1 .0) (c .before .before .before .before .before .before .before .before .before .before .before .read-tree2 .last .1 .1 .0) (subst (λ l. LineReads conditionIn (now (c .before .before .before .before .before .before .before .before .before .before .before .before .before .before .before .before .before .before .before .before .before .before .before .before .args .text)) (c .before .before .before .before .before .before .before .before .before .before .before .before .before .skip2 .result) (conditionOf (drop (c .before .before .before .before .before .before .before .before .before .before .before .before .before .skip2 .result) (now (c .before .before .before .before .before .before .before .before .before .before .before .before .before .before .before .before .before .before .before .before .before .before .before .before .args .text)))) (c .before .before .before .before .before .before .before .before .before .before .before .before .before .before .before .belief .given .0 .1 .0) (c .before .before .before .before .before .before .before .before .before .before .before .before .before .before .before .before .before .before .before .read-tree .last .1 .1 .0) l (c .before .before .before .before .before .before .before .before .before .before .before .read-tree2 .last .1 .1 .0)) (c .before .before .before .before .before .before .before .goal .given .1) (c .before .before .before .before .before .before .before .before .before .before .before .read-tree2 .ensures))
-    (c .before .before .before .before .last-node .result) (c .before .before .before .before .last-node .ensures) (c .before .before .before .read-selected .result .next) (c .before .before .before .read-selected .result .made) (c .before .before .before .read-selected .last .1 .1 .0) (c .before .before .before .read-selected .ensures)
+    select-over (now (c .before .before .before .before .before .before .before .before .before .before .before .before .before .before .before .before .before .before .before .before .before .before .before .before .args .text)) (c .before .before .before .before .before .before .before .before .before .before .before .before .before .before .before .before .before .before .before .before .before .before .before .before .args .at) (c .before .before .before .before .before .before .before .before .before .before .before .before .before .before .before .before .before .before .before .before .before .skip .result) (c .before .before .before .before .before .before .before .before .before .before .before .before .before .before .before .before .before .before .before .before .before .before .before .before .args .m) (now (c .before .before .before .before .before .before .before .before .before .before .before .before .before .before .before .before .before .before .before .before .before .before .before .before .args .card)) (c .before .before .before .before .before .before .before .before .before .before .before .before .before .before .before .before .before .before .before .before .before .before .before .before .pre .0) (c .before .before .before .before .before .before .before .before .before .before .before .before .before .before .before .before .before .before .before .before .before .skip .ensures) (c .before .before .before .before .before .before .before .before .before .before .before .before .before .before .before .belief .given .0 .0) (c .before .before .before .before .before .before .before .before .before .before .before .before .before .before .before .belief .given .0 .1 .0) (c .before .before .before .before .before .before .before .before .before .before .before .before .before .before .before .before .before .before .before .read-tree .last .1 .1 .0) (subst (λ l. ReadsPart conditionIn (now (c .before .before .before .before .before .before .before .before .before .before .before .before .before .before .before .before .before .before .before .before .before .before .before .before .args .text)) (c .before .before .before .before .before .before .before .before .before .before .before .before .before .before .before .before .before .before .before .before .before .skip .result) (conditionOf (drop (c .before .before .before .before .before .before .before .before .before .before .before .before .before .before .before .before .before .before .before .before .before .skip .result) (now (c .before .before .before .before .before .before .before .before .before .before .before .before .before .before .before .before .before .before .before .before .before .before .before .before .args .text)))) (c .before .before .before .before .before .before .before .before .before .before .before .before .before .before .before .before .before .before .before .before .before .before .before .before .args .m) (now (c .before .before .before .before .before .before .before .before .before .before .before .before .before .before .before .before .before .before .before .before .before .before .before .before .args .card)) l (c .before .before .before .before .before .before .before .before .before .before .before .before .before .before .before .before .before .before .before .read-tree .last .1 .1 .0)) (c .before .before .before .before .before .before .before .before .before .before .before .before .before .before .before .belief .given .1) (c .before .before .before .before .before .before .before .before .before .before .before .before .before .before .before .before .before .before .before .read-tree .ensures)) (c .before .before .before .before .before .before .before .before .before .before .before .before .before .skip2 .result) (c .before .before .before .before .before .before .before .before .before .before .before .before .before .skip2 .ensures) (c .before .before .before .before .before .before .before .goal .given .0 .0) (c .before .before .before .before .before .before .before .goal .given .0 .1 .0) (c .before .before .before .before .before .before .before .before .before .before .before .read-tree2 .last .1 .1 .0) (subst (λ l. ReadsPart conditionIn (now (c .before .before .before .before .before .before .before .before .before .before .before .before .before .before .before .before .before .before .before .before .before .before .before .before .args .text)) (c .before .before .before .before .before .before .before .before .before .before .before .before .before .skip2 .result) (conditionOf (drop (c .before .before .before .before .before .before .before .before .before .before .before .before .before .skip2 .result) (now (c .before .before .before .before .before .before .before .before .before .before .before .before .before .before .before .before .before .before .before .before .before .before .before .before .args .text)))) (c .before .before .before .before .before .before .before .before .before .before .before .before .before .before .before .belief .given .0 .1 .0) (c .before .before .before .before .before .before .before .before .before .before .before .before .before .before .before .before .before .before .before .read-tree .last .1 .1 .0) l (c .before .before .before .before .before .before .before .before .before .before .before .read-tree2 .last .1 .1 .0)) (c .before .before .before .before .before .before .before .goal .given .1) (c .before .before .before .before .before .before .before .before .before .before .before .read-tree2 .ensures))
+    (c .before .before .before .before .last-in .result) (c .before .before .before .before .last-in .ensures) (c .before .before .before .read-selected .result .next) (c .before .before .before .read-selected .result .made) (c .before .before .before .read-selected .last .1 .1 .0) (c .before .before .before .read-selected .ensures)
 
 pub read-select-spec : {M : Type 1} → statement M
 read-select-spec =
@@ -81,7 +81,7 @@ read-select-spec =
     enum-told-2
     same-length-2
     returns-2
-    last-node-requires
+    last-in-requires
     read-selected-requires
     same-length-3
     returns-3)

@@ -21,8 +21,8 @@ pool-size-requires-2 c κs = search needs
 more-than-requires : tie.Need-more-than-requires
 more-than-requires c κs = search needs
 
-last-node-requires : tie.Need-last-node-requires
-last-node-requires c κs = search needs
+last-in-requires : tie.Need-last-in-requires
+last-in-requires c κs = search needs
 
 behind-line-requires : tie.Need-behind-line-requires
 behind-line-requires c κs = search needs
@@ -36,7 +36,7 @@ same-length c = search needs
 returns : tie.Need-returns
 returns c =
     selected-steps (now (c .before .before .before .before .before .before .before .before .before .before .before .before .before .before .before .before .before .args .text)) (c .before .before .before .before .before .before .before .before .before .before .before .before .before .before .before .before .before .args .at) (c .before .before .before .before .before .before .before .before .before .before .before .before .before .before .skip .result) (c .before .before .before .before .before .before .before .before .before .before .before .before .plan-in .result .next) (c .before .before .before .before .before .before .before .before .before .before .before .before .before .before .before .before .before .args .m) (now (c .before .before .before .before .before .before .before .before .before .before .before .before .before .before .before .before .before .args .card)) (c .before .before .before .before .before .before .before .before .before .before .before .before .before .before .before .before .before .pre .1) (c .before .before .before .before .before .before .before .before .before .before .before .before .plan-in .result .made) (c .before .before .before .before .before .before .before .before .before .before .before .before .plan-in .last .1 .1 .0) (c .before .before .before .before .behind-line .result) (c .before .before .put-selection .result) (c .before .before .put-selection .last .0)
-    (c .before .before .before .before .before .before .before .before .before .before .before .before .before .before .before .before .before .args .belief) (c .before .before .before .before .before .last-node .result) (c .before .before .before .before .before .before .before .before .pool-size .result) (c .before .before .before .before .before .before .more-than .result) (c .before .before .before .before .before .before .before .before .before .before .before .before .before .before .skip .ensures) (c .before .before .before .before .before .before .before .before .before .before .before .before .plan-in .ensures) (c .before .before .before .before .behind-line .ensures) (c .before .before .before .before .before .last-node .ensures) (c .before .before .before .before .before .before .before .before .pool-size .ensures) (c .before .before .before .before .before .before .more-than .ensures ∙ (λ i. c .before .before .before .before .before .before .before .pool-size2 .ensures i - c .before .before .before .before .before .before .before .before .pool-size .ensures i)) (c .before .before .put-selection .ensures)
+    (c .before .before .before .before .before .before .before .before .before .before .before .before .before .before .before .before .before .args .belief) (c .before .before .before .before .before .last-in .result) (c .before .before .before .before .before .before .before .before .pool-size .result) (c .before .before .before .before .before .before .more-than .result) (c .before .before .before .before .before .before .before .before .before .before .before .before .before .before .skip .ensures) (c .before .before .before .before .before .before .before .before .before .before .before .before .plan-in .ensures) (c .before .before .before .before .behind-line .ensures) (c .before .before .before .before .before .last-in .ensures) (c .before .before .before .before .before .before .before .before .pool-size .ensures) (c .before .before .before .before .before .before .more-than .ensures ∙ (λ i. c .before .before .before .before .before .before .before .pool-size2 .ensures i - c .before .before .before .before .before .before .before .before .pool-size .ensures i)) (c .before .before .put-selection .ensures)
 
 pub read-selected-spec : {M : Type 1} → statement M
 read-selected-spec =
@@ -47,7 +47,7 @@ read-selected-spec =
     pool-size-requires
     pool-size-requires-2
     more-than-requires
-    last-node-requires
+    last-in-requires
     behind-line-requires
     put-selection-requires
     same-length

@@ -19,8 +19,8 @@ returns-2 : tie.Need-returns-2
 returns-2 c =
     rw (c .too-large2 .ensures) (specify-sets (c .before .before .before .before .args .m) (now (c .before .before .before .before .args .card)) (c .before .before .before .before .pre) (c .before .before .before .before .args .action) (c .before .before .before .before .args .fits) (c .before .before .before .before .args .add) (c .before .before .before .before .args .del) (not-true (c .before .before .before .before .args .fits) (c .before .if2 .taken)))
 
-last-node-requires : tie.Need-last-node-requires
-last-node-requires c κs = search needs
+last-in-requires : tie.Need-last-in-requires
+last-in-requires c κs = search needs
 
 cast-put-specification : tie.Need-cast-put-specification
 cast-put-specification c = search needs
@@ -33,7 +33,7 @@ same-length c = search needs
 
 returns-3 : tie.Need-returns-3
 returns-3 c =
-    specify-put (c .before .before .before .before .before .before .before .before .args .m) (now (c .before .before .before .before .before .before .before .before .args .card)) (c .before .before .before .before .before .before .before .before .pre) (c .before .before .before .before .before .before .before .before .args .action) (c .before .before .before .before .before .before .before .before .args .fits) (c .before .before .before .before .before .before .before .before .args .add) (c .before .before .before .before .before .before .before .before .args .del) (c .before .before .before .before .before .before .if1 .left) (not-false (c .before .before .before .before .before .before .before .before .args .fits) (c .before .before .before .before .before .if2 .left)) (c .before .before .before .before .last-node .result) (c .before .before .before .before .last-node .ensures) (c .before .before .put-specification .result) (c .before .before .put-specification .last .0) (c .before .before .put-specification .ensures)
+    specify-put (c .before .before .before .before .before .before .before .before .args .m) (now (c .before .before .before .before .before .before .before .before .args .card)) (c .before .before .before .before .before .before .before .before .pre) (c .before .before .before .before .before .before .before .before .args .action) (c .before .before .before .before .before .before .before .before .args .fits) (c .before .before .before .before .before .before .before .before .args .add) (c .before .before .before .before .before .before .before .before .args .del) (c .before .before .before .before .before .before .if1 .left) (not-false (c .before .before .before .before .before .before .before .before .args .fits) (c .before .before .before .before .before .if2 .left)) (c .before .before .before .before .last-in .result) (c .before .before .before .before .last-in .ensures) (c .before .before .put-specification .result) (c .before .before .put-specification .last .0) (c .before .before .put-specification .ensures)
 
 pub specify-spec : {M : Type 1} → statement M
 specify-spec =
@@ -43,7 +43,7 @@ specify-spec =
     returns
     too-large-requires-2
     returns-2
-    last-node-requires
+    last-in-requires
     cast-put-specification
     put-specification-requires
     same-length

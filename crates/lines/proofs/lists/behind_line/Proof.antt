@@ -1,5 +1,5 @@
 use Rattle.lines.proofs.Numbered.{line-none, line-here, line-on}
-use Rattle.notation.proofs.Values.{behindLine}
+use Rattle.notation.specs.Values.{behindLine}
 use mathlib.Core.Path.{_≡_, refl, sym, _∙_}
 use Prim.Native.Nat.{_-_, _≤_}
 use native.Mathlib.Omega.{arith}

@@ -1,6 +1,6 @@
 use Rattle.lines.proofs.Stepping.{lent-length, nodes-before-le, tree-nested, tree-steps}
 use Rattle.conditions.specs.Reads.{ReadsCondition}
-use Rattle.notation.proofs.Values.{conditionOf}
+use Rattle.notation.specs.Values.{conditionOf}
 use mathlib.Core.Path.{subst, refl, sym}
 use Prim.Native.Nat.{_≤_}
 use native.Mathlib.Omega.{arith}

@@ -1,7 +1,7 @@
 use Rattle.meaning.specs.Place.{twoBytes}
 use Rattle.lines.proofs.Sections.{weight-large, weight-full, weight-added}
 use lib.Seq.{paste}
-use mathlib.Core.Path.{refl, ap, _∙_}
+use mathlib.Core.Path.{refl, ap₂, _∙_}
 use mathlib.Core.List.{List}
 use Prim.Native.Nat.{ℕ, _+_, _*_}
 use borrow.Author.Needs.{needs}
@@ -27,6 +27,9 @@ returns-2 c =
 two-bytes-requires : tie.Need-two-bytes-requires
 two-bytes-requires c κs = search needs
 
+edition-1-header-requires : tie.Need-edition-1-header-requires
+edition-1-header-requires c κs = search needs
+
 mul-copy : tie.Need-mul-copy
 mul-copy c = search needs
 
@@ -47,10 +50,10 @@ same-length c = search needs
 
 returns-3 : tie.Need-returns-3
 returns-3 c =
-    let s = c .before .before .before .before .before .before .before .before .before in
+    let s = c .before .before .before .before .before .before .before .before .before .before in
     let a = s .args in
-    weight-added (twoBytes (a .w)) (a .m) (now (a .card)) (s .pre) refl (c .before .before .before .before .before .before .before .if1 .left) (c .before .before .before .before .before .before .if2 .left) (c .before .before .copy .last .0)
-    (c .before .before .copy .ensures ∙ ap (λ (x : List ℕ). paste (now (a .card)) (64 + 2 * a .m .weights) x 2) (c .before .before .before .before .before .two-bytes .ensures))
+    weight-added (twoBytes (a .w)) (a .m) (now (a .card)) (s .pre) refl (c .before .before .before .before .before .before .before .before .if1 .left) (c .before .before .before .before .before .before .before .if2 .left) (c .before .before .copy .last .0)
+    (c .before .before .copy .ensures ∙ ap₂ (λ k (x : List ℕ). paste (now (a .card)) (k + 2 * a .m .weights) x 2) (c .before .before .before .before .edition-1-header .ensures) (c .before .before .before .before .before .before .two-bytes .ensures))
 
 pub put-weight-spec : {M : Type 1} → statement M
 put-weight-spec =
@@ -60,6 +63,7 @@ put-weight-spec =
     too-large-requires
     returns-2
     two-bytes-requires
+    edition-1-header-requires
     mul-copy
     add-copy
     slice-aggregate-copy

@@ -1,7 +1,7 @@
 use Rattle.runs.specs.Step.{Reached}
 use Rattle.moves.proofs.Running.{chose, chose-none}
 use Rattle.moves.specs.Steps.{transitionOf, configurationAfter}
-use Rattle.layout.specs.PlaceParts.{lent}
+use Rattle.layout.specs.PlaceParts.{configured}
 use mathlib.Core.Path.{sym, ap, _∙_}
 use borrow.Author.Needs.{needs}
 use denote.Ref.{now}
@@ -11,29 +11,26 @@ use Rattle.moves.proofs.advance.advance.Tie as tie
 choose-requires : tie.Need-choose-requires
 choose-requires c κs = search needs
 
-enum-known-chosen : tie.Need-enum-known-chosen
-enum-known-chosen c = search needs
-
 enum-told : tie.Need-enum-told
 enum-told c = search needs
 
 returns : tie.Need-returns
 returns c =
     let a = c .before .before .before .before .before .args in
-    let d = lent (a .m) (now (a .plan)) in
+    let d = configured (a .m) (now (a .plan)) in
     let t = chose-none (a .l) (now (a .card)) d (sym (c .before .before .choose .ensures) ∙ c .enum-told .given .1) in
     (ap transitionOf (sym t), ap (λ (x : Reached). configurationAfter x d) (sym t))
 
 step-requires : tie.Need-step-requires
 step-requires c κs =
     let a = c .before .before .before .before .before .before .before .args in
-    let k = chose (a .l) (now (a .card)) (lent (a .m) (now (a .plan))) _ _ (sym (c .before .before .before .before .choose .ensures) ∙ c .before .before .chosen .given .1) in
+    let k = chose (a .l) (now (a .card)) (configured (a .m) (now (a .plan))) _ _ (sym (c .before .before .before .before .choose .ensures) ∙ c .before .before .chosen .given .1) in
     (c .before .before .before .before .before .before .before .pre .ready, k .0, k .1)
 
 returns-2 : tie.Need-returns-2
 returns-2 c =
     let a = c .before .before .before .before .before .before .before .before .args in
-    let d = lent (a .m) (now (a .plan)) in
+    let d = configured (a .m) (now (a .plan)) in
     let k = chose (a .l) (now (a .card)) d _ _ (sym (c .before .before .before .before .before .choose .ensures) ∙ c .before .before .before .chosen .given .1) in
     let e = c .step .ensures in
     (e .0 ∙ ap transitionOf (k .2), e .1 ∙ ap (λ (x : Reached). configurationAfter x d) (k .2))
@@ -41,4 +38,4 @@ returns-2 c =
 pub advance-spec : {M : Type 1} → statement M
 advance-spec =
     tie.close
-    (tie.spec choose-requires enum-known-chosen enum-told returns step-requires returns-2)
+    (tie.spec choose-requires (λ c. search needs) enum-told returns step-requires returns-2)

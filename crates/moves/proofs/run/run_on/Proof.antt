@@ -1,12 +1,12 @@
-use Rattle.choices.specs.declared.in_place.RanInPlace.{RanInPlace}
-use Rattle.choices.specs.InPlace.{ranWith}
+use Rattle.door.specs.declared.in_place.RanInPlace.{RanInPlace}
+use Rattle.door.specs.InPlace.{ranWith}
 use mathlib.Core.Bool.{true, false}
 use lib.ListN.{length-replicate, length}
 use Rattle.paper.proofs.Relation.{false≢true}
 use Rattle.meaning.specs.Configurations.{stateOf}
 use Rattle.choices.specs.Truth.{Marked}
 use Rattle.moves.proofs.Running.{Running, running-start, running-spent, running-rest, running-full, running-moved}
-use Rattle.layout.specs.PlaceParts.{lent}
+use Rattle.layout.specs.PlaceParts.{configured}
 use mathlib.Core.Path.{_≡_, ap, _∙_}
 use Prim.Native.Nat.{_-_}
 use native.Mathlib.Omega.{arith}
@@ -16,7 +16,7 @@ use Rattle.moves.proofs.run.run_on.Statement.{statement}
 use Rattle.moves.proofs.run.run_on.Tie as tie
 
 abbrev Inv-loop : tie.InvT-loop
-Inv-loop card l plan₀ budget cur₀ marks₀ known₀ count₀ plan cur marks known count = Running l card budget (stateOf (lent cur₀ plan₀)) (lent cur plan) count × (length marks ≡ 256) × (known ≡ true → Marked l card cur marks)
+Inv-loop card l plan₀ budget cur₀ marks₀ known₀ count₀ plan cur marks known count = Running l card budget (stateOf (configured cur₀ plan₀)) (configured cur plan) count × (length marks ≡ 256) × (known ≡ true → Marked l card cur marks)
 
 abbrev μ-loop : tie.MeasureT-loop
 μ-loop card l plan₀ budget cur₀ marks₀ known₀ count₀ plan cur marks known count = budget - count
@@ -27,7 +27,7 @@ no-marks-requires c κs = search needs
 loop-holds : tie.Need-loop-holds Inv-loop μ-loop
 loop-holds c =
     let a = c .before .before .args in (
-      running-start (a .l) (now (a .card)) (a .budget) (lent (a .m) (now (a .plan))) (c .before .before .pre),
+      running-start (a .l) (now (a .card)) (a .budget) (configured (a .m) (now (a .plan))) (c .before .before .pre),
       rw (c .no-marks .ensures) (length-replicate 256 false),
       λ e. absurd (false≢true e),
     )
@@ -52,7 +52,7 @@ loop-again c =
     let a = c .before .before .before .before .before .before .before .before .before .before .before .before .before .args in
     let l = c .before .before .before .before .before .before .before .before .before .before .loop in
     let s = c .before .before .before .before .advance in
-    let x = running-moved (a .l) (now (a .card)) (a .budget) (stateOf (lent (a .m) (now (a .plan)))) (lent (l .cur) (l .plan)) (l .count) (l .inv .0) (omega arith) (s .result) (s .last .1 .1 .1 .0) (s .ensures) _ _ (c .before .before .transition .given .1) in
+    let x = running-moved (a .l) (now (a .card)) (a .budget) (stateOf (configured (a .m) (now (a .plan)))) (configured (l .cur) (l .plan)) (l .count) (l .inv .0) (omega arith) (s .result) (s .last .1 .1 .1 .0) (s .ensures) _ _ (c .before .before .transition .given .1) in
     (x .goes, c .before .before .before .before .before .before .before .refresh .ensures .1, λ h. x .keeps h (c .before .before .before .before .before .before .before .refresh .last .1 .1 .1 .1 .0) (c .before .before .before .before .before .before .before .refresh .ensures .0))
 
 enum-told : tie.Need-enum-told Inv-loop μ-loop
@@ -67,7 +67,7 @@ returns c =
     let l = c .before .before .before .before .before .before .before .before .before .loop in
     let s = c .before .before .before .advance in
     ap (λ (x : RanInPlace). ranWith x (s .last .1 .1 .1 .0)) (c .ended .ensures)
-    ∙ running-rest (a .l) (now (a .card)) (a .budget) (stateOf (lent (a .m) (now (a .plan)))) (lent (l .cur) (l .plan)) (l .count) (l .inv .0) (omega (arith, c .before .before .before .before .before .before .before .before .loop-test .taken)) (s .result) (s .last .1 .1 .1 .0) (s .ensures) (c .before .enum-told .given .1)
+    ∙ running-rest (a .l) (now (a .card)) (a .budget) (stateOf (configured (a .m) (now (a .plan)))) (configured (l .cur) (l .plan)) (l .count) (l .inv .0) (omega (arith, c .before .before .before .before .before .before .before .before .loop-test .taken)) (s .result) (s .last .1 .1 .1 .0) (s .ensures) (c .before .enum-told .given .1)
 
 enum-told-2 : tie.Need-enum-told-2 Inv-loop μ-loop
 enum-told-2 c = search needs
@@ -81,7 +81,7 @@ returns-2 c =
     let l = c .before .before .before .before .before .before .before .before .before .loop in
     let s = c .before .before .before .advance in
     ap (λ (x : RanInPlace). ranWith x (s .last .1 .1 .1 .0)) (c .ended2 .ensures)
-    ∙ running-full (a .l) (now (a .card)) (a .budget) (stateOf (lent (a .m) (now (a .plan)))) (lent (l .cur) (l .plan)) (l .count) (l .inv .0) (omega (arith, c .before .before .before .before .before .before .before .before .loop-test .taken)) (s .result) (s .last .1 .1 .1 .0) (s .ensures) (c .before .enum-told2 .given .1)
+    ∙ running-full (a .l) (now (a .card)) (a .budget) (stateOf (configured (a .m) (now (a .plan)))) (configured (l .cur) (l .plan)) (l .count) (l .inv .0) (omega (arith, c .before .before .before .before .before .before .before .before .loop-test .taken)) (s .result) (s .last .1 .1 .1 .0) (s .ensures) (c .before .enum-told2 .given .1)
 
 ended-requires-3 : tie.Need-ended-requires-3 Inv-loop μ-loop
 ended-requires-3 c κs = search needs
@@ -90,7 +90,7 @@ returns-3 : tie.Need-returns-3 Inv-loop μ-loop
 returns-3 c =
     let a = c .before .before .before .before .before .args in
     let l = c .before .before .loop in
-    ap (λ (x : RanInPlace). ranWith x (l .plan)) (c .ended3 .ensures) ∙ running-spent (a .l) (now (a .card)) (a .budget) (stateOf (lent (a .m) (now (a .plan)))) (lent (l .cur) (l .plan)) (l .count) (l .inv .0) (omega arith)
+    ap (λ (x : RanInPlace). ranWith x (l .plan)) (c .ended3 .ensures) ∙ running-spent (a .l) (now (a .card)) (a .budget) (stateOf (configured (a .m) (now (a .plan)))) (configured (l .cur) (l .plan)) (l .count) (l .inv .0) (omega arith)
 
 pub run-on-spec : {M : Type 1} → statement M
 run-on-spec =

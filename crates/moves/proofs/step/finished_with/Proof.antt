@@ -11,9 +11,6 @@ returns c = left-some (c .before .args .finished) (c .before .args .n) (omega ar
 most-finished-requires : tie.Need-most-finished-requires
 most-finished-requires c κs = search needs
 
-add-result : tie.Need-add-result
-add-result c = search needs
-
 returns-2 : tie.Need-returns-2
 returns-2 c = left-none (c .before .before .before .args .finished) (c .before .before .before .args .n) (omega arith) (omega arith)
 
@@ -21,4 +18,4 @@ returns-3 : tie.Need-returns-3
 returns-3 c = c .before .most-finished .ensures ∙ left-none-most (c .before .before .before .args .finished) (c .before .before .before .args .n) (omega arith) (omega arith)
 
 pub finished-with-spec : {M : Type 1} → statement M
-finished-with-spec = tie.close (tie.spec returns most-finished-requires add-result returns-2 returns-3)
+finished-with-spec = tie.close (tie.spec returns most-finished-requires (λ c. search needs) returns-2 returns-3)

@@ -1,6 +1,6 @@
 use Rattle.paper.specs.Transitions.{select, act, revise}
-use Rattle.moves.specs.Steps.{Open}
-use Rattle.layout.specs.PlaceParts.{lent}
+use Rattle.moves.specs.Steps.{Enabled}
+use Rattle.layout.specs.PlaceParts.{configured}
 use mathlib.Core.Path.{_≡_}
 use native.Mathlib.Omega.{arith}
 use denote.Ref.{now}
@@ -10,20 +10,20 @@ use Rattle.moves.proofs.step.step.Tie as tie
 step-selection-requires : tie.Need-step-selection-requires
 step-selection-requires c κs =
     let a = c .before .before .before .args in
-    let k : Open (a .l) (now (a .card)) (lent (a .m) (now (a .plan))) (select (a .i)) = rw (c .before .match .keys1) at (c .before .before .before .pre .2) in
+    let k : Enabled (a .l) (now (a .card)) (configured (a .m) (now (a .plan))) (select (a .i)) = rw (c .before .match .keys1) at (c .before .before .before .pre .2) in
     (c .before .before .before .pre .0, k)
 
 step-action-requires : tie.Need-step-action-requires
 step-action-requires c κs =
     let a = c .before .before .before .args in
-    let k : Open (a .l) (now (a .card)) (lent (a .m) (now (a .plan))) (act (a .i)) = rw (c .before .match .keys2) at (c .before .before .before .pre .2) in
+    let k : Enabled (a .l) (now (a .card)) (configured (a .m) (now (a .plan))) (act (a .i)) = rw (c .before .match .keys2) at (c .before .before .before .pre .2) in
     (c .before .before .before .pre .0, k)
 
 step-revision-requires : tie.Need-step-revision-requires
 step-revision-requires c κs =
     let a = c .before .before .before .args in
     let e : c .before .before .before .args .kind ≡ 2 = omega arith in
-    let k : Open (a .l) (now (a .card)) (lent (a .m) (now (a .plan))) (revise (a .i)) = rw e at (c .before .before .before .pre .2) in
+    let k : Enabled (a .l) (now (a .card)) (configured (a .m) (now (a .plan))) (revise (a .i)) = rw e at (c .before .before .before .pre .2) in
     (c .before .before .before .pre .0, k)
 
 returns : tie.Need-returns

@@ -9,7 +9,7 @@ use Rattle.meaning.specs.declared.SpecificationEntry.{SpecificationEntry}
 use Rattle.moves.specs.Steps.{transitionOf, configurationAfter}
 use Rattle.moves.proofs.Finished.{finished-at}
 use Rattle.moves.proofs.Stepping.{specification-known, plan-not-empty, acted-length, acts-to}
-use Rattle.layout.specs.PlaceParts.{lent}
+use Rattle.layout.specs.PlaceParts.{configured}
 use mathlib.Core.Path.{sym, ap, ap₂, _∙_}
 use native.Mathlib.Omega.{arith}
 use borrow.Author.Needs.{needs}
@@ -21,10 +21,7 @@ use Rattle.moves.proofs.step.step_action.Tie as tie
 read-specification-requires : tie.Need-read-specification-requires
 read-specification-requires c κs =
     let a = c .before .args in
-    (c .before .pre .0 .card .layout, specification-known (a .l) (now (a .card)) (lent (a .m) (now (a .plan))) (c .before .pre .0) (a .i) (c .before .pre .1))
-
-cast-n : tie.Need-cast-n
-cast-n c = search needs
+    (c .before .pre .0 .card .layout, specification-known (a .l) (now (a .card)) (configured (a .m) (now (a .plan))) (c .before .pre .0) (a .i) (c .before .pre .1))
 
 union-requires : tie.Need-union-requires
 union-requires c κs = search needs
@@ -38,12 +35,12 @@ difference-requires-2 c κs = search needs
 drop-front-requires : tie.Need-drop-front-requires
 drop-front-requires c κs =
     let a = c .before .before .before .before .before .before .before .before .before .before .before .args in
-    (plan-not-empty (a .l) (now (a .card)) (lent (a .m) (now (a .plan))) (c .before .before .before .before .before .before .before .before .before .before .before .pre .0) (a .i) (c .before .before .before .before .before .before .before .before .before .before .before .pre .1), c .before .before .before .before .before .before .before .before .before .before .before .pre .0 .fits, c .before .before .before .before .before .before .before .before .before .before .before .pre .0 .zeros)
+    (plan-not-empty (a .l) (now (a .card)) (configured (a .m) (now (a .plan))) (c .before .before .before .before .before .before .before .before .before .before .before .pre .0) (a .i) (c .before .before .before .before .before .before .before .before .before .before .before .pre .1), c .before .before .before .before .before .before .before .before .before .before .before .pre .0 .fits, c .before .before .before .before .before .before .before .before .before .before .before .pre .0 .zeros)
 
 sub-taken : tie.Need-sub-taken
 sub-taken c =
     let a = c .before .before .before .before .before .before .before .before .before .before .before .before .args in
-    plan-not-empty (a .l) (now (a .card)) (lent (a .m) (now (a .plan))) (c .before .before .before .before .before .before .before .before .before .before .before .before .pre .0) (a .i) (c .before .before .before .before .before .before .before .before .before .before .before .before .pre .1)
+    plan-not-empty (a .l) (now (a .card)) (configured (a .m) (now (a .plan))) (c .before .before .before .before .before .before .before .before .before .before .before .before .pre .0) (a .i) (c .before .before .before .before .before .before .before .before .before .before .before .before .pre .1)
 
 taken-requires : tie.Need-taken-requires
 taken-requires c κs = (let f = c .before .before .before .before .before .before .before .before .before .before .before .before .pre .0 .fits in omega arith, omega arith)
@@ -53,18 +50,18 @@ unfolding configurationOf kind number σ′ γ′ specificationOf
 returns c =
     let a = c .before .before .before .before .before .before .before .before .before .before .before .before .before .args in
     let b = now (a .card) in
-    let d = lent (a .m) (now (a .plan)) in
-    let t = acts-to (a .l) (now (a .card)) (lent (a .m) (now (a .plan))) (c .before .before .before .before .before .before .before .before .before .before .before .before .before .pre .0) (a .i) (c .before .before .before .before .before .before .before .before .before .before .before .before .before .pre .1) in
+    let d = configured (a .m) (now (a .plan)) in
+    let t = acts-to (a .l) (now (a .card)) (configured (a .m) (now (a .plan))) (c .before .before .before .before .before .before .before .before .before .before .before .before .before .pre .0) (a .i) (c .before .before .before .before .before .before .before .before .before .before .before .before .before .pre .1) in
     let e = c .before .before .before .before .before .before .before .before .before .before .before .read-specification .ensures in
     let add = ap (λ (x : SpecificationEntry). x .add) e in
     let del = ap (λ (x : SpecificationEntry). x .del) e in
     let beliefs = c .before .before .before .before .difference .ensures ∙ ap₂ _∖_ (c .before .before .before .before .before .union .ensures ∙ ap (λ x. a .m .beliefs ∪ x) add) del in
     let goals = c .before .before .before .difference2 .ensures ∙ ap (λ x. a .m .goals ∖ x) beliefs in
-    let n = sym (acted-length (a .l) (now (a .card)) (lent (a .m) (now (a .plan))) (c .before .before .before .before .before .before .before .before .before .before .before .before .before .pre .0) (a .i) (c .before .before .before .before .before .before .before .before .before .before .before .before .before .pre .1)) in
+    let n = sym (acted-length (a .l) (now (a .card)) (configured (a .m) (now (a .plan))) (c .before .before .before .before .before .before .before .before .before .before .before .before .before .pre .0) (a .i) (c .before .before .before .before .before .before .before .before .before .before .before .before .before .pre .1)) in
     let f = finished-at (a .m .finished) _ _ n in
     let r = c .taken .ensures in (
       ap (λ (x : Stepped). x .transition) r ∙ ap transitionOf (sym t),
-      (λ j. lent (r j .mind) (c .before .drop-front .ensures j)) ∙ (λ j. lent (record { beliefs = beliefs j; goals = goals j; length = n j; phase = 2; finished = f j }) (padded (drop 1 (take (a .m .length) (now (a .plan)))))) ∙ ap (λ (x : Reached). configurationAfter x d) (sym t),
+      (λ j. configured (r j .mind) (c .before .drop-front .ensures j)) ∙ (λ j. configured (record { beliefs = beliefs j; goals = goals j; length = n j; phase = 2; finished = f j }) (padded (drop 1 (take (a .m .length) (now (a .plan)))))) ∙ ap (λ (x : Reached). configurationAfter x d) (sym t),
     )
 
 pub step-action-spec : {M : Type 1} → statement M
@@ -72,7 +69,7 @@ step-action-spec =
     tie.close
     (tie.spec
     read-specification-requires
-    cast-n
+    (λ c. search needs)
     union-requires
     difference-requires
     difference-requires-2

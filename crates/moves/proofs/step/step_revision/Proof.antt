@@ -8,7 +8,7 @@ use Rattle.meaning.specs.declared.RevisionEntry.{RevisionEntry}
 use Rattle.moves.specs.Steps.{transitionOf, configurationAfter}
 use Rattle.moves.proofs.Finished.{finished-at}
 use Rattle.moves.proofs.Stepping.{revision-known, head-fits, revised-length, revises-to, revises-full}
-use Rattle.layout.specs.PlaceParts.{lent}
+use Rattle.layout.specs.PlaceParts.{configured}
 use mathlib.Core.Path.{sym, ap, _∙_, subst}
 use mathlib.Core.List.{_++_}
 use Prim.Native.Nat.{_+_, _-_, _≤_, _<_}
@@ -22,18 +22,12 @@ use Rattle.moves.proofs.step.step_revision.Tie as tie
 read-revision-requires : tie.Need-read-revision-requires
 read-revision-requires c κs =
     let a = c .before .args in
-    (c .before .pre .0 .card .layout, revision-known (a .l) (now (a .card)) (lent (a .m) (now (a .plan))) (c .before .pre .0) (a .i) (c .before .pre .1))
-
-cast-n : tie.Need-cast-n
-cast-n c = search needs
+    (c .before .pre .0 .card .layout, revision-known (a .l) (now (a .card)) (configured (a .m) (now (a .plan))) (c .before .pre .0) (a .i) (c .before .pre .1))
 
 sub-after : tie.Need-sub-after
 sub-after c =
     let a = c .before .before .before .before .before .before .args in
-    rw (c .before .before .before .before .read-revision .ensures .0) (head-fits (a .l) (now (a .card)) (lent (a .m) (now (a .plan))) (c .before .before .before .before .before .before .pre .0) (a .i) (c .before .before .before .before .before .before .pre .1))
-
-add-after : tie.Need-add-after
-add-after c = search needs
+    rw (c .before .before .before .before .read-revision .ensures .0) (head-fits (a .l) (now (a .card)) (configured (a .m) (now (a .plan))) (c .before .before .before .before .before .before .pre .0) (a .i) (c .before .before .before .before .before .before .pre .1))
 
 longest-plan-requires : tie.Need-longest-plan-requires
 longest-plan-requires c κs = search needs
@@ -41,10 +35,10 @@ longest-plan-requires c κs = search needs
 returns : tie.Need-returns
 returns c =
     let a = c .before .before .before .before .before .before .before .before .before .args in
-    let d = lent (a .m) (now (a .plan)) in
+    let d = configured (a .m) (now (a .plan)) in
     let e = c .before .before .before .before .before .before .before .read-revision .ensures .0 in
     let long : 1024 < c .before .before .before .before .before .before .before .read-revision .result .body .length + (a .m .length - c .before .before .before .before .before .before .before .read-revision .result .head .length) = omega arith in
-    let t = revises-full (a .l) (now (a .card)) (lent (a .m) (now (a .plan))) (c .before .before .before .before .before .before .before .before .before .pre .0) (a .i) (c .before .before .before .before .before .before .before .before .before .pre .1) (rw e at long) in
+    let t = revises-full (a .l) (now (a .card)) (configured (a .m) (now (a .plan))) (c .before .before .before .before .before .before .before .before .before .pre .0) (a .i) (c .before .before .before .before .before .before .before .before .before .pre .1) (rw e at long) in
     (ap transitionOf (sym t), ap (λ (x : Reached). configurationAfter x d) (sym t))
 
 pool-at-requires : tie.Need-pool-at-requires
@@ -54,8 +48,8 @@ replace-front-requires : tie.Need-replace-front-requires
 replace-front-requires c κs =
     let a = c .before .before .before .before .before .before .before .before .before .before .before .before .before .args in
     let e = c .before .before .before .before .before .before .before .before .before .before .before .read-revision .ensures .0 in
-    let h : c .before .before .before .before .before .before .before .before .before .before .before .read-revision .result .head .length ≤ a .m .length = rw e (head-fits (a .l) (now (a .card)) (lent (a .m) (now (a .plan))) (c .before .before .before .before .before .before .before .before .before .before .before .before .before .pre .0) (a .i) (c .before .before .before .before .before .before .before .before .before .before .before .before .before .pre .1)) in
-    let k = revision-known (a .l) (now (a .card)) (lent (a .m) (now (a .plan))) (c .before .before .before .before .before .before .before .before .before .before .before .before .before .pre .0) (a .i) (c .before .before .before .before .before .before .before .before .before .before .before .before .before .pre .1) in
+    let h : c .before .before .before .before .before .before .before .before .before .before .before .read-revision .result .head .length ≤ a .m .length = rw e (head-fits (a .l) (now (a .card)) (configured (a .m) (now (a .plan))) (c .before .before .before .before .before .before .before .before .before .before .before .before .before .pre .0) (a .i) (c .before .before .before .before .before .before .before .before .before .before .before .before .before .pre .1)) in
+    let k = revision-known (a .l) (now (a .card)) (configured (a .m) (now (a .plan))) (c .before .before .before .before .before .before .before .before .before .before .before .before .before .pre .0) (a .i) (c .before .before .before .before .before .before .before .before .before .before .before .before .before .pre .1) in
     let g = subst (GoodSpan (a .l) 0) (sym (ap (λ (x : RevisionEntry). x .body) e)) (c .before .before .before .before .before .before .before .before .before .before .before .before .before .pre .0 .card .revisions (a .i) k .body) in
     let x = g .inside in
     let w = c .before .before .before .before .before .before .before .before .before .before .before .before .before .pre .0 .card .layout .ends in
@@ -71,17 +65,17 @@ unfolding plan configurationOf kind number
 returns-2 c =
     let a = c .before .before .before .before .before .before .before .before .before .before .before .before .before .before .before .args in
     let b = now (a .card) in
-    let d = lent (a .m) (now (a .plan)) in
+    let d = configured (a .m) (now (a .plan)) in
     let e = c .before .before .before .before .before .before .before .before .before .before .before .before .before .read-revision .ensures .0 in
     let short : c .before .before .before .before .before .before .before .before .before .before .before .before .before .read-revision .result .body .length + (a .m .length - c .before .before .before .before .before .before .before .before .before .before .before .before .before .read-revision .result .head .length) ≤ 1024 = omega arith in
-    let t = revises-to (a .l) (now (a .card)) (lent (a .m) (now (a .plan))) (c .before .before .before .before .before .before .before .before .before .before .before .before .before .before .before .pre .0) (a .i) (c .before .before .before .before .before .before .before .before .before .before .before .before .before .before .before .pre .1) (rw e at short) in
-    let n = ap (λ (x : RevisionEntry). x .body .length + (a .m .length - x .head .length)) e ∙ sym (revised-length (a .l) (now (a .card)) (lent (a .m) (now (a .plan))) (c .before .before .before .before .before .before .before .before .before .before .before .before .before .before .before .pre .0) (a .i) (c .before .before .before .before .before .before .before .before .before .before .before .before .before .before .before .pre .1)) in
+    let t = revises-to (a .l) (now (a .card)) (configured (a .m) (now (a .plan))) (c .before .before .before .before .before .before .before .before .before .before .before .before .before .before .before .pre .0) (a .i) (c .before .before .before .before .before .before .before .before .before .before .before .before .before .before .before .pre .1) (rw e at short) in
+    let n = ap (λ (x : RevisionEntry). x .body .length + (a .m .length - x .head .length)) e ∙ sym (revised-length (a .l) (now (a .card)) (configured (a .m) (now (a .plan))) (c .before .before .before .before .before .before .before .before .before .before .before .before .before .before .before .pre .0) (a .i) (c .before .before .before .before .before .before .before .before .before .before .before .before .before .before .before .pre .1)) in
     let moved = drop (c .before .before .before .before .before .before .before .before .before .before .before .before .before .read-revision .result .head .length) (take (a .m .length) (now (a .plan))) in
     let q = c .before .replace-front .ensures ∙ (λ j. padded (part b (c .before .before .before .pool-at .ensures j) (c .before .before .before .before .before .before .before .before .before .before .before .before .before .read-revision .result .body .length) ++ moved)) ∙ ap (λ (x : RevisionEntry). padded (plan (a .l) b (x .body) ++ drop (x .head .length) (take (a .m .length) (now (a .plan))))) e in
     let f = finished-at (a .m .finished) _ _ n in
     let r = c .taken .ensures in (
       ap (λ (x : Stepped). x .transition) r ∙ ap transitionOf (sym t),
-      (λ j. lent (r j .mind) (q j)) ∙ (λ j. lent (record { beliefs = a .m .beliefs; goals = a .m .goals; length = n j; phase = 0; finished = f j }) (padded (plan (a .l) b (revisionAt (a .l) b (a .i) .body) ++ drop (revisionAt (a .l) b (a .i) .head .length) (take (a .m .length) (now (a .plan)))))) ∙ ap (λ (x : Reached). configurationAfter x d) (sym t),
+      (λ j. configured (r j .mind) (q j)) ∙ (λ j. configured (record { beliefs = a .m .beliefs; goals = a .m .goals; length = n j; phase = 0; finished = f j }) (padded (plan (a .l) b (revisionAt (a .l) b (a .i) .body) ++ drop (revisionAt (a .l) b (a .i) .head .length) (take (a .m .length) (now (a .plan)))))) ∙ ap (λ (x : Reached). configurationAfter x d) (sym t),
     )
 
 pub step-revision-spec : {M : Type 1} → statement M
@@ -89,9 +83,9 @@ step-revision-spec =
     tie.close
     (tie.spec
     read-revision-requires
-    cast-n
+    (λ c. search needs)
     sub-after
-    add-after
+    (λ c. search needs)
     longest-plan-requires
     returns
     pool-at-requires

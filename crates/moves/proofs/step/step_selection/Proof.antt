@@ -8,7 +8,7 @@ use Rattle.meaning.specs.declared.SelectionEntry.{SelectionEntry}
 use Rattle.moves.specs.Steps.{transitionOf, configurationAfter}
 use Rattle.moves.proofs.Finished.{finished-at}
 use Rattle.moves.proofs.Stepping.{selection-known, plan-empty, plan-length, selects-to}
-use Rattle.layout.specs.PlaceParts.{lent}
+use Rattle.layout.specs.PlaceParts.{configured}
 use mathlib.Core.Path.{sym, ap, _∙_, subst}
 use mathlib.Core.List.{append-nil}
 use native.Mathlib.Omega.{arith}
@@ -21,7 +21,7 @@ use Rattle.moves.proofs.step.step_selection.Tie as tie
 read-selection-requires : tie.Need-read-selection-requires
 read-selection-requires c κs =
     let a = c .before .args in
-    (c .before .pre .0 .card .layout, selection-known (a .l) (now (a .card)) (lent (a .m) (now (a .plan))) (c .before .pre .0) (a .i) (c .before .pre .1))
+    (c .before .pre .0 .card .layout, selection-known (a .l) (now (a .card)) (configured (a .m) (now (a .plan))) (c .before .pre .0) (a .i) (c .before .pre .1))
 
 pool-at-requires : tie.Need-pool-at-requires
 pool-at-requires c κs = search needs
@@ -29,8 +29,8 @@ pool-at-requires c κs = search needs
 replace-front-requires : tie.Need-replace-front-requires
 replace-front-requires c κs =
     let a = c .before .before .before .before .before .before .before .args in
-    let z = plan-empty (a .l) (now (a .card)) (lent (a .m) (now (a .plan))) (c .before .before .before .before .before .before .before .pre .0) (a .i) (c .before .before .before .before .before .before .before .pre .1) in
-    let k = selection-known (a .l) (now (a .card)) (lent (a .m) (now (a .plan))) (c .before .before .before .before .before .before .before .pre .0) (a .i) (c .before .before .before .before .before .before .before .pre .1) in
+    let z = plan-empty (a .l) (now (a .card)) (configured (a .m) (now (a .plan))) (c .before .before .before .before .before .before .before .pre .0) (a .i) (c .before .before .before .before .before .before .before .pre .1) in
+    let k = selection-known (a .l) (now (a .card)) (configured (a .m) (now (a .plan))) (c .before .before .before .before .before .before .before .pre .0) (a .i) (c .before .before .before .before .before .before .before .pre .1) in
     let e = ap (λ (x : SelectionEntry). x .plan) (c .before .before .before .before .before .read-selection .ensures .0) in
     let g = subst (GoodSpan (a .l) 1) (sym e) (c .before .before .before .before .before .before .before .pre .0 .card .selections (a .i) k .plan) in
     let x = g .inside in
@@ -42,7 +42,7 @@ replace-front-requires c κs =
 taken-requires : tie.Need-taken-requires
 taken-requires c κs =
     let a = c .before .before .before .before .before .before .before .before .args in
-    let k = selection-known (a .l) (now (a .card)) (lent (a .m) (now (a .plan))) (c .before .before .before .before .before .before .before .before .pre .0) (a .i) (c .before .before .before .before .before .before .before .before .pre .1) in
+    let k = selection-known (a .l) (now (a .card)) (configured (a .m) (now (a .plan))) (c .before .before .before .before .before .before .before .before .pre .0) (a .i) (c .before .before .before .before .before .before .before .before .pre .1) in
     let e = ap (λ (x : SelectionEntry). x .plan) (c .before .before .before .before .before .before .read-selection .ensures .0) in
     let g = subst (GoodSpan (a .l) 1) (sym e) (c .before .before .before .before .before .before .before .before .pre .0 .card .selections (a .i) k .plan) in
     (g .fits, omega arith)
@@ -52,16 +52,16 @@ unfolding plan configurationOf kind number
 returns c =
     let a = c .before .before .before .before .before .before .before .before .before .args in
     let b = now (a .card) in
-    let d = lent (a .m) (now (a .plan)) in
-    let k = selection-known (a .l) (now (a .card)) (lent (a .m) (now (a .plan))) (c .before .before .before .before .before .before .before .before .before .pre .0) (a .i) (c .before .before .before .before .before .before .before .before .before .pre .1) in
-    let t = selects-to (a .l) (now (a .card)) (lent (a .m) (now (a .plan))) (c .before .before .before .before .before .before .before .before .before .pre .0) (a .i) (c .before .before .before .before .before .before .before .before .before .pre .1) in
+    let d = configured (a .m) (now (a .plan)) in
+    let k = selection-known (a .l) (now (a .card)) (configured (a .m) (now (a .plan))) (c .before .before .before .before .before .before .before .before .before .pre .0) (a .i) (c .before .before .before .before .before .before .before .before .before .pre .1) in
+    let t = selects-to (a .l) (now (a .card)) (configured (a .m) (now (a .plan))) (c .before .before .before .before .before .before .before .before .before .pre .0) (a .i) (c .before .before .before .before .before .before .before .before .before .pre .1) in
     let e = ap (λ (x : SelectionEntry). x .plan) (c .before .before .before .before .before .before .before .read-selection .ensures .0) in
     let n = ap (λ (x : SelectionEntry). x .plan .length) (c .before .before .before .before .before .before .before .read-selection .ensures .0) ∙ sym (plan-length (a .l) b d (c .before .before .before .before .before .before .before .before .before .pre .0) (a .i) 1 (selectionAt (a .l) b (a .i) .plan) (c .before .before .before .before .before .before .before .before .before .pre .0 .card .selections (a .i) k .plan)) in
     let f = finished-at (a .m .finished) _ _ n in
     let r = c .taken .ensures in
     let q = c .before .replace-front .ensures ∙ ap padded (append-nil _ ∙ (λ j. part b (c .before .before .before .before .before .pool-at .ensures j) (c .before .before .before .before .before .before .before .read-selection .result .plan .length)) ∙ ap (plan (a .l) b) e) in (
       ap (λ (x : Stepped). x .transition) r ∙ ap transitionOf (sym t),
-      (λ j. lent (r j .mind) (q j)) ∙ (λ j. lent (record { beliefs = a .m .beliefs; goals = a .m .goals; length = n j; phase = 1; finished = f j }) (padded (plan (a .l) b (selectionAt (a .l) b (a .i) .plan)))) ∙ ap (λ (x : Reached). configurationAfter x d) (sym t),
+      (λ j. configured (r j .mind) (q j)) ∙ (λ j. configured (record { beliefs = a .m .beliefs; goals = a .m .goals; length = n j; phase = 1; finished = f j }) (padded (plan (a .l) b (selectionAt (a .l) b (a .i) .plan)))) ∙ ap (λ (x : Reached). configurationAfter x d) (sym t),
     )
 
 pub step-selection-spec : {M : Type 1} → statement M

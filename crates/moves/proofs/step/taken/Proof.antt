@@ -5,12 +5,6 @@ use borrow.Author.Needs.{needs}
 use Rattle.moves.proofs.step.taken.Statement.{statement}
 use Rattle.moves.proofs.step.taken.Tie as tie
 
-cast-t7 : tie.Need-cast-t7
-cast-t7 c = search needs
-
-add-t8 : tie.Need-add-t8
-add-t8 c = search needs
-
 finished-with-requires : tie.Need-finished-with-requires
 finished-with-requires c κs = search needs
 
@@ -20,4 +14,4 @@ returns c =
     ap (λ f. record { mind = record { beliefs = a .beliefs; goals = a .goals; length = a .n; phase = (a .kind + 1) % 3; finished = f }; transition = Transition.Taken (a .kind) (a .i) }) (c .finished-with .ensures)
 
 pub taken-spec : {M : Type 1} → statement M
-taken-spec = tie.close (tie.spec cast-t7 add-t8 finished-with-requires returns)
+taken-spec = tie.close (tie.spec (λ c. search needs) (λ c. search needs) finished-with-requires returns)

@@ -3,9 +3,9 @@ use Rattle.meaning.specs.declared.Answer.the-variants.{Refused}
 use Rattle.meaning.specs.Configurations.{stateOf}
 use Rattle.meaning.specs.Why.{whyClosed}
 use Rattle.meaning.specs.Calls.{choice}
-use Rattle.layout.specs.PlaceParts.{lent}
-use Rattle.choices.specs.declared.ask.Asked.{Asked}
-use Rattle.choices.specs.Asking.{choiceAt, falseCondition, refusalBy}
+use Rattle.layout.specs.PlaceParts.{configured}
+use Rattle.door.specs.declared.asked.Asked.{Asked}
+use Rattle.door.specs.Asking.{choiceAt, falseCondition, refusalBy}
 use Rattle.moves.specs.Steps.{answerAsked}
 use Rattle.moves.proofs.Taking.{why-code, condition-known}
 use mathlib.Core.Path.{_≡_, sym, ap, _∙_}
@@ -16,41 +16,29 @@ use Rattle.moves.proofs.take.answer_asked.Statement.{statement}
 use Rattle.moves.proofs.take.answer_asked.Tie as tie
 
 abbrev q : tie.Start → Refusal
-q c = whyClosed (c .args .l) (now (c .args .card)) (stateOf (lent (c .args .m) (now (c .args .plan))) .mental) (choice (c .args .code))
+q c = whyClosed (c .args .l) (now (c .args .card)) (stateOf (configured (c .args .m) (now (c .args .plan))) .mental) (choice (c .args .code))
 
 -- why the choice is closed, by what asking for it answered
 closed-by : (c : tie.Start) (x : Asked) → c .args .asked ≡ x →
     let a = c .args in
-    let d = stateOf (lent (a .m) (now (a .plan))) .mental in
+    let d = stateOf (configured (a .m) (now (a .plan))) .mental in
     whyClosed (a .l) (now (a .card)) d (choice (a .code)) ≡ refusalBy x (falseCondition (a .l) (now (a .card)) d (choiceAt (a .code / 256) (a .code % 256)))
 closed-by c x e =
     let a = c .args in
-    let d = stateOf (lent (a .m) (now (a .plan))) .mental in
+    let d = stateOf (configured (a .m) (now (a .plan))) .mental in
     why-code (a .l) (now (a .card)) d (a .code) x (sym e ∙ c .pre .1)
 
 enum-told : tie.Need-enum-told
 enum-told c = search needs
 
-enum-told-2 : tie.Need-enum-told-2
-enum-told-2 c = search needs
-
-enum-told-3 : tie.Need-enum-told-3
-enum-told-3 c = search needs
-
-enum-told-4 : tie.Need-enum-told-4
-enum-told-4 c = search needs
-
 cast-kind : tie.Need-cast-kind
 cast-kind c =
-    let (k, i) = condition-known (c .before .before .before .args .l) (now (c .before .before .before .args .card)) (stateOf (lent (c .before .before .before .args .m) (now (c .before .before .before .args .plan))) .mental) (c .before .before .before .args .code) (sym (c .before .before .before .pre .1) ∙ c .enum-told4 .given .1) in
+    let (k, i) = condition-known (c .before .before .before .args .l) (now (c .before .before .before .args .card)) (stateOf (configured (c .before .before .before .args .m) (now (c .before .before .before .args .plan))) .mental) (c .before .before .before .args .code) (sym (c .before .before .before .pre .1) ∙ c .enum-told4 .given .1) in
     search (needs, k)
-
-cast-i : tie.Need-cast-i
-cast-i c = search needs
 
 false-condition-requires : tie.Need-false-condition-requires
 false-condition-requires c κs =
-    let (k, i) = condition-known (c .before .before .before .args .l) (now (c .before .before .before .args .card)) (stateOf (lent (c .before .before .before .args .m) (now (c .before .before .before .args .plan))) .mental) (c .before .before .before .args .code) (sym (c .before .before .before .pre .1) ∙ c .enum-told4 .given .1) in
+    let (k, i) = condition-known (c .before .before .before .args .l) (now (c .before .before .before .args .card)) (stateOf (configured (c .before .before .before .args .m) (now (c .before .before .before .args .plan))) .mental) (c .before .before .before .args .code) (sym (c .before .before .before .pre .1) ∙ c .enum-told4 .given .1) in
     (c .before .before .before .pre .0, k, i)
 
 returns : tie.Need-returns
@@ -76,11 +64,11 @@ answer-asked-spec =
     tie.close
     (tie.spec
     enum-told
-    enum-told-2
-    enum-told-3
-    enum-told-4
+    (λ c. search needs)
+    (λ c. search needs)
+    (λ c. search needs)
     cast-kind
-    cast-i
+    (λ c. search needs)
     false-condition-requires
     returns
     returns-2

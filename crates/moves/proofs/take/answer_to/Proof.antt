@@ -8,12 +8,6 @@ use Rattle.moves.proofs.take.answer_to.Tie as tie
 enum-told : tie.Need-enum-told
 enum-told c = search needs
 
-enum-told-2 : tie.Need-enum-told-2
-enum-told-2 c = search needs
-
-enum-told-3 : tie.Need-enum-told-3
-enum-told-3 c = search needs
-
 returns : tie.Need-returns
 returns c = ap (answerTo Refusal.NoRule) (sym (c .enum-told .given .1))
 
@@ -24,4 +18,4 @@ returns-3 : tie.Need-returns-3
 returns-3 c = ap (answerTo Refusal.NoRule) (sym (c .enum-told3 .given .1))
 
 pub answer-to-spec : {M : Type 1} → statement M
-answer-to-spec = tie.close (tie.spec enum-told enum-told-2 enum-told-3 returns returns-2 returns-3)
+answer-to-spec = tie.close (tie.spec enum-told (λ c. search needs) (λ c. search needs) returns returns-2 returns-3)

@@ -1,7 +1,7 @@
 use Rattle.meaning.specs.Card.{agentFor}
 use Rattle.meaning.specs.Configurations.{stateOf}
 use Rattle.moves.proofs.Taking.{asked-known, asked-unknown}
-use Rattle.layout.specs.PlaceParts.{lent}
+use Rattle.layout.specs.PlaceParts.{configured}
 use mathlib.Core.Path.{_∙_}
 use native.Mathlib.Omega.{arith}
 use borrow.Author.Needs.{needs}
@@ -12,13 +12,7 @@ use Rattle.moves.proofs.take.ask_code.Tie as tie
 returns : tie.Need-returns
 returns c =
     let a = c .before .before .args in
-    asked-unknown (agentFor (a .l) (now (a .card))) (stateOf (lent (a .m) (now (a .plan))) .mental) (a .code) (c .if1 .taken)
-
-cast-ask : tie.Need-cast-ask
-cast-ask c = search needs
-
-cast-ask-2 : tie.Need-cast-ask-2
-cast-ask-2 c = search needs
+    asked-unknown (agentFor (a .l) (now (a .card))) (stateOf (configured (a .m) (now (a .plan))) .mental) (a .code) (c .if1 .taken)
 
 ask-requires : tie.Need-ask-requires
 ask-requires c κs = (c .before .before .pre, omega arith)
@@ -26,7 +20,7 @@ ask-requires c κs = (c .before .before .pre, omega arith)
 returns-2 : tie.Need-returns-2
 returns-2 c =
     let a = c .before .before .before .args in
-    c .ask .ensures ∙ asked-known (agentFor (a .l) (now (a .card))) (stateOf (lent (a .m) (now (a .plan))) .mental) (a .code) (omega arith)
+    c .ask .ensures ∙ asked-known (agentFor (a .l) (now (a .card))) (stateOf (configured (a .m) (now (a .plan))) .mental) (a .code) (omega arith)
 
 pub ask-code-spec : {M : Type 1} → statement M
-ask-code-spec = tie.close (tie.spec returns cast-ask cast-ask-2 ask-requires returns-2)
+ask-code-spec = tie.close (tie.spec returns (λ c. search needs) (λ c. search needs) ask-requires returns-2)

@@ -17,9 +17,6 @@ row-requires c κs = search needs
 enum-told : tie.Need-enum-told
 enum-told c = search needs
 
-enum-told-2 : tie.Need-enum-told-2
-enum-told-2 c = search needs
-
 returns : tie.Need-returns
 unfolding nameTable
 returns c =
@@ -34,12 +31,6 @@ master-good-requires c κs = search needs
 
 row-requires-2 : tie.Need-row-requires-2
 row-requires-2 c κs = search needs
-
-enum-told-3 : tie.Need-enum-told-3
-enum-told-3 c = search needs
-
-enum-told-4 : tie.Need-enum-told-4
-enum-told-4 c = search needs
 
 returns-2 : tie.Need-returns-2
 unfolding nameTable
@@ -76,12 +67,12 @@ judge-spec =
     shed-good-requires
     row-requires
     enum-told
-    enum-told-2
+    (λ c. search needs)
     returns
     master-good-requires
     row-requires-2
-    enum-told-3
-    enum-told-4
+    (λ c. search needs)
+    (λ c. search needs)
     returns-2
     row-requires-3
     returns-3)

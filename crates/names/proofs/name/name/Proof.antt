@@ -12,12 +12,6 @@ named-requires c κs = search needs
 add-end : tie.Need-add-end
 add-end c = omega (arith, c .before .named .ensures .1)
 
-sub-result : tie.Need-sub-result
-sub-result c = search needs
-
-part-result-start : tie.Need-part-result-start
-part-result-start c = search needs
-
 part-result-end : tie.Need-part-result-end
 part-result-end c =
     let a = c .before .before .before .before .before .before .before .args in
@@ -34,12 +28,6 @@ returns c =
       its-bytes (now (a .card)) q (n .result) (n .ensures .0) (now (a .shed)) (own-sheet (now (a .card)) q (n .result) (n .ensures .0) (now (a .shed)) (now (a .master)) h),
       its-place (now (a .card)) q (n .result) (n .ensures .0) (a .shed .ptr) (a .master .ptr) (a .shed .ptr) (own-sheet (now (a .card)) q (n .result) (n .ensures .0) (a .shed .ptr) (a .master .ptr) h),
     )
-
-sub-result-2 : tie.Need-sub-result-2
-sub-result-2 c = search needs
-
-part-result-start-2 : tie.Need-part-result-start-2
-part-result-start-2 c = search needs
 
 part-result-end-2 : tie.Need-part-result-end-2
 part-result-end-2 c =
@@ -64,11 +52,11 @@ name-spec =
     (tie.spec
     named-requires
     add-end
-    sub-result
-    part-result-start
+    (λ c. search needs)
+    (λ c. search needs)
     part-result-end
     returns
-    sub-result-2
-    part-result-start-2
+    (λ c. search needs)
+    (λ c. search needs)
     part-result-end-2
     returns-2)

@@ -10,9 +10,6 @@ use Rattle.names.proofs.name.named.Tie as tie
 check-requires : tie.Need-check-requires
 check-requires c κs = search needs
 
-enum-known-checked : tie.Need-enum-known-checked
-enum-known-checked c = search needs
-
 enum-told : tie.Need-enum-told
 enum-told c = search needs
 
@@ -31,12 +28,6 @@ returns c =
 
 judge-requires : tie.Need-judge-requires
 judge-requires c κs = few-actions (now (c .before .before .before .before .before .before .before .args .card)) _ (sym (c .before .before .before .check .ensures) ∙ c .before .checked .given .1)
-
-enum-told-2 : tie.Need-enum-told-2
-enum-told-2 c = search needs
-
-enum-told-3 : tie.Need-enum-told-3
-enum-told-3 c = search needs
 
 refused-name-requires-2 : tie.Need-refused-name-requires-2
 refused-name-requires-2 c κs = search needs
@@ -67,14 +58,14 @@ named-spec =
     tie.close
     (tie.spec
     check-requires
-    enum-known-checked
+    (λ c. search needs)
     enum-told
     answer-of-requires
     refused-name-requires
     returns
     judge-requires
-    enum-told-2
-    enum-told-3
+    (λ c. search needs)
+    (λ c. search needs)
     refused-name-requires-2
     returns-2
     find-requires

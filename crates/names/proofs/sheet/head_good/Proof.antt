@@ -8,20 +8,8 @@ number-at-requires c κs = search needs
 number-at-requires-2 : tie.Need-number-at-requires-2
 number-at-requires-2 c κs = search needs
 
-mul-number-at : tie.Need-mul-number-at
-mul-number-at c = search needs
-
-add-number-at : tie.Need-add-number-at
-add-number-at c = search needs
-
 number-at-requires-3 : tie.Need-number-at-requires-3
 number-at-requires-3 c κs = search needs
-
-mul-result : tie.Need-mul-result
-mul-result c = search needs
-
-add-result : tie.Need-add-result
-add-result c = search needs
 
 returns : tie.Need-returns
 returns c = rw (c .number-at3 .ensures .0, c .before .number-at2 .ensures .0, c .before .before .number-at .ensures .0)
@@ -32,9 +20,9 @@ head-good-spec =
     (tie.spec
     number-at-requires
     number-at-requires-2
-    mul-number-at
-    add-number-at
+    (λ c. search needs)
+    (λ c. search needs)
     number-at-requires-3
-    mul-result
-    add-result
+    (λ c. search needs)
+    (λ c. search needs)
     returns)

@@ -8,20 +8,8 @@ use Rattle.names.proofs.sheet.name_span.Tie as tie
 returns : tie.Need-returns
 returns c = (span-none (now (c .before .before .args .sheet)) (c .before .before .args .action) (c .if1 .taken), omega arith)
 
-mul-number-at : tie.Need-mul-number-at
-mul-number-at c = search needs
-
-add-number-at : tie.Need-add-number-at
-add-number-at c = search needs
-
 number-at-requires : tie.Need-number-at-requires
 number-at-requires c κs = let p = c .before .before .pre .1 (omega arith) in omega (arith, p .0)
-
-mul-number-at-2 : tie.Need-mul-number-at-2
-mul-number-at-2 c = search needs
-
-add-number-at-2 : tie.Need-add-number-at-2
-add-number-at-2 c = search needs
 
 number-at-requires-2 : tie.Need-number-at-requires-2
 number-at-requires-2 c κs = let p = c .before .before .before .pre .1 (omega arith) in omega (arith, p .0)
@@ -42,11 +30,11 @@ name-span-spec =
     tie.close
     (tie.spec
     returns
-    mul-number-at
-    add-number-at
+    (λ c. search needs)
+    (λ c. search needs)
     number-at-requires
-    mul-number-at-2
-    add-number-at-2
+    (λ c. search needs)
+    (λ c. search needs)
     number-at-requires-2
     sub-t5
     returns-2)

@@ -19,14 +19,8 @@ abbrev μ-loop : tie.MeasureT-loop
 loop-holds : tie.Need-loop-holds Inv-loop μ-loop
 loop-holds c = let p = c .before .pre in (omega arith, sym (p .3), omega arith, λ j h l. absurd (omega arith))
 
-mul-number-at : tie.Need-mul-number-at Inv-loop μ-loop
-mul-number-at c = search needs
-
 number-at-requires : tie.Need-number-at-requires Inv-loop μ-loop
 number-at-requires c κs = search needs
-
-add-if1 : tie.Need-add-if1 Inv-loop μ-loop
-add-if1 c = search needs
 
 returns : tie.Need-returns Inv-loop μ-loop
 returns c =
@@ -40,9 +34,6 @@ returns c =
 
 utf8-part-requires : tie.Need-utf8-part-requires Inv-loop μ-loop
 utf8-part-requires c κs = search needs
-
-sub-i : tie.Need-sub-i Inv-loop μ-loop
-sub-i c = search needs
 
 loop-less : tie.Need-loop-less Inv-loop μ-loop
 loop-less c = search needs
@@ -83,12 +74,12 @@ names-good-spec =
     Inv-loop
     μ-loop
     loop-holds
-    mul-number-at
+    (λ c. search needs)
     number-at-requires
-    add-if1
+    (λ c. search needs)
     returns
     utf8-part-requires
-    sub-i
+    (λ c. search needs)
     loop-less
     loop-again
     returns-2

@@ -6,12 +6,6 @@ use denote.Ref.{now}
 use Rattle.names.proofs.sheet.sheet_good.Statement.{statement}
 use Rattle.names.proofs.sheet.sheet_good.Tie as tie
 
-mul-if1 : tie.Need-mul-if1
-mul-if1 c = search needs
-
-add-if1 : tie.Need-add-if1
-add-if1 c = search needs
-
 returns : tie.Need-returns
 returns c = let a = c .before .before .args in sheet-short (a .least) (a .n) (now (a .sheet)) (c .if1 .taken)
 
@@ -37,4 +31,4 @@ returns-3 c =
 pub sheet-good-spec : {M : Type 1} → statement M
 sheet-good-spec =
     tie.close
-    (tie.spec mul-if1 add-if1 returns head-good-requires names-good-requires returns-2 returns-3)
+    (tie.spec (λ c. search needs) (λ c. search needs) returns head-good-requires names-good-requires returns-2 returns-3)

@@ -13,9 +13,6 @@ use Rattle.place.proofs.judge.plan_good.Tie as tie
 plan-at-requires : tie.Need-plan-at-requires
 plan-at-requires c κs = search needs
 
-sub-actions-good : tie.Need-sub-actions-good
-sub-actions-good c = search needs
-
 actions-good-requires : tie.Need-actions-good-requires
 actions-good-requires c κs = search needs
 
@@ -25,7 +22,7 @@ returns c =
     let b = now (c .before .before .before .args .p) in
     let at = c .before .plan-at .ensures in
     let n : length (drop 44 b) ≡ length b - 44 = length-drop 44 b in
-    c .actions-good .ensures ∙ (λ i. actionsGood (c .before .before .before .args .actions) (part b (at i) (length b - at i))) ∙ ap (actionsGood (c .before .before .before .args .actions)) (take-all (length b - 44) (drop 44 b) (omega arith))
+    c .actions-good .ensures ∙ (λ i. actionsGood (c .before .before .before .args .l .actions) (part b (at i) (length b - at i))) ∙ ap (actionsGood (c .before .before .before .args .l .actions)) (take-all (length b - 44) (drop 44 b) (omega arith))
 
 pub plan-good-spec : {M : Type 1} → statement M
-plan-good-spec = tie.close (tie.spec plan-at-requires sub-actions-good actions-good-requires returns)
+plan-good-spec = tie.close (tie.spec plan-at-requires (λ c. search needs) actions-good-requires returns)

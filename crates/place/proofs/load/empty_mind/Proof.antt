@@ -8,9 +8,6 @@ use Rattle.place.proofs.load.empty_mind.Tie as tie
 size-requires : tie.Need-size-requires
 size-requires c κs = search needs
 
-slice-aggregate-fill : tie.Need-slice-aggregate-fill
-slice-aggregate-fill c = search needs
-
 fill-requires : tie.Need-fill-requires
 fill-requires c κs = search needs
 
@@ -19,4 +16,4 @@ unfolding part empty configurationOf
 returns c = λ i. record { mind = record { beliefs = replicate 16 0; goals = replicate 16 0; length = 0; phase = 0; finished = 0 }; plan = c .fill .ensures i }
 
 pub empty-mind-spec : {M : Type 1} → statement M
-empty-mind-spec = tie.close (tie.spec size-requires slice-aggregate-fill fill-requires returns)
+empty-mind-spec = tie.close (tie.spec size-requires (λ c. search needs) fill-requires returns)

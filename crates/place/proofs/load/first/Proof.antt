@@ -27,9 +27,6 @@ difference-requires c κs = search needs
 fill-requires : tie.Need-fill-requires
 fill-requires c κs = search needs
 
-cast-t12 : tie.Need-cast-t12
-cast-t12 c = search needs
-
 returns : tie.Need-returns
 unfolding configurationOf start plan initialPlan
 returns c =
@@ -55,5 +52,5 @@ first-spec =
     initial-goals-requires
     difference-requires
     fill-requires
-    cast-t12
+    (λ c. search needs)
     returns)

@@ -1,4 +1,5 @@
-use Rattle.place.proofs.Laws.{load-card-refused, is-good, load-good}
+use Rattle.place.proofs.Laws.{load-card-refused, load-good}
+use Rattle.door.proofs.Accepting.{accepted-card}
 use mathlib.Core.Path.{sym, _∙_}
 use borrow.Author.Needs.{needs}
 use denote.Ref.{now}
@@ -10,9 +11,6 @@ size-requires c κs = search needs
 
 check-requires : tie.Need-check-requires
 check-requires c κs = search needs
-
-enum-known-checked : tie.Need-enum-known-checked
-enum-known-checked c = search needs
 
 enum-told : tie.Need-enum-told
 enum-told c = search needs
@@ -30,7 +28,7 @@ returns c =
     load-card-refused b _ _ told (c .before .before .before .before .before .check .ensures) _ (c .answer-of .ensures) _ (c .before .empty-mind .ensures)
 
 first-requires : tie.Need-first-requires
-first-requires c κs = (is-good _ _ (sym (c .before .before .before .before .check .ensures) ∙ c .before .before .checked .given .1), search needs)
+first-requires c κs = (accepted-card _ _ (sym (c .before .before .before .before .check .ensures) ∙ c .before .before .checked .given .1), search needs)
 
 returns-2 : tie.Need-returns-2
 returns-2 c =
@@ -43,7 +41,7 @@ load-spec =
     (tie.spec
     size-requires
     check-requires
-    enum-known-checked
+    (λ c. search needs)
     enum-told
     empty-mind-requires
     answer-of-requires

@@ -14,16 +14,10 @@ use Rattle.place.proofs.restore.read.Tie as tie
 read-parts-requires : tie.Need-read-parts-requires
 read-parts-requires c κs = search needs
 
-cast-length : tie.Need-cast-length
-cast-length c = search needs
-
 cast-phase : tie.Need-cast-phase
 cast-phase c =
     let e = ap (λ (h : PlaceParts). h .phase) (c .before .before .before .read-parts .ensures .0) in
     search (needs, e)
-
-cast-finished : tie.Need-cast-finished
-cast-finished c = search needs
 
 plan-at-requires : tie.Need-plan-at-requires
 plan-at-requires c κs = search needs
@@ -47,4 +41,4 @@ returns c =
     λ i. record { mind = record { beliefs = h i .beliefs; goals = h i .goals; length = sym l i; phase = h i .phase; finished = h i .finished }; plan = q i }
 
 pub read-spec : {M : Type 1} → statement M
-read-spec = tie.close (tie.spec read-parts-requires cast-length cast-phase cast-finished plan-at-requires fill-requires returns)
+read-spec = tie.close (tie.spec read-parts-requires (λ c. search needs) cast-phase (λ c. search needs) plan-at-requires fill-requires returns)

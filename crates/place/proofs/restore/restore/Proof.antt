@@ -1,4 +1,6 @@
-use Rattle.place.proofs.Laws.{sized, restore-card-refused, is-good, restore-good, restore-refused}
+use Rattle.layout.proofs.GoodLayout.{counted}
+use Rattle.place.proofs.Laws.{sized, restore-card-refused, restore-good, restore-refused}
+use Rattle.door.proofs.Accepting.{accepted-card}
 use mathlib.Core.Path.{sym, _∙_}
 use borrow.Author.Needs.{needs}
 use denote.Ref.{now}
@@ -10,9 +12,6 @@ size-requires c κs = search needs
 
 check-requires : tie.Need-check-requires
 check-requires c κs = search needs
-
-enum-known-checked : tie.Need-enum-known-checked
-enum-known-checked c = search needs
 
 enum-told : tie.Need-enum-told
 enum-told c = search needs
@@ -30,13 +29,7 @@ returns c =
     restore-card-refused (now (a .card)) _ _ told (c .before .before .before .before .before .check .ensures) _ (c .answer-of .ensures) (now (a .p)) _ (c .before .empty-mind .ensures)
 
 judge-place-requires : tie.Need-judge-place-requires
-judge-place-requires c κs = is-good _ _ (sym (c .before .before .before .check .ensures) ∙ c .before .checked .given .1) .layout .atoms
-
-enum-told-2 : tie.Need-enum-told-2
-enum-told-2 c = search needs
-
-enum-told-3 : tie.Need-enum-told-3
-enum-told-3 c = search needs
+judge-place-requires c κs = counted _ _ (accepted-card _ _ (sym (c .before .before .before .check .ensures) ∙ c .before .checked .given .1) .layout)
 
 empty-mind-requires-2 : tie.Need-empty-mind-requires-2
 empty-mind-requires-2 c κs = search needs
@@ -64,14 +57,14 @@ restore-spec =
     (tie.spec
     size-requires
     check-requires
-    enum-known-checked
+    (λ c. search needs)
     enum-told
     empty-mind-requires
     answer-of-requires
     returns
     judge-place-requires
-    enum-told-2
-    enum-told-3
+    (λ c. search needs)
+    (λ c. search needs)
     empty-mind-requires-2
     returns-2
     read-requires

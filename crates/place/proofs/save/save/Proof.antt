@@ -1,13 +1,18 @@
-use Rattle.meaning.specs.declared.Answer.the-variants.{Done}
-use Rattle.meaning.specs.Calls.{written, saves, saveLeaves}
-use Rattle.place.proofs.Laws.{save-refused, save-no-room, save-done}
-use Rattle.card.specs.Rows.{answerOf}
-use Rattle.choices.proofs.Accepting.{accepted-card, card-refused, judged-so, is-ready, is-room, no-room}
-use Rattle.layout.specs.PlaceParts.{lent}
-use mathlib.Core.Path.{_≡_, sym, ap, _∙_}
+use Rattle.meaning.specs.declared.Layout.{Layout}
+use Rattle.meaning.specs.Calls.{saves, saveLeaves}
+use Rattle.meaning.specs.Configurations.{stateOf}
+use Rattle.meaning.specs.Place.{place}
+use Rattle.place.proofs.Laws.{place-length}
+use Rattle.door.specs.declared.in_place.WrittenInPlace.{WrittenInPlace}
+use Rattle.door.specs.InPlace.{writtenWith}
+use Rattle.door.proofs.Accepting.{admitted-good}
+use Rattle.door.proofs.Written.{refused-written, is-room, written-none, written-all}
+use Rattle.layout.specs.PlaceParts.{configured}
+use mathlib.Core.Path.{_≡_, ap₂, sym, _∙_}
+use mathlib.Core.List.{_++_}
 use borrow.Author.Needs.{needs}
 use denote.Ref.{now}
-use lib.ListN.{length}
+use lib.ListN.{length, drop}
 use Rattle.place.proofs.save.save.Statement.{statement}
 use Rattle.place.proofs.save.save.Tie as tie
 
@@ -18,11 +23,11 @@ lb c = search needs
 lg : (c : tie.Start) → length (c .args .m .goals) ≡ 16
 lg c = search needs
 
-check-requires : tie.Need-check-requires
-check-requires c κs = search needs
+admit-requires : tie.Need-admit-requires
+admit-requires c κs = search needs
 
-enum-known-checked : tie.Need-enum-known-checked
-enum-known-checked c = search needs
+enum-known-admitted : tie.Need-enum-known-admitted
+enum-known-admitted c = search needs
 
 enum-told : tie.Need-enum-told
 enum-told c = search needs
@@ -30,16 +35,23 @@ enum-told c = search needs
 answer-of-requires : tie.Need-answer-of-requires
 answer-of-requires c κs = search needs
 
-returns : tie.Need-returns
-returns c =
-    let a = c .before .before .before .before .before .before .args in
-    let b = now (a .card) in
-    let d = lent (a .m) (now (a .plan)) in
-    let told = c .before .enum-told .given .1 in
-    save-refused b d (now (a .out)) _ (card-refused b d _ (sym (c .before .before .before .check .ensures) ∙ told)) _ (c .answer-of .ensures ∙ ap answerOf told)
+refused-write-requires : tie.Need-refused-write-requires
+refused-write-requires c κs = search needs
 
-judge-configuration-requires : tie.Need-judge-configuration-requires
-judge-configuration-requires c κs = accepted-card (now (c .before .before .before .before .before .before .args .card)) _ (sym (c .before .before .before .check .ensures) ∙ c .before .checked .given .1) .layout .atoms
+returns : tie.Need-returns
+unfolding saves saveLeaves
+returns c =
+    let a = c .before .before .before .before .before .before .before .args in
+    refused-written (now (a .card)) (configured (a .m) (now (a .plan))) _ (c .before .before .before .before .admit .ensures .0) _ (c .before .before .enum-told .given .1) _ (c .before .answer-of .ensures) _ (now (a .out)) _ (c .refused-write .ensures)
+
+cast-place-size : tie.Need-cast-place-size
+cast-place-size c = search needs
+
+place-size-requires : tie.Need-place-size-requires
+place-size-requires c κs = let h = c .before .before .before .before .admit .ensures .1 _ (c .before .before .admitted .given .1) .fits in search (needs, h)
+
+judge-room-requires : tie.Need-judge-room-requires
+judge-room-requires c κs = search needs
 
 enum-told-2 : tie.Need-enum-told-2
 enum-told-2 c = search needs
@@ -47,116 +59,75 @@ enum-told-2 c = search needs
 enum-told-3 : tie.Need-enum-told-3
 enum-told-3 c = search needs
 
-returns-2 : tie.Need-returns-2
-returns-2 c =
-    let a = c .before .before .before .before .before .before .before .before .before .args in
-    let b = now (a .card) in
-    let d = lent (a .m) (now (a .plan)) in
-    let j = c .before .before .judge-configuration in
-    let g = sym (c .before .before .before .before .before .before .check .ensures) ∙ c .before .before .before .before .checked .given .1 in
-    let e = c .enum-told3 .given .1 in
-    save-refused b d (now (a .out)) _ (judged-so b d _ g (j .result) (j .ensures .0) ∙ e) _ e
-
-cast-place-size : tie.Need-cast-place-size
-cast-place-size c = search needs
-
-place-size-requires : tie.Need-place-size-requires
-place-size-requires c κs =
-    let a = c .before .before .before .before .before .before .before .before .before .before .args in
-    let b = now (a .card) in
-    let d = lent (a .m) (now (a .plan)) in
-    let j = c .before .before .before .judge-configuration in
-    let g = sym (c .before .before .before .before .before .before .before .check .ensures) ∙ c .before .before .before .before .before .checked .given .1 in
-    let r = is-ready b d _ g (j .result) (j .ensures .0) (c .before .enum-told2 .given .1) (j .ensures .1) in
-    let h = r .fits in
-    search (needs, h)
-
-judge-room-requires : tie.Need-judge-room-requires
-judge-room-requires c κs = search needs
-
-enum-told-4 : tie.Need-enum-told-4
-enum-told-4 c = search needs
-
-enum-told-5 : tie.Need-enum-told-5
-enum-told-5 c = search needs
+refused-write-requires-2 : tie.Need-refused-write-requires-2
+refused-write-requires-2 c κs = search needs
 
 -- "the lent list or place buffer is too short"
-too-short : (c : tie.After-enum-told5) →
-    let a = c .before .before .before .before .before .before .before .before .before .before .before .before .before .before .args in
-    let d = lent (a .m) (now (a .plan)) in
-    (written (c .before .before .judge-room .result) 0 d ≡ saves (now (a .card)) d (now (a .out))) × (now (a .out) ≡ saveLeaves (now (a .card)) d (now (a .out)))
-too-short c =
-    let a = c .before .before .before .before .before .before .before .before .before .before .before .before .before .before .args in
+too-short : (c : tie.After-enum-told3) (w : WrittenInPlace) → w ≡ record { answer = c .before .before .judge-room .result; count = 0 } →
+    let a = c .before .before .before .before .before .before .before .before .before .before .before .args in
+    let d = configured (a .m) (now (a .plan)) in
+    (writtenWith w d ≡ saves (now (a .card)) d (now (a .out))) × (now (a .out) ≡ saveLeaves (now (a .card)) d (now (a .out)))
+unfolding saves saveLeaves
+too-short c w q =
+    let a = c .before .before .before .before .before .before .before .before .before .before .before .args in
     let b = now (a .card) in
-    let d = lent (a .m) (now (a .plan)) in
-    let j = c .before .before .before .before .before .before .before .judge-configuration in
-    let g = sym (c .before .before .before .before .before .before .before .before .before .before .before .check .ensures) ∙ c .before .before .before .before .before .before .before .before .before .checked .given .1 in
-    let e = judged-so b d _ g (j .result) (j .ensures .0) ∙ c .before .before .before .before .before .enum-told2 .given .1 in
-    let r = is-ready b d _ g (j .result) (j .ensures .0) (c .before .before .before .before .before .enum-told2 .given .1) (j .ensures .1) in
-    let (h, t) = no-room (c .before .before .before .place-size .result) (length (now (a .out))) (c .before .before .judge-room .result) (c .before .before .judge-room .ensures) _ (c .enum-told5 .given .1) in
-    let s = save-no-room b d (now (a .out)) _ e r (lb (c .before .before .before .before .before .before .before .before .before .before .before .before .before .before)) (lg (c .before .before .before .before .before .before .before .before .before .before .before .before .before .before)) (rw (c .before .before .before .place-size .ensures) at h) in
-    (ap (λ x. written x 0 d) t ∙ s .0, s .1)
+    let d = configured (a .m) (now (a .plan)) in
+    let v = c .before .before .before .before .before .before .before .before .admit in
+    let g = c .before .before .before .before .before .before .admitted .given .1 in
+    let m = c .before .before .before .place-size .ensures ∙ place-length _ b d (v .ensures .1 _ g) (lb (c .before .before .before .before .before .before .before .before .before .before .before)) (lg (c .before .before .before .before .before .before .before .before .before .before .before)) in
+    let j = c .before .before .judge-room in
+    written-none b d (admitted-good b d _ (v .ensures .0) _ g .0) _ (now (a .out)) _ m (j .result) (j .ensures) _ (c .enum-told3 .given .1) w q
 
-returns-3 : tie.Need-returns-3
-returns-3 c = too-short c
+returns-2 : tie.Need-returns-2
+returns-2 c = too-short (c .before) _ (c .refused-write2 .ensures)
 
 cast-count : tie.Need-cast-count
 cast-count c =
-    let a = c .before .before .before .before .before .before .before .before .before .before .before .before .before .before .args in
-    let b = now (a .card) in
-    let d = lent (a .m) (now (a .plan)) in
-    let j = c .before .before .before .before .before .before .before .judge-configuration in
-    let g = sym (c .before .before .before .before .before .before .before .before .before .before .before .check .ensures) ∙ c .before .before .before .before .before .before .before .before .before .checked .given .1 in
-    let r = is-ready b d _ g (j .result) (j .ensures .0) (c .before .before .before .before .before .enum-told2 .given .1) (j .ensures .1) in
-    let h = r .fits in
+    let h = c .before .before .before .before .before .before .before .before .admit .ensures .1 _ (c .before .before .before .before .before .before .admitted .given .1) .fits in
     let n = c .before .before .before .place-size .ensures in
     search (needs, h, n)
 
 write-place-requires : tie.Need-write-place-requires
 write-place-requires c κs =
-    let a = c .before .before .before .before .before .before .before .before .before .before .before .before .before .before .before .args in
-    let b = now (a .card) in
-    let d = lent (a .m) (now (a .plan)) in
-    let j = c .before .before .before .before .before .before .before .before .judge-configuration in
-    let g = sym (c .before .before .before .before .before .before .before .before .before .before .before .before .check .ensures) ∙ c .before .before .before .before .before .before .before .before .before .before .checked .given .1 in
-    let r = is-ready b d _ g (j .result) (j .ensures .0) (c .before .before .before .before .before .before .enum-told2 .given .1) (j .ensures .1) in
-    (r .fits, rw (c .before .before .before .before .place-size .ensures) at (is-room (c .before .before .before .before .place-size .result) (length (now (a .out))) (c .before .before .before .judge-room .result) (c .before .before .before .judge-room .ensures) (c .before .enum-told4 .given .1)), r .room)
+    let s = c .before .before .before .before .place-size in
+    let j = c .before .before .before .judge-room in
+    let r = c .before .before .before .before .before .before .before .before .before .admit .ensures .1 _ (c .before .before .before .before .before .before .before .admitted .given .1) in
+    (r .fits, rw (s .ensures) at (is-room (s .result) (length (now (c .before .before .before .before .before .before .before .before .before .before .before .before .args .out))) (j .result) (j .ensures) (c .before .enum-told2 .given .1)), r .room)
 
 same-length : tie.Need-same-length
 same-length c = search needs
 
-returns-4 : tie.Need-returns-4
-returns-4 c =
-    let a = c .before .before .before .before .before .before .before .before .before .before .before .before .before .before .before .before .before .before .args in
+returns-3 : tie.Need-returns-3
+unfolding saves saveLeaves
+returns-3 c =
+    let a = c .before .before .before .before .before .before .before .before .before .before .before .before .before .before .before .args in
     let b = now (a .card) in
-    let d = lent (a .m) (now (a .plan)) in
-    let j = c .before .before .before .before .before .before .before .before .before .before .before .judge-configuration in
-    let g = sym (c .before .before .before .before .before .before .before .before .before .before .before .before .before .before .before .check .ensures) ∙ c .before .before .before .before .before .before .before .before .before .before .before .before .before .checked .given .1 in
-    let e = judged-so b d _ g (j .result) (j .ensures .0) ∙ c .before .before .before .before .before .before .before .before .before .enum-told2 .given .1 in
-    let r = is-ready b d _ g (j .result) (j .ensures .0) (c .before .before .before .before .before .before .before .before .before .enum-told2 .given .1) (j .ensures .1) in
-    let s = save-done b d (now (a .out)) _ e r (lb (c .before .before .before .before .before .before .before .before .before .before .before .before .before .before .before .before .before .before)) (lg (c .before .before .before .before .before .before .before .before .before .before .before .before .before .before .before .before .before .before)) _ (rw (c .before .before .before .before .before .before .before .place-size .ensures) at (is-room (c .before .before .before .before .before .before .before .place-size .result) (length (now (a .out))) (c .before .before .before .before .before .before .judge-room .result) (c .before .before .before .before .before .before .judge-room .ensures) (c .before .before .before .before .enum-told4 .given .1))) (c .before .before .write-place .ensures) in
-    (ap (λ k. written Done k d) (c .before .before .before .before .before .before .before .place-size .ensures) ∙ s .0, s .1)
+    let d = configured (a .m) (now (a .plan)) in
+    let v = c .before .before .before .before .before .before .before .before .before .before .before .before .admit in
+    let g = c .before .before .before .before .before .before .before .before .before .before .admitted .given .1 in
+    let m = c .before .before .before .before .before .before .before .place-size .ensures ∙ place-length _ b d (v .ensures .1 _ g) (lb (c .before .before .before .before .before .before .before .before .before .before .before .before .before .before .before)) (lg (c .before .before .before .before .before .before .before .before .before .before .before .before .before .before .before)) in
+    let j = c .before .before .before .before .before .before .judge-room in
+    written-all b d (admitted-good b d _ (v .ensures .0) _ g .0) _ (now (a .out)) _ m (j .result) (j .ensures) (c .before .before .before .before .enum-told2 .given .1) _
+    (c .before .before .write-place .ensures ∙ ap₂ (λ (x : Layout) k. place x (stateOf d) ++ drop k (now (a .out))) (v .ensures .1 _ g .card .layout .says) (sym (c .before .before .before .before .before .before .before .place-size .ensures) ∙ m))
 
 pub save-spec : {M : Type 1} → statement M
 save-spec =
     tie.close
     (tie.spec
-    check-requires
-    enum-known-checked
+    admit-requires
+    enum-known-admitted
     enum-told
     answer-of-requires
+    refused-write-requires
     returns
-    judge-configuration-requires
-    enum-told-2
-    enum-told-3
-    returns-2
     cast-place-size
     place-size-requires
     judge-room-requires
-    enum-told-4
-    enum-told-5
-    returns-3
+    enum-told-2
+    enum-told-3
+    refused-write-requires-2
+    returns-2
     cast-count
     write-place-requires
     same-length
-    returns-4)
+    returns-3)

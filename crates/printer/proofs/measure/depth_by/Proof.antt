@@ -1,3 +1,5 @@
+use Rattle.meaning.specs.Kinds.{nodeKind}
+use Rattle.meaning.proofs.NodeKinds.{leaf-kind}
 use Rattle.printer.specs.Measures.{around}
 use Rattle.printer.proofs.Measures.{is-leaf, depth-leaf}
 use Prim.Native.Nat.{_<_}
@@ -77,7 +79,7 @@ returns-4 c =
     let a = c .before .args in
     let r = c .match .rest in
     let h : a .kind < 3 = is-leaf (a .kind) (c .before .pre) (r .0 .0 .1) (r .0 .1) (r .1) in
-    rw (depth-leaf (a .kind) (around (a .p)) (around (a .q)) (a .a) (a .b) h)
+    rw (depth-leaf (leaf-kind (a .kind) (omega arith)) (around (nodeKind (a .p))) (around (nodeKind (a .q))) (a .a) (a .b))
 
 pub depth-by-spec : {M : Type 1} → statement M
 depth-by-spec =

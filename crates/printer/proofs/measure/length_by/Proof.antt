@@ -1,5 +1,6 @@
-use Rattle.printer.specs.Measures.{around}
-use Rattle.printer.proofs.Measures.{is-leaf, is-some, length-atom}
+use mathlib.Core.Logic.{⊎-elim}
+use Rattle.card.proofs.Laws.{either-of}
+use Rattle.printer.proofs.Measures.{is-leaf, is-some}
 use Prim.Native.Nat.{_≤_, _<_}
 use native.Mathlib.Omega.{arith}
 use borrow.Author.Needs.{needs}
@@ -111,8 +112,7 @@ returns-5 c =
     let r = c .before .match .rest in
     let g : 1 ≤ a .kind = is-some (a .kind) (r .0 .0 .0 .1) in
     let h : a .kind < 3 = is-leaf (a .kind) (c .before .before .pre) (r .0 .0 .1) (r .0 .1) (r .1) in
-    let e = length-atom (a .kind) (a .n) (around (a .p)) (around (a .q)) (a .a) (a .b) g h in
-    omega arith
+    ⊎-elim (λ e. rw e (omega arith)) (λ e. rw e (omega arith)) (either-of 1 (a .kind) g (omega arith))
 
 pub length-by-spec : {M : Type 1} → statement M
 length-by-spec =

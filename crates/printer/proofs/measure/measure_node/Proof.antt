@@ -27,7 +27,10 @@ element-copy-out-size-by-2 : tie.Need-element-copy-out-size-by-2
 element-copy-out-size-by-2 c = search needs
 
 size-by-requires : tie.Need-size-by-requires
-size-by-requires c κs = search needs
+size-by-requires c κs =
+    let a = c .before .before .before .before .before .before .before .before .args in
+    let p = c .before .before .before .before .before .before .before .before .pre in
+    rw (c .before .before .before .before .before .before .read-node .ensures) (node-rule (a .l) (now (a .card)) (p .0 .nodes) (a .i) (p .1) .kinds)
 
 element-copy-out-depth-by : tie.Need-element-copy-out-depth-by
 element-copy-out-depth-by c = search needs

@@ -1,5 +1,8 @@
 use Prim.Native.Nat.{_+_}
-use Rattle.printer.proofs.Measures.{size-leaf, size-two}
+use mathlib.Core.Logic.{⊎-elim}
+use Rattle.meaning.proofs.NodeKinds.{leaf-kind}
+use Rattle.card.proofs.Laws.{either-of}
+use Rattle.printer.proofs.Measures.{size-leaf}
 use native.Mathlib.Omega.{arith}
 use borrow.Author.Needs.{needs}
 use Rattle.printer.proofs.measure.size_by.Statement.{statement}
@@ -27,13 +30,13 @@ cast-result-2 : tie.Need-cast-result-2
 cast-result-2 c = search needs
 
 returns : tie.Need-returns
-returns c = let a = c .before .args in let e = size-leaf (a .kind) (a .a + 1) (a .b + 1) (omega arith) in omega arith
+returns c = let a = c .before .args in let e = size-leaf (leaf-kind (a .kind) (omega arith)) (a .a + 1) (a .b + 1) in omega arith
 
 returns-2 : tie.Need-returns-2
 returns-2 c = rw (c .before .if2 .taken) (omega arith)
 
 returns-3 : tie.Need-returns-3
-returns-3 c = let a = c .before .before .before .args in let e = size-two (a .kind) (a .a + 1) (a .b + 1) (omega arith) in omega arith
+returns-3 c = ⊎-elim (λ e. rw e (omega arith)) (λ e. rw e (omega arith)) (either-of 4 (c .before .before .before .args .kind) (omega arith) (omega arith))
 
 pub size-by-spec : {M : Type 1} → statement M
 size-by-spec =

@@ -1,5 +1,5 @@
 use Rattle.card.specs.Rows.{answerOf}
-use Rattle.choices.proofs.Accepting.{accepted-card}
+use Rattle.door.proofs.Accepting.{accepted-card}
 use Rattle.printer.proofs.Answers.{card-refused, no-such-node, such-node, node-printed}
 use mathlib.Core.Path.{sym, ap, _∙_}
 use borrow.Author.Needs.{needs}

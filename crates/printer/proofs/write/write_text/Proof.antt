@@ -1,6 +1,6 @@
 use Rattle.notation.specs.Printing.{treeAt, textOf}
 use Rattle.printer.specs.Tasks.{works, tasks}
-use Rattle.printer.proofs.Writing.{Writing, short, writing-start, writing-end, writing-top, writing-good, byte-fits, writing-byte, byte-less, split-fits, writing-split, split-less}
+use Rattle.printer.proofs.Writing.{WritingOn, short, writing-start, writing-end, writing-top, writing-good, byte-fits, writing-byte, byte-less, split-fits, writing-split, split-less}
 use mathlib.Core.Path.{_≡_, refl, ap, _∙_}
 use Prim.Native.Nat.{ℕ, _<_}
 use native.Mathlib.Omega.{arith}
@@ -11,7 +11,7 @@ use Rattle.printer.proofs.write.write_text.Statement.{statement}
 use Rattle.printer.proofs.write.write_text.Tie as tie
 
 abbrev Inv-loop : tie.InvT-loop
-Inv-loop card l node out₀ stack₀ top₀ at₀ out stack top at = Writing l card (textOf (treeAt l card node)) out₀ stack top out at
+Inv-loop card l node out₀ stack₀ top₀ at₀ out stack top at = WritingOn l card (textOf (treeAt l card node)) out₀ stack top out at
 
 abbrev μ-loop : tie.MeasureT-loop
 μ-loop card l node out₀ stack₀ top₀ at₀ out stack top at = works l card (tasks stack top)

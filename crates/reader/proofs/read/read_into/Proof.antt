@@ -1,5 +1,5 @@
 use lib.ListN.{length}
-use Rattle.notation.proofs.Values.{itemsOf}
+use Rattle.notation.specs.Values.{itemsOf}
 use Rattle.reader.proofs.Lining.{lines-nested, lines-held, lines-made}
 use borrow.Author.Needs.{needs}
 use denote.Ref.{now}

@@ -2,8 +2,8 @@ use mathlib.Core.Path.{_≡_, refl}
 use native.Mathlib.Omega.{arith}
 use lib.ListN.{length}
 use Rattle.meaning.specs.Refusals.{cardAnswer}
-use Rattle.choices.specs.declared.in_place.WrittenInPlace.{WrittenInPlace}
-use Rattle.choices.proofs.Accepting.{is-room}
+use Rattle.door.specs.declared.in_place.WrittenInPlace.{WrittenInPlace}
+use Rattle.door.proofs.Written.{is-room}
 use Rattle.reader.specs.Written.{WroteCard}
 use Rattle.reader.proofs.Writing.{card-told, card-refused, room-refused, card-written}
 use borrow.Author.Needs.{needs}

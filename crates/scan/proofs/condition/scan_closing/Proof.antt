@@ -1,6 +1,6 @@
 use Rattle.scan.proofs.Conditions.{after-close}
 use Rattle.scan.specs.Scans.{scanFrom}
-use Rattle.notation.proofs.Scanning.{State, after}
+use Rattle.notation.specs.Scanning.{ScanState, after}
 use Rattle.meaning.specs.Card.{Bytes}
 use mathlib.Core.Path.{_≡_, refl, _∙_}
 use Prim.Native.Nat.{ℕ, suc, _-_, _≤_}
@@ -13,13 +13,13 @@ use Rattle.scan.proofs.condition.scan_closing.Tie as tie
 
 abbrev Inv-loop : tie.InvT-loop
 Inv-loop text at brackets n₀ inside₀ n inside =
-    (at ≤ n) × (n ≤ length text) × (inside ≤ brackets) × ((w : Bytes) (k : State) → scanFrom text at (after brackets w k) ≡ scanFrom text n (after inside w k))
+    (at ≤ n) × (n ≤ length text) × (inside ≤ brackets) × ((w : Bytes) (k : ScanState) → scanFrom text at (after brackets w k) ≡ scanFrom text n (after inside w k))
 
 abbrev μ-loop : tie.MeasureT-loop
 μ-loop text at brackets n₀ inside₀ n inside = length text - n
 
 -- one bracket less
-one-less : (t : Bytes) (n i : ℕ) (w : Bytes) (k : State) → (i ≡ 0 → ⊥) → scanFrom t n (after i w k) ≡ scanFrom t n (after (suc (i - 1)) w k)
+one-less : (t : Bytes) (n i : ℕ) (w : Bytes) (k : ScanState) → (i ≡ 0 → ⊥) → scanFrom t n (after i w k) ≡ scanFrom t n (after (suc (i - 1)) w k)
 one-less t n i w k h = let e : i ≡ suc (i - 1) = omega arith in λ j. scanFrom t n (after (e j) w k)
 
 loop-holds : tie.Need-loop-holds Inv-loop μ-loop

@@ -1,6 +1,6 @@
 use Rattle.scan.proofs.Conditions.{over-short, over-there, over-on}
 use Rattle.scan.specs.Scans.{scanFrom, UnitOver, ConditionOver}
-use Rattle.notation.proofs.Scanning.{State, unit}
+use Rattle.notation.specs.Scanning.{ScanState, unit}
 use Rattle.meaning.specs.Card.{Bytes}
 use mathlib.Core.Path.{_≡_, refl, sym, _∙_, subst}
 use Prim.Native.Nat.{_-_, _≤_, _<_}
@@ -13,7 +13,7 @@ use Rattle.scan.proofs.condition.scan_condition.Tie as tie
 
 abbrev Inv-loop : tie.InvT-loop
 Inv-loop text at n₀ brackets₀ n brackets =
-    (at ≤ n) × (n ≤ length text) × (brackets ≤ n) × ((w : Bytes) (k : State) → scanFrom text at (unit 0 w k) ≡ scanFrom text n (unit brackets w k))
+    (at ≤ n) × (n ≤ length text) × (brackets ≤ n) × ((w : Bytes) (k : ScanState) → scanFrom text at (unit 0 w k) ≡ scanFrom text n (unit brackets w k))
 
 abbrev μ-loop : tie.MeasureT-loop
 μ-loop text at n₀ brackets₀ n brackets = length text - n

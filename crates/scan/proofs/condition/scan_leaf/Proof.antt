@@ -1,6 +1,6 @@
 use Rattle.scan.proofs.Scanning.{chained}
 use Rattle.scan.proofs.Conditions.{unit-short, unit-T, unit-B, unit-G, unit-wrong, either-letter, neither-letter}
-use Rattle.notation.proofs.Scanning.{number, unit, after}
+use Rattle.notation.specs.Scanning.{number, unit, after}
 use mathlib.Core.Logic.{⊎-elim}
 use mathlib.Core.Path.{refl}
 use Prim.Native.Nat.{_+_, _<_}

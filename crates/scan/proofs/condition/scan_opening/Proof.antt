@@ -1,6 +1,6 @@
 use Rattle.scan.proofs.Conditions.{unit-not, unit-open}
 use Rattle.scan.specs.Scans.{scanFrom}
-use Rattle.notation.proofs.Scanning.{State, unit}
+use Rattle.notation.specs.Scanning.{ScanState, unit}
 use Rattle.meaning.specs.Card.{Bytes}
 use mathlib.Core.Path.{_≡_, refl, _∙_}
 use Prim.Native.Nat.{_-_, _≤_}
@@ -13,7 +13,7 @@ use Rattle.scan.proofs.condition.scan_opening.Tie as tie
 
 abbrev Inv-loop : tie.InvT-loop
 Inv-loop text at brackets n₀ inside₀ n inside =
-    (at ≤ n) × (n ≤ length text) × (inside ≤ n) × ((w : Bytes) (k : State) → scanFrom text at (unit brackets w k) ≡ scanFrom text n (unit inside w k))
+    (at ≤ n) × (n ≤ length text) × (inside ≤ n) × ((w : Bytes) (k : ScanState) → scanFrom text at (unit brackets w k) ≡ scanFrom text n (unit inside w k))
 
 abbrev μ-loop : tie.MeasureT-loop
 μ-loop text at brackets n₀ inside₀ n inside = length text - n

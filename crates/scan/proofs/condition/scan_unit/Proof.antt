@@ -1,6 +1,6 @@
 use Rattle.scan.proofs.Scanning.{passed}
 use Rattle.scan.specs.Scans.{placeOf, Scans}
-use Rattle.notation.proofs.Scanning.{unit, after}
+use Rattle.notation.specs.Scanning.{unit, after}
 use mathlib.Core.List.{[]}
 use mathlib.Core.Path.{_∙_, subst}
 use Prim.Native.Nat.{_≤_}

@@ -1,7 +1,7 @@
 use Rattle.scan.proofs.Stages.{staged-over, a-wrong}
 use Rattle.scan.specs.Scans.{LineOver, KindOver}
 use Rattle.notation.specs.Words.{word}
-use Rattle.notation.proofs.Scanning.{rest, number, end, atoms-line, action-line}
+use Rattle.notation.specs.Scanning.{rest, number, end, atoms-line, action-line}
 use mathlib.Core.Path.{sym, subst}
 use native.Mathlib.Omega.{arith}
 use borrow.Author.Needs.{needs}

@@ -1,6 +1,6 @@
 use Rattle.scan.proofs.Stages.{line-begin, staged-over, kind-there, kind-wrong}
 use Rattle.scan.specs.Scans.{beginLine, LineOver}
-use Rattle.notation.proofs.Scanning.{begin-line}
+use Rattle.notation.specs.Scanning.{begin-line}
 use mathlib.Core.Path.{sym, subst}
 use mathlib.Core.Bool.{_&&_}
 use native.Mathlib.Omega.{arith}

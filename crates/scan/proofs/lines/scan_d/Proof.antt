@@ -1,6 +1,6 @@
 use Rattle.scan.proofs.Stages.{line-do, staged-over, kind-there, kind-wrong}
 use Rattle.scan.specs.Scans.{doLine, LineOver}
-use Rattle.notation.proofs.Scanning.{do-line}
+use Rattle.notation.specs.Scanning.{do-line}
 use mathlib.Core.Path.{sym, subst}
 use mathlib.Core.Bool.{_&&_}
 use native.Mathlib.Omega.{arith}

@@ -1,6 +1,6 @@
 use Rattle.scan.proofs.Stages.{staged-over, next-empty, next-on, next-kind, next-wrong}
 use Rattle.scan.specs.Scans.{startOf, LineOver}
-use Rattle.notation.proofs.Scanning.{lines, remark, step}
+use Rattle.notation.specs.Scanning.{lines, remark, step}
 use mathlib.Core.Path.{refl, sym, subst}
 use Prim.Native.Nat.{_+_}
 use borrow.Author.Needs.{needs}

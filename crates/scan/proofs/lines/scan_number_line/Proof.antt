@@ -1,6 +1,6 @@
 use Rattle.scan.proofs.Scanning.{passed, failed, chained}
 use Rattle.notation.specs.Words.{word}
-use Rattle.notation.proofs.Scanning.{rest, number, end}
+use Rattle.notation.specs.Scanning.{rest, number, end}
 use mathlib.Core.Path.{refl}
 use native.Mathlib.Omega.{arith}
 use borrow.Author.Needs.{needs}

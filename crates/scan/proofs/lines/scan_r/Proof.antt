@@ -1,6 +1,6 @@
 use Rattle.scan.proofs.Stages.{line-revise, staged-over, kind-there, kind-wrong}
 use Rattle.scan.specs.Scans.{reviseLine, LineOver}
-use Rattle.notation.proofs.Scanning.{revise-line}
+use Rattle.notation.specs.Scanning.{revise-line}
 use mathlib.Core.Path.{sym, subst}
 use mathlib.Core.Bool.{_&&_}
 use native.Mathlib.Omega.{arith}

@@ -1,6 +1,6 @@
 use Rattle.scan.proofs.Stages.{line-select, staged-over, kind-there, kind-wrong}
 use Rattle.scan.specs.Scans.{selectLine, LineOver}
-use Rattle.notation.proofs.Scanning.{select-line}
+use Rattle.notation.specs.Scanning.{select-line}
 use mathlib.Core.Path.{sym, subst}
 use mathlib.Core.Bool.{_&&_}
 use native.Mathlib.Omega.{arith}

@@ -1,6 +1,6 @@
 use Rattle.scan.proofs.Stages.{text-wrong, text-over, text-short}
 use Rattle.scan.specs.Scans.{scanFrom, startOf, NextLine}
-use Rattle.notation.proofs.Scanning.{first, lines}
+use Rattle.notation.specs.Scanning.{first, lines}
 use mathlib.Core.Path.{_≡_, refl, _∙_, subst}
 use Prim.Native.Nat.{_-_, _≤_}
 use native.Mathlib.Omega.{arith}

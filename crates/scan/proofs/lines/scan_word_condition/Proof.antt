@@ -1,5 +1,5 @@
 use Rattle.scan.proofs.Scanning.{passed, failed, chained}
-use Rattle.notation.proofs.Scanning.{rest, unit}
+use Rattle.notation.specs.Scanning.{rest, unit}
 use mathlib.Core.List.{_∷_}
 use mathlib.Core.Path.{refl}
 use borrow.Author.Needs.{needs}

@@ -1,5 +1,5 @@
 use Rattle.scan.proofs.Scanning.{passed, failed, chained}
-use Rattle.notation.proofs.Scanning.{rest, list-end, end}
+use Rattle.notation.specs.Scanning.{rest, list-end, end}
 use mathlib.Core.Path.{refl, _∙_}
 use native.Mathlib.Omega.{arith}
 use borrow.Author.Needs.{needs}

@@ -1,5 +1,5 @@
 use Rattle.scan.proofs.Scanning.{passed, failed}
-use Rattle.notation.proofs.Scanning.{rest, list}
+use Rattle.notation.specs.Scanning.{rest, list}
 use mathlib.Core.List.{_∷_}
 use mathlib.Core.Path.{refl, _∙_}
 use native.Mathlib.Omega.{arith}

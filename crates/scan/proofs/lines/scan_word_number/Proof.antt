@@ -1,5 +1,5 @@
 use Rattle.scan.proofs.Scanning.{passed, failed, chained}
-use Rattle.notation.proofs.Scanning.{rest, number}
+use Rattle.notation.specs.Scanning.{rest, number}
 use mathlib.Core.Path.{refl}
 use borrow.Author.Needs.{needs}
 use denote.Ref.{now}

@@ -1,6 +1,6 @@
 use Rattle.scan.proofs.Scanning.{digits-over, digits-stop, digits-on}
 use Rattle.scan.specs.Scans.{scanFrom}
-use Rattle.notation.proofs.Scanning.{State, digits}
+use Rattle.notation.specs.Scanning.{ScanState, digits}
 use mathlib.Core.Path.{_≡_, refl, sym, _∙_}
 use Prim.Native.Nat.{_-_, _≤_}
 use native.Mathlib.Omega.{arith}
@@ -11,7 +11,7 @@ use Rattle.scan.proofs.scan.scan_digits.Statement.{statement}
 use Rattle.scan.proofs.scan.scan_digits.Tie as tie
 
 abbrev Inv-loop : tie.InvT-loop
-Inv-loop text at n₀ n = (at ≤ n) × (n ≤ length text) × ((k : State) → scanFrom text at (digits k) ≡ scanFrom text n (digits k))
+Inv-loop text at n₀ n = (at ≤ n) × (n ≤ length text) × ((k : ScanState) → scanFrom text at (digits k) ≡ scanFrom text n (digits k))
 
 abbrev μ-loop : tie.MeasureT-loop
 μ-loop text at n₀ n = length text - n

@@ -1,5 +1,5 @@
 use Rattle.scan.proofs.Scanning.{end-short, end-over, end-hash, passed, failed, chained}
-use Rattle.notation.proofs.Scanning.{rest, end, remark}
+use Rattle.notation.specs.Scanning.{rest, end, remark}
 use mathlib.Core.Path.{refl, _∙_}
 use mathlib.Core.List.{[], _∷_}
 use native.Mathlib.Omega.{arith}

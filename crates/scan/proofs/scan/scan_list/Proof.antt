@@ -1,5 +1,5 @@
 use Rattle.scan.proofs.Scanning.{ListTo, list-to-over, list-over, list-none, list-last, list-word, list-on, list-end-on, next-digit}
-use Rattle.notation.proofs.Scanning.{list, list-end}
+use Rattle.notation.specs.Scanning.{list, list-end}
 use mathlib.Core.Path.{refl, sym, _∙_}
 use mathlib.Core.List.{_∷_}
 use Prim.Native.Nat.{_-_}

@@ -1,6 +1,6 @@
 use Rattle.scan.proofs.Scanning.{remark-short, remark-over, remark-on}
 use Rattle.scan.specs.Scans.{scanFrom}
-use Rattle.notation.proofs.Scanning.{State, remark}
+use Rattle.notation.specs.Scanning.{ScanState, remark}
 use mathlib.Core.Path.{_≡_, refl, _∙_}
 use Prim.Native.Nat.{_-_, _≤_}
 use native.Mathlib.Omega.{arith}
@@ -11,7 +11,7 @@ use Rattle.scan.proofs.scan.scan_remark.Statement.{statement}
 use Rattle.scan.proofs.scan.scan_remark.Tie as tie
 
 abbrev Inv-loop : tie.InvT-loop
-Inv-loop text at n₀ n = (at ≤ n) × (n ≤ length text) × ((k : State) → scanFrom text at (remark k) ≡ scanFrom text n (remark k))
+Inv-loop text at n₀ n = (at ≤ n) × (n ≤ length text) × ((k : ScanState) → scanFrom text at (remark k) ≡ scanFrom text n (remark k))
 
 abbrev μ-loop : tie.MeasureT-loop
 μ-loop text at n₀ n = length text - n

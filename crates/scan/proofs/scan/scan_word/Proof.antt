@@ -1,6 +1,6 @@
 use Rattle.scan.proofs.Scanning.{word-over, word-short, word-wrong, word-on}
 use Rattle.scan.specs.Scans.{scanFrom}
-use Rattle.notation.proofs.Scanning.{State, rest}
+use Rattle.notation.specs.Scanning.{ScanState, rest}
 use mathlib.Core.Path.{_≡_, refl, _∙_}
 use Prim.Native.Nat.{_-_, _≤_}
 use native.Mathlib.Omega.{arith}
@@ -11,7 +11,7 @@ use Rattle.scan.proofs.scan.scan_word.Statement.{statement}
 use Rattle.scan.proofs.scan.scan_word.Tie as tie
 
 abbrev Inv-loop : tie.InvT-loop
-Inv-loop text at word n₀ i₀ n i = (at ≤ n) × (n ≤ length text) × (i ≤ length word) × ((k : State) → scanFrom text at (rest word k) ≡ scanFrom text n (rest (drop i word) k))
+Inv-loop text at word n₀ i₀ n i = (at ≤ n) × (n ≤ length text) × (i ≤ length word) × ((k : ScanState) → scanFrom text at (rest word k) ≡ scanFrom text n (rest (drop i word) k))
 
 abbrev μ-loop : tie.MeasureT-loop
 μ-loop text at word n₀ i₀ n i = length word - i

@@ -38,9 +38,6 @@ returns c =
     let b = now (a .card) in
     left-bad (lowers (weight b)) Offender.Revision (rule (a .l) b) (a .l .revisions .count) Verdict.Bounded (l .i) (omega arith) (sym (c .before .revision-lowers .ensures) ∙ not-true _ (c .if1 .taken)) (l .inv .1)
 
-add-i : tie.Need-add-i Inv-loop μ-loop
-add-i c = search needs
-
 loop-less : tie.Need-loop-less Inv-loop μ-loop
 loop-less c = search needs
 
@@ -69,7 +66,7 @@ from-revisions-spec =
     loop-holds
     revision-lowers-requires
     returns
-    add-i
+    (λ c. search needs)
     loop-less
     loop-again
     returns-2)

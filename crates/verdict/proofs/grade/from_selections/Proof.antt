@@ -38,9 +38,6 @@ returns c =
     let b = now (a .card) in
     left-bad (λ x. light (weight b) (x .π)) Offender.Selection (rule (a .l) b) (a .l .selections .count) (revisionsVerdict (a .l) b) (l .i) (omega arith) (sym (c .before .selection-light .ensures) ∙ not-true _ (c .if1 .taken)) (l .inv .1)
 
-add-i : tie.Need-add-i Inv-loop μ-loop
-add-i c = search needs
-
 loop-less : tie.Need-loop-less Inv-loop μ-loop
 loop-less c = search needs
 
@@ -72,7 +69,7 @@ from-selections-spec =
     loop-holds
     selection-light-requires
     returns
-    add-i
+    (λ c. search needs)
     loop-less
     loop-again
     from-revisions-requires

@@ -1,5 +1,6 @@
 use Rattle.meaning.specs.declared.Answer.the-variants.{Done}
 use Rattle.card.proofs.GoodCard.{good-card}
+use Rattle.verdict.proofs.Weights.{weighable}
 use Rattle.meaning.proofs.Calls.{good-judged, refused-judged, grades-good, grades-refused}
 use Rattle.meaning.specs.Configurations.{empty}
 use Rattle.card.specs.Rows.{answerOf}
@@ -13,9 +14,6 @@ use Rattle.verdict.proofs.grade.grade.Tie as tie
 
 check-requires : tie.Need-check-requires
 check-requires c κs = search needs
-
-enum-known-v : tie.Need-enum-known-v
-enum-known-v c = search needs
 
 enum-told : tie.Need-enum-told
 enum-told c = search needs
@@ -34,22 +32,25 @@ returns c =
 no-sums-requires : tie.Need-no-sums-requires
 no-sums-requires c κs = search needs
 
+header-bytes-requires : tie.Need-header-bytes-requires
+header-bytes-requires c κs = search needs
+
 sum-requires : tie.Need-sum-requires
 sum-requires c κs =
-    let b = now (c .before .before .before .before .before .before .before .args .card) in
-    let j = good-judged b _ (sym (c .before .before .before .before .before .check .ensures) ∙ c .before .before .before .v .given .1) in
-    (good-card _ b (j .0) (j .1), c .before .no-sums .ensures)
+    let b = now (c .before .before .before .before .before .before .before .before .before .args .card) in
+    let j = good-judged b _ (sym (c .before .before .before .before .before .before .before .check .ensures) ∙ c .before .before .before .before .before .v .given .1) in
+    (weighable _ b (good-card _ b (j .0) (j .1)) _ (c .before .header-bytes .ensures), c .before .before .before .no-sums .ensures)
 
 from-initial-requires : tie.Need-from-initial-requires
 from-initial-requires c κs =
-    let b = now (c .before .before .before .before .before .before .before .before .before .args .card) in
-    let j = good-judged b _ (sym (c .before .before .before .before .before .before .before .check .ensures) ∙ c .before .before .before .before .before .v .given .1) in
+    let b = now (c .before .before .before .before .before .before .before .before .before .before .before .args .card) in
+    let j = good-judged b _ (sym (c .before .before .before .before .before .before .before .before .before .check .ensures) ∙ c .before .before .before .before .before .before .before .v .given .1) in
     (good-card _ b (j .0) (j .1), c .before .sum .ensures)
 
 returns-2 : tie.Need-returns-2
 returns-2 c =
-    let b = now (c .before .before .before .before .before .before .before .before .before .before .args .card) in
-    let j = good-judged b _ (sym (c .before .before .before .before .before .before .before .before .check .ensures) ∙ c .before .before .before .before .before .before .v .given .1) in
+    let b = now (c .before .before .before .before .before .before .before .before .before .before .before .before .args .card) in
+    let j = good-judged b _ (sym (c .before .before .before .before .before .before .before .before .before .before .check .ensures) ∙ c .before .before .before .before .before .before .before .before .v .given .1) in
     (λ i. record { answer = Done; verdict = c .from-initial .ensures i; configuration = empty })
     ∙ sym (grades-good b (j .0))
 
@@ -58,11 +59,12 @@ grade-spec =
     tie.close
     (tie.spec
     check-requires
-    enum-known-v
+    (λ c. search needs)
     enum-told
     answer-of-requires
     returns
     no-sums-requires
+    header-bytes-requires
     sum-requires
     from-initial-requires
     returns-2)

@@ -1,6 +1,6 @@
 use Rattle.meaning.specs.Card.{part, weight}
 use Rattle.runs.specs.Weight.{weigh}
-use Rattle.verdict.proofs.Weights.{weigh-part, part-most}
+use Rattle.verdict.proofs.Weights.{weigh-part, weighable-part, part-most}
 use mathlib.Core.Path.{_≡_, ap}
 use Prim.Native.Nat.{_+_, _-_, _*_}
 use native.Mathlib.Omega.{arith}
@@ -9,36 +9,26 @@ use denote.Ref.{now}
 use Rattle.verdict.proofs.sums.from_above.Statement.{statement}
 use Rattle.verdict.proofs.sums.from_above.Tie as tie
 
-mul-part-weight : tie.Need-mul-part-weight
-mul-part-weight c = search needs
-
-sub-part-weight : tie.Need-sub-part-weight
-sub-part-weight c = search needs
-
 part-weight-requires : tie.Need-part-weight-requires
-part-weight-requires c κs = search needs
-
-mul-result : tie.Need-mul-result
-mul-result c = search needs
-
-element-copy-out-result : tie.Need-element-copy-out-result
-element-copy-out-result c = search needs
+part-weight-requires c κs =
+    let a = c .before .before .args in
+    weighable-part (now (a .card)) (a .weights) (a .pool .offset) (a .pool .count) (c .before .before .pre .0 .0) (a .n) (32 * a .k - a .n) (omega arith)
 
 cast-result : tie.Need-cast-result
 cast-result c =
-    let a = c .before .before .before .args in
-    let p = c .before .before .before .pre in
-    let e = p .1 (a .k) (p .3) in
-    let m = part-most (a .l) (now (a .card)) (p .0) (a .l .pool .offset) (32 * a .k) in
+    let a = c .before .before .before .before .args in
+    let p = c .before .before .before .before .pre in
+    let e = p .0 .1 (a .k) (p .1 .1) in
+    let m = part-most (now (a .card)) (a .weights) (a .pool .offset) (a .pool .count) (p .0 .0) (a .pool .offset) (32 * a .k) in
     omega arith
 
 sub-result : tie.Need-sub-result
 sub-result c =
-    let a = c .before .before .before .args in
-    let p = c .before .before .before .pre in
+    let a = c .before .before .before .before .args in
+    let p = c .before .before .before .before .pre in
     let b = now (a .card) in
-    let at = a .l .pool .offset in
-    let e = p .1 (a .k) (p .3) in
+    let at = a .pool .offset in
+    let e = p .0 .1 (a .k) (p .1 .1) in
     let f = c .before .part-weight .ensures in
     let s = weigh-part (weight b) b at (a .n) (32 * a .k - a .n) in
     let n : a .n + (32 * a .k - a .n) ≡ 32 * a .k = omega arith in
@@ -47,11 +37,11 @@ sub-result c =
 
 returns : tie.Need-returns
 returns c =
-    let a = c .before .before .before .args in
-    let p = c .before .before .before .pre in
+    let a = c .before .before .before .before .args in
+    let p = c .before .before .before .before .pre in
     let b = now (a .card) in
-    let at = a .l .pool .offset in
-    let e = p .1 (a .k) (p .3) in
+    let at = a .pool .offset in
+    let e = p .0 .1 (a .k) (p .1 .1) in
     let f = c .before .part-weight .ensures in
     let s = weigh-part (weight b) b at (a .n) (32 * a .k - a .n) in
     let n : a .n + (32 * a .k - a .n) ≡ 32 * a .k = omega arith in
@@ -62,11 +52,12 @@ pub from-above-spec : {M : Type 1} → statement M
 from-above-spec =
     tie.close
     (tie.spec
-    mul-part-weight
-    sub-part-weight
+    (λ c. search needs)
+    (λ c. search needs)
+    (λ c. search needs)
     part-weight-requires
-    mul-result
-    element-copy-out-result
+    (λ c. search needs)
+    (λ c. search needs)
     cast-result
     sub-result
     returns)

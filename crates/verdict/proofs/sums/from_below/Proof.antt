@@ -1,6 +1,6 @@
 use Rattle.meaning.specs.Card.{part, weight}
 use Rattle.runs.specs.Weight.{weigh}
-use Rattle.verdict.proofs.Weights.{weigh-part, part-most}
+use Rattle.verdict.proofs.Weights.{weigh-part, weighable-part, part-most}
 use mathlib.Core.Path.{_≡_, ap}
 use Prim.Native.Nat.{_+_, _*_, _/_, _%_}
 use native.Mathlib.Omega.{arith}
@@ -9,46 +9,39 @@ use denote.Ref.{now}
 use Rattle.verdict.proofs.sums.from_below.Statement.{statement}
 use Rattle.verdict.proofs.sums.from_below.Tie as tie
 
-mul-part-weight : tie.Need-mul-part-weight
-mul-part-weight c = search needs
-
 part-weight-requires : tie.Need-part-weight-requires
-part-weight-requires c κs = search needs
-
-mul-result : tie.Need-mul-result
-mul-result c = search needs
-
-element-copy-out-result : tie.Need-element-copy-out-result
-element-copy-out-result c = search needs
+part-weight-requires c κs =
+    let a = c .before .before .args in
+    weighable-part (now (a .card)) (a .weights) (a .pool .offset) (a .pool .count) (c .before .before .pre .0) (32 * (a .n / 32)) (a .n % 32) (omega arith)
 
 cast-result : tie.Need-cast-result
 cast-result c =
-    let a = c .before .before .before .args in
-    let p = c .before .before .before .pre in
+    let a = c .before .before .before .before .args in
+    let p = c .before .before .before .before .pre in
     let b = now (a .card) in
     let e = p .1 (a .n / 32) (omega arith) in
-    let m = part-most (a .l) b (p .0) (a .l .pool .offset) (32 * (a .n / 32)) in
+    let m = part-most b (a .weights) (a .pool .offset) (a .pool .count) (p .0) (a .pool .offset) (32 * (a .n / 32)) in
     omega arith
 
 add-result : tie.Need-add-result
 add-result c =
-    let a = c .before .before .before .args in
-    let p = c .before .before .before .pre in
+    let a = c .before .before .before .before .args in
+    let p = c .before .before .before .before .pre in
     let b = now (a .card) in
-    let at = a .l .pool .offset in
+    let at = a .pool .offset in
     let k = a .n / 32 in
     let e = p .1 k (omega arith) in
-    let m = part-most (a .l) b (p .0) at (32 * k) in
+    let m = part-most b (a .weights) (a .pool .offset) (a .pool .count) (p .0) at (32 * k) in
     let f = c .before .part-weight .ensures in
-    let n = part-most (a .l) b (p .0) (at + 32 * k) (a .n % 32) in
+    let n = part-most b (a .weights) (a .pool .offset) (a .pool .count) (p .0) (at + 32 * k) (a .n % 32) in
     omega arith
 
 returns : tie.Need-returns
 returns c =
-    let a = c .before .before .before .args in
-    let p = c .before .before .before .pre in
+    let a = c .before .before .before .before .args in
+    let p = c .before .before .before .before .pre in
     let b = now (a .card) in
-    let at = a .l .pool .offset in
+    let at = a .pool .offset in
     let k = a .n / 32 in
     let e = p .1 k (omega arith) in
     let f = c .before .part-weight .ensures in
@@ -61,10 +54,11 @@ pub from-below-spec : {M : Type 1} → statement M
 from-below-spec =
     tie.close
     (tie.spec
-    mul-part-weight
+    (λ c. search needs)
+    (λ c. search needs)
     part-weight-requires
-    mul-result
-    element-copy-out-result
+    (λ c. search needs)
+    (λ c. search needs)
     cast-result
     add-result
     returns)

@@ -1,5 +1,5 @@
 use Rattle.meaning.specs.Card.{plan, weight}
-use Rattle.verdict.proofs.Weights.{weigh-part}
+use Rattle.verdict.proofs.Weights.{weigh-part, weighable-part}
 use native.Mathlib.Omega.{arith}
 use borrow.Author.Needs.{needs}
 use denote.Ref.{now}
@@ -8,7 +8,9 @@ use Rattle.verdict.proofs.sums.plan_weight.Statement.{statement}
 use Rattle.verdict.proofs.sums.plan_weight.Tie as tie
 
 part-weight-requires : tie.Need-part-weight-requires
-part-weight-requires c κs = search needs
+part-weight-requires c κs =
+    let a = c .before .before .before .before .before .args in
+    weighable-part (now (a .card)) (a .weights) (a .pool .offset) (a .pool .count) (c .before .before .before .before .before .pre .0 .0) (a .s .start) (a .s .length) (omega arith)
 
 returns : tie.Need-returns
 unfolding plan
@@ -17,9 +19,6 @@ returns c = c .part-weight .ensures
 first-weight-requires : tie.Need-first-weight-requires
 first-weight-requires c κs = search needs
 
-add-first-weight : tie.Need-add-first-weight
-add-first-weight c = search needs
-
 first-weight-requires-2 : tie.Need-first-weight-requires-2
 first-weight-requires-2 c κs = search needs
 
@@ -27,7 +26,7 @@ sub-result : tie.Need-sub-result
 sub-result c =
     let a = c .before .before .before .before .before .before .args in
     let b = now (a .card) in
-    let e = weigh-part (weight b) b (a .l .pool .offset) (a .s .start) (a .s .length) in
+    let e = weigh-part (weight b) b (a .pool .offset) (a .s .start) (a .s .length) in
     let f = c .before .before .first-weight .ensures in
     let g = c .first-weight2 .ensures in
     omega arith
@@ -37,7 +36,7 @@ unfolding plan
 returns-2 c =
     let a = c .before .before .before .before .before .before .args in
     let b = now (a .card) in
-    let e = weigh-part (weight b) b (a .l .pool .offset) (a .s .start) (a .s .length) in
+    let e = weigh-part (weight b) b (a .pool .offset) (a .s .start) (a .s .length) in
     let f = c .before .before .first-weight .ensures in
     let g = c .first-weight2 .ensures in
     omega arith
@@ -46,10 +45,11 @@ pub plan-weight-spec : {M : Type 1} → statement M
 plan-weight-spec =
     tie.close
     (tie.spec
+    (λ c. search needs)
     part-weight-requires
     returns
     first-weight-requires
-    add-first-weight
+    (λ c. search needs)
     first-weight-requires-2
     sub-result
     returns-2)

@@ -1,0 +1,5 @@
+pub mod Accepting
+pub mod Written
+pub mod Asking
+pub mod Refusals
+pub mod First

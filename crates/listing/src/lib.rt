@@ -1,0 +1,2 @@
+// Listing: the call list where the plan is lent.
+pub mod list;
