@@ -83,10 +83,10 @@ use Rattle.deliberation.specs.declared.Deliberated.{Deliberated}
 use Rattle.deliberation.specs.declared.Remaining.{Remaining}
 use Rattle.deliberation.specs.Programs.{𝒲}
 use Rattle.deliberation.specs.FirstMove.{lowestAction, ifEnabled}
-use Rattle.deliberation.specs.Entries.{entryAt, entries, programGood, programTable, deliberateAnswer, moves}
+use Rattle.deliberation.specs.Entries.{entryOf, entriesOf, programGood, programTable, deliberateAnswer, firstMoveOf}
 use Rattle.deliberation.specs.Deliberate.{leads, deliberate, remainingOf, deliberates, deliberationEndingNumber}
 use Rattle.notation.specs.Printing.{printAnswer, printCount, printLeaves}
-use Rattle.notation.proofs.Computing.{Answered, textAnswered}
+use Rattle.notation.proofs.Computing.{TextComputed, textAnswered}
 
 -- a byte before what is left of the bytes after it, once zeros at the end are left off
 abbrev before : ℕ → Bytes → Bytes
@@ -179,7 +179,7 @@ abbrev place : Answer → ℕ
 place Done = 0
 place (Refused r) = carried r
 
-abbrev answeredBytes : Option Answered → Bytes
+abbrev answeredBytes : Option TextComputed → Bytes
 answeredBytes none = []
 answeredBytes (some a) =
     let p = place (a .answer) in
@@ -194,7 +194,7 @@ printBytes b n room =
     number (printAnswer b n out) ++ (twoBytes (printCount b n out) ++ printLeaves b n out)
 
 unfoldable pub all-shown : Unit {0}
-unfolding flatten image checkBytes loadBytes gradeBytes listBytes takeBytes runBytes saveBytes restoreBytes textBytes printBytes deliberateBytes 𝒲 lowestAction ifEnabled entryAt entries programGood programTable deliberateAnswer moves leads deliberate remainingOf deliberates deliberationEndingNumber
+unfolding flatten image checkBytes loadBytes gradeBytes listBytes takeBytes runBytes saveBytes restoreBytes textBytes printBytes deliberateBytes 𝒲 lowestAction ifEnabled entryOf entriesOf programGood programTable deliberateAnswer firstMoveOf leads deliberate remainingOf deliberates deliberationEndingNumber
 all-shown = tt
 """
 
