@@ -33,10 +33,10 @@
  * has RIGTEMPLE_MOST_SHEET_BYTES at most; a text to be read has no limit.
  *
  * Bytes of stack, as tests/stack.sh measures them on x86-64: check 552, load 728, grade 1,784,
- * list 1,064, take 1,192, run 1,352, deliberate 1,832, save 696, restore 760, text 33,536 (24,976
+ * list 1,464, take 1,432, run 1,448, deliberate 1,992, save 696, restore 760, text 33,536 (24,976
  * where nothing nests, 128 more for the first bracket and 272 for each further one), print 1,896,
  * name 696. All but text run on a stack of 2,048. On 64-bit Arm text takes 34,064, and each other
- * call at most 152 more than on x86-64: all but text run on 2,304.
+ * call at most 192 more than on x86-64: all but text run on 2,304.
  *
  * Save before you show. The weaver acts on what the screen tells; a move that is shown and
  * not kept is lost when the view is torn down, and a band is woven twice. And where a place

@@ -33,7 +33,7 @@ READING = (
                                             "meaning/specs/Numbers.antt")),
     ("what is proved of the definitions", ("paper/specs/Theorems.antt", "runs/specs/Theorems.antt", "meaning/specs/Theorems.antt")),
     ("the letter's demands", ("demands/specs/Contracts.antt", "demands/specs/Demands.antt", "demands/specs/TestOrder.antt",
-                              "demands/specs/AcceptedAgain.antt", "demands/specs/Struck.antt", "demands/specs/Shown.antt")),
+                              "demands/specs/AcceptedAgain.antt", "demands/specs/Struck.antt", "demands/specs/Shown.antt", "demands/specs/Closed.antt")),
     ("the turned screen", ("demands/specs/TurnedScreen.antt",)),
     ("our own deliberation", ("deliberation/src/lib.rt", "deliberation/specs/Programs.antt", "deliberation/specs/MetaTransitions.antt",
                               "deliberation/specs/FirstMove.antt", "deliberation/specs/Kinds.antt", "deliberation/specs/Entries.antt", "deliberation/specs/Deliberate.antt",
@@ -44,13 +44,14 @@ READING = (
     ("what is proved of UTF-8 and of names", ("utf8/specs/Theorems.antt", "names/specs/Theorems.antt")),
     ("cards as text", ("notation/specs/Words.antt", "notation/specs/Conditions.antt", "notation/specs/Lines.antt", "meaning/specs/Assembled.antt",
                        "notation/specs/Built.antt", "notation/specs/Reading.antt", "notation/specs/Printing.antt")),
-    ("what is proved of texts", ("notation/specs/Theorems.antt",)),
+    ("what is proved of texts", ("notation/specs/Completed.antt", "notation/specs/Theorems.antt", "notation/specs/Meant.antt")),
+    ("every call, and the count since load", ("every_call/specs/Calls.antt", "every_call/specs/EveryCall.antt", "every_call/specs/SinceLoad.antt")),
     ("the cases", ("paper/specs/Cases.antt", "meaning/specs/Stripe.antt", "meaning/specs/Cases.antt", "notation/specs/Cases.antt",
                    "deliberation/specs/Cases.antt")),
 )
 # Definitions that only contracts of inner functions cite, and that a theorem ties to those above.
 INNER = ("notation/specs/Scanning.antt", "notation/specs/Values.antt", "notation/specs/Making.antt", "deliberation/specs/Stacked.antt")
-READ_CRATES = ("paper", "runs", "meaning", "demands", "notation", "deliberation", "utf8")
+READ_CRATES = ("paper", "runs", "meaning", "demands", "notation", "deliberation", "utf8", "every_call")
 
 
 class Piece(NamedTuple):

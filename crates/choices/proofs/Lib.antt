@@ -1,5 +1,4 @@
-pub mod Truths
-pub mod Descending
+pub mod Passing
 pub mod OnePass
 pub mod OnePassCases
 pub mod Marked

@@ -1,59 +1,63 @@
--- What asking for a choice of a card's agent answers, by the marks and the plan's bytes.
-use mathlib.Core.Path.{_≡_, ap, ap₂, _∙_, sym}
-use mathlib.Core.Bool.{Bool, false, not, _&&_}
+-- What asking for a choice of a card answers, by the marks and the plan's bytes.
+use mathlib.Core.Path.{_≡_, refl, ap, ap₂, _∙_, sym}
+use mathlib.Core.Bool.{Bool, true, not, _&&_}
 use mathlib.Core.List.{List}
 use Prim.Native.Nat.{ℕ, _<_}
 use native.Mathlib.Omega.{arith}
+use borrow.Author.Tests.{lt-ltb}
 use lib.Dec.{eqb}
 use lib.ListN.{take, getD}
-use Rattle.paper.specs.Language.{Letter, 𝐁, 𝐆, Specification, Selection, Revision}
-use Rattle.paper.specs.Transitions.{_⊨_, select, act, revise}
-use Rattle.paper.specs.Next.{isEmpty, startsWith, isPrefix}
-use Rattle.meaning.proofs.AgentEntries.{selection-entry, specification-entry, revision-entry}
+use Rattle.paper.specs.Language.{Letter, 𝐁, 𝐆}
+use Rattle.paper.specs.Transitions.{Choice, select, act, revise}
+use Rattle.paper.specs.Next.{isPrefix}
 use Rattle.meaning.specs.declared.Layout.{Layout}
 use Rattle.meaning.specs.declared.Configuration.{Configuration}
-use Rattle.meaning.specs.Card.{Bytes, plan, condition, conditions, specificationAt, selectionAt, revisionAt, specificationOf, selectionOf, revisionOf, agentFor}
+use Rattle.meaning.specs.Card.{Bytes, plan, specificationAt, selectionAt, revisionAt}
 use Rattle.meaning.specs.Configurations.{stateOf}
+use Rattle.meaning.specs.Refusals.{other}
 use Rattle.card.specs.GoodCard.{GoodCondition}
-use Rattle.door.specs.Asking.{askedBy, askedOf, asked}
+use Rattle.door.specs.Asking.{judging, both, isThere, frontFits, conditionsOf, askedBy, asked}
 use Rattle.door.proofs.Asking.{empty-exactly, first-exactly}
-use Rattle.choices.specs.Judged.{Judged}
-use Rattle.choices.specs.Truth.{other}
-use Rattle.choices.proofs.Truths.{condition-truth}
+use Rattle.choices.specs.Judged.{markAt, Judged}
+use Rattle.choices.proofs.OnePass.{one-pass-of}
 
-module _ (l : Layout) (b : Bytes) (c : Configuration) (marks : List Bool) (j : Judged l b c marks) (i : ℕ) where
-  abbrev d : Bytes
-  d = c .plan
-
-  abbrev n : ℕ
-  n = c .mind .length
-
-  pub marked : (L : Letter) (x : ℕ) → GoodCondition l b (other L) x → getD marks x false ≡ (stateOf c .mental ⊨ condition (conditions L l b) x)
+module _ (l : Layout) (b : Bytes) (c : Configuration) (marks : List ℕ) (j : Judged l b c marks) where
+  -- a mark has what the tree of its condition has
+  pub marked : (L : Letter) (x : ℕ) → GoodCondition l b (other L) x → markAt marks x ≡ judging L l b (stateOf c .mental) x
   unfolding stateOf
-  marked L x k = j .marked x (k .known) ∙ condition-truth l b (j .ready .card .nodes) L (stateOf c .mental) x k
+  marked L x k = j .marked x (k .known) ∙ one-pass-of L l b (j .ready .card .nodes) (stateOf c .mental) x k .keeps
 
-  pub asks-selection : (h : i < l .selections .count)
-      → askedBy (eqb n 0) (getD marks (selectionAt l b i .belief) false && getD marks (selectionAt l b i .goal) false) ≡ asked (agentFor l b) (stateOf c .mental) (select i)
-  unfolding asked stateOf selectionOf
-  asks-selection h =
-      let r = j .ready .card .selections i h in
-      let e = empty-exactly d n (let x = j .ready .fits in let y = j .ready .room in omega arith) in
-      ap₂ askedBy (sym e) (ap₂ _&&_ (marked 𝐁 _ (r .belief)) (marked 𝐆 _ (r .goal)))
-      ∙ sym (ap (askedOf (λ r. isEmpty (take n d)) (λ (r : Selection). (stateOf c .mental ⊨ r .β) && (stateOf c .mental ⊨ r .κ))) (selection-entry l b i h))
+  -- of a choice that the card has
+  asks : (k : Choice) (front : Bool) (p : Bool × ℕ) → isThere l k ≡ true → front ≡ frontFits l b (stateOf c .mental) k → p ≡ conditionsOf l b (stateOf c .mental) k
+      → askedBy true front p ≡ asked l b (stateOf c .mental) k
+  unfolding asked
+  asks k front p t f e = ap₂ (askedBy true) f e ∙ ap (λ t. askedBy t (frontFits l b (stateOf c .mental) k) (conditionsOf l b (stateOf c .mental) k)) (sym t)
 
-  pub asks-specification : (h : i < l .specifications .count)
-      → askedBy (not (eqb n 0) && eqb (specificationAt l b i .action) (getD d 0 0)) (getD marks (specificationAt l b i .node) false) ≡ asked (agentFor l b) (stateOf c .mental) (act i)
-  unfolding asked stateOf specificationOf
-  asks-specification h =
-      let r = j .ready .card .specifications i h in
-      let e = first-exactly (specificationAt l b i .action) d n (let y = j .ready .room in omega arith) in
-      ap₂ askedBy (sym e) (marked 𝐁 _ (r .belief))
-      ∙ sym (ap (askedOf (λ (s : Specification). startsWith (s .a) (take n d)) (λ (s : Specification). stateOf c .mental ⊨ s .β)) (specification-entry l b i h))
+  module _ (i : ℕ) where
+    abbrev d : Bytes
+    d = c .plan
 
-  pub asks-revision : (h : i < l .revisions .count)
-      → askedBy (isPrefix (plan l b (revisionAt l b i .head)) (take n d)) (getD marks (revisionAt l b i .node) false) ≡ asked (agentFor l b) (stateOf c .mental) (revise i)
-  unfolding asked stateOf revisionOf
-  asks-revision h =
-      let r = j .ready .card .revisions i h in
-      ap (askedBy (isPrefix (plan l b (revisionAt l b i .head)) (take n d))) (marked 𝐁 _ (r .belief))
-      ∙ sym (ap (askedOf (λ (r : Revision). isPrefix (r .πₕ) (take n d)) (λ (r : Revision). stateOf c .mental ⊨ r .β)) (revision-entry l b i h))
+    abbrev n : ℕ
+    n = c .mind .length
+
+    pub asks-selection : i < l .selections .count
+        → askedBy true (eqb n 0) (both (markAt marks (selectionAt l b i .belief)) (markAt marks (selectionAt l b i .goal))) ≡ asked l b (stateOf c .mental) (select i)
+    unfolding stateOf
+    asks-selection h =
+        let r = j .ready .card .selections i h in
+        asks (select i) _ _ (lt-ltb i (l .selections .count) h)
+        (sym (empty-exactly d n (let x = j .ready .fits in let y = j .ready .room in omega arith)))
+        (ap₂ both (marked 𝐁 _ (r .belief)) (marked 𝐆 _ (r .goal)))
+
+    pub asks-specification : i < l .specifications .count
+        → askedBy true (not (eqb n 0) && eqb (specificationAt l b i .action) (getD d 0 0)) (markAt marks (specificationAt l b i .node)) ≡ asked l b (stateOf c .mental) (act i)
+    unfolding stateOf
+    asks-specification h =
+        asks (act i) _ _ (lt-ltb i (l .specifications .count) h)
+        (sym (first-exactly (specificationAt l b i .action) d n (let y = j .ready .room in omega arith)))
+        (marked 𝐁 _ (j .ready .card .specifications i h .belief))
+
+    pub asks-revision : i < l .revisions .count
+        → askedBy true (isPrefix (plan l b (revisionAt l b i .head)) (take n d)) (markAt marks (revisionAt l b i .node)) ≡ asked l b (stateOf c .mental) (revise i)
+    unfolding stateOf
+    asks-revision h = asks (revise i) _ _ (lt-ltb i (l .revisions .count) h) refl (marked 𝐁 _ (j .ready .card .revisions i h .belief))

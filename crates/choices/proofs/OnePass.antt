@@ -7,22 +7,24 @@ use native.Mathlib.Omega.{arith}
 use lib.ListN.{getD}
 use Rattle.paper.specs.Next.{if}
 use Rattle.paper.specs.Atoms.{Atoms}
-use Rattle.paper.specs.Language.{Letter, ⊤, Config}
+use Rattle.paper.specs.Language.{Letter, 𝐁, 𝐆, Query, ⊤, Config}
 use Rattle.paper.specs.Transitions.{_⊨_}
 use Rattle.meaning.specs.declared.Layout.{Layout}
 use Rattle.meaning.specs.declared.Node.{Node}
 use Rattle.meaning.specs.Kinds.{NodeKind, nodeKind}
-use Rattle.meaning.specs.Card.{Bytes, layout, nodeAt, conditions}
-use Rattle.meaning.specs.Refusals.{nodesGood, containing}
+use Rattle.meaning.specs.Card.{Bytes, layout, nodeAt, queryOf, conditions}
+use Rattle.meaning.specs.Refusals.{nodesGood, containsOf, containing, other}
 use Rattle.meaning.specs.Why.{settledBy, settler}
 use Rattle.meaning.proofs.Accepted.{accepted}
 use Rattle.meaning.proofs.NodeKinds.{is-true, is-belief, is-goal, is-not, is-and, is-or, Known, leaf, inner, known-kind, leaf-low, leaf-kind, inner-kind}
-use Rattle.meaning.proofs.Nodes.{node-rule, made-of, contains-at, condition-at}
+use Rattle.meaning.proofs.Nodes.{node-rule, made-of, made-from, contains-at, condition-at}
 use Rattle.meaning.proofs.Settling.{settled-leaf, settler-at}
-use Rattle.meaning.proofs.AtomKinds.{first-free, second-free}
-use Rattle.choices.specs.Truth.{other}
-use Rattle.choices.specs.OnePass.{keptOf, kept, valueOf, Settles, itself, of-not, and-left, and-right, or-left, or-right, OnePassLaw}
-use Rattle.choices.proofs.Truths.{node-truth, condition-truth}
+use Rattle.meaning.proofs.AtomKinds.{or-none, first-free, second-free}
+use Rattle.paper.proofs.Relation.{false≢true}
+use Rattle.card.specs.GoodCard.{GoodCondition}
+use Rattle.door.specs.Asking.{judging}
+use Rattle.choices.specs.Truth.{truthOf}
+use Rattle.choices.specs.OnePass.{keptOf, kept, valueOf, Settles, itself, of-not, and-left, and-right, or-left, or-right, OnePass, OnePassLaw}
 
 -- ---- the node that the definition names is the one that settles the tree
 
@@ -96,6 +98,25 @@ module _ (L : Letter) (l : Layout) (b : Bytes) (good : nodesGood l b ≡ true) (
 
 -- ---- what is kept of a node
 
+-- one node: its truth is that of its query, if this holds of its children and no atom is of the other kind
+node-truth : (L : Letter) (c : Config) {k : ℕ} {κ : NodeKind} → Known k κ → (a b : ℕ) (t : ℕ → Bool) (q : ℕ → Query L) (contains : ℕ → Bool)
+    → containsOf (other L) κ a b contains ≡ false
+    → (3 ≤ k → contains a ≡ false → t a ≡ (c ⊨ q a)) → (4 ≤ k → contains b ≡ false → t b ≡ (c ⊨ q b))
+    → truthOf κ a b (c .σ) (c .γ) t ≡ (c ⊨ queryOf L κ a b q)
+unfolding _⊨_
+node-truth L c (leaf is-true) a b t q n e f s = refl
+node-truth 𝐁 c (leaf is-belief) a b t q n e f s = refl
+node-truth 𝐆 c (leaf is-belief) a b t q n e f s = absurd (false≢true (sym e))
+node-truth 𝐁 c (leaf is-goal) a b t q n e f s = absurd (false≢true (sym e))
+node-truth 𝐆 c (leaf is-goal) a b t q n e f s = refl
+node-truth L c (inner is-not) a b t q n e f s = ap not (f (omega arith) e)
+node-truth L c (inner is-and) a b t q n e f s =
+    let (x, y) = or-none (n a) (n b) e in
+    ap₂ _&&_ (f (omega arith) x) (s (omega arith) y)
+node-truth L c (inner is-or) a b t q n e f s =
+    let (x, y) = or-none (n a) (n b) e in
+    ap₂ _||_ (f (omega arith) x) (s (omega arith) y)
+
 kept-children : (σ γ : Atoms) (i : ℕ) {k : ℕ} {κ : NodeKind} → Known k κ → (a b : ℕ) (q q′ : ℕ → Bool × ℕ) → (3 ≤ k → q a ≡ q′ a) → (4 ≤ k → q b ≡ q′ b) → keptOf i κ a b σ γ q ≡ keptOf i κ a b σ γ q′
 kept-children σ γ i (leaf is-true) a b q q′ f s = refl
 kept-children σ γ i (leaf is-belief) a b q q′ f s = refl
@@ -104,20 +125,28 @@ kept-children σ γ i (inner is-not) a b q q′ f s = ap (λ p. (not (p .0), p .
 kept-children σ γ i (inner is-and) a b q q′ f s = ap₂ (λ p r. (p .0 && r .0, if (not (p .0)) (p .1) (r .1))) (f (omega arith)) (s (omega arith))
 kept-children σ γ i (inner is-or) a b q q′ f s = ap₂ (λ p r. (p .0 || r .0, if (p .0) (p .1) (r .1))) (f (omega arith)) (s (omega arith))
 
+module _ (l : Layout) (b : Bytes) (good : nodesGood l b ≡ true) (σ γ : Atoms) (i : ℕ) (h : i < l .nodes .count) where
+  kept-at : getD (kept l b σ γ) i (false, 0)
+      ≡ keptOf i (nodeKind (nodeAt l b i .kind)) (nodeAt l b i .a) (nodeAt l b i .b) σ γ (λ j. getD (kept l b σ γ) j (false, 0))
+  unfolding kept
+  kept-at = made-of l b good i h (λ i κ a b q. keptOf i κ a b σ γ q) (false, 0) (λ i k κ. kept-children σ γ i)
+
+  -- a turn of the pass: what is kept of node i by what was kept of the lower nodes
+  pub kept-next : (q : ℕ → Bool × ℕ) → ((j : ℕ) → j < i → q j ≡ getD (kept l b σ γ) j (false, 0))
+      → keptOf i (nodeKind (nodeAt l b i .kind)) (nodeAt l b i .a) (nodeAt l b i .b) σ γ q ≡ getD (kept l b σ γ) i (false, 0)
+  unfolding kept
+  kept-next q same = made-from l b good i h (λ i κ a b q. keptOf i κ a b σ γ q) (false, 0) (λ i k κ. kept-children σ γ i) q same
+
 module _ (L : Letter) (l : Layout) (b : Bytes) (good : nodesGood l b ≡ true) (c : Config) where
   abbrev keeps : ℕ → Bool × ℕ
   keeps n = getD (kept l b (c .σ) (c .γ)) n (false, 0)
 
   -- the tree's value and the settling node
   abbrev due : ℕ → Bool × ℕ
-  due n = (valueOf L l b c n, settler L l b c n)
+  due = judging L l b c
 
   abbrev contains : ℕ → Bool
   contains n = getD (containing (other L) l b) n false
-
-  kept-at : (n : ℕ) → n < l .nodes .count → keeps n ≡ keptOf n (nodeKind (nodeAt l b n .kind)) (nodeAt l b n .a) (nodeAt l b n .b) (c .σ) (c .γ) keeps
-  unfolding kept
-  kept-at n h = made-of l b good n h (λ i κ a b q. keptOf i κ a b (c .σ) (c .γ) q) (false, 0) (λ i k κ. kept-children (c .σ) (c .γ) i)
 
   keeps-below : (m n : ℕ) → n < m → n < l .nodes .count → contains n ≡ false → keeps n ≡ due n
   keeps-below zero n h k e = absurd (not-suc-le-zero h)
@@ -126,7 +155,7 @@ module _ (L : Letter) (l : Layout) (b : Bytes) (good : nodesGood l b ≡ true) (
       let r = node-rule l b good n k in
       let known = known-kind (x .kind) (r .kinds) in
       let free = sym (contains-at l b good n k (other L)) ∙ e in
-      kept-at n k
+      kept-at l b good (c .σ) (c .γ) n k
       ∙ kept-children (c .σ) (c .γ) n known (x .a) (x .b) keeps due
       (λ q. (let z = r .first q in keeps-below m (x .a) (omega arith) (omega arith) (first-free (other L) (inner-kind (x .kind) q (r .kinds)) (x .a) (x .b) contains free)))
       (λ q. (let z = r .second q in keeps-below m (x .b) (omega arith) (omega arith) (second-free (other L) (inner-kind (x .kind) (omega arith) (r .kinds)) (x .a) (x .b) contains q free)))
@@ -134,13 +163,12 @@ module _ (L : Letter) (l : Layout) (b : Bytes) (good : nodesGood l b ≡ true) (
       (node-truth L c known (x .a) (x .b) (valueOf L l b c) (λ j. getD (conditions L l b) j ⊤) contains free (λ _ _. refl) (λ _ _. refl) ∙ ap (λ φ. c ⊨ φ) (sym (condition-at l b good n k L)))
       (sym (settler-at L l b good c n k))
 
+  pub one-pass-of : (n : ℕ) → GoodCondition l b (other L) n → OnePass L l b c n
+  one-pass-of n g = record {
+    keeps = keeps-below (suc n) n (omega arith) (g .known) (g .kind);
+    settled = settles-below L l b good c (suc n) n (omega arith) (g .known);
+    only = λ i. settles-only L l b good c (g .known);
+  }
+
 pub one-pass : OnePassLaw
-one-pass b card L c n g =
-    let l = layout b in
-    let good = accepted b card .nodes in
-    record {
-      keeps = keeps-below L l b good c (suc n) n (omega arith) (g .known) (g .kind);
-      value = condition-truth l b good L c n g;
-      settled = settles-below L l b good c (suc n) n (omega arith) (g .known);
-      only = λ i. settles-only L l b good c (g .known);
-    }
+one-pass b card L c = one-pass-of L (layout b) b (accepted b card .nodes) c

@@ -1,12 +1,37 @@
--- An accepted card and configuration, with marks that tell the truth of the card's nodes.
-use mathlib.Core.Bool.{Bool}
+-- What the pass keeps of each node as the code has it, in one number a node.
+use mathlib.Core.Path.{_≡_}
+use mathlib.Core.Bool.{Bool, false, _||_}
 use mathlib.Core.List.{List}
+use Prim.Native.Nat.{ℕ, _/_, _%_, _<_}
+use lib.Dec.{eqb}
+use lib.ListN.{getD}
+use Rattle.paper.specs.Next.{if}
 use Rattle.meaning.specs.declared.Layout.{Layout}
+use Rattle.meaning.specs.declared.Mind.{Mind}
 use Rattle.meaning.specs.declared.Configuration.{Configuration}
 use Rattle.meaning.specs.Card.{Bytes}
 use Rattle.door.specs.Ready.{Ready}
-use Rattle.choices.specs.Truth.{Marked}
+use Rattle.choices.specs.OnePass.{kept}
 
-pub record Judged (l : Layout) (b : Bytes) (c : Configuration) (marks : List Bool) : Type 0 where
+-- 02, Wish 3: "one mark and the settling atom", by their number: that of the node that settled it, and 256 more where the mark
+-- is true
+abbrev pub ofMark : ℕ → Bool × ℕ
+ofMark mark = (eqb (mark / 256) 1, mark % 256)
+
+-- of a node
+abbrev pub markAt : List ℕ → ℕ → Bool × ℕ
+markAt marks n = ofMark (getD marks n 0)
+
+-- one of two conditions: whether one holds, and 02, Wish 1: "the left child's where the left alone settles the value, else the
+-- right's"
+abbrev pub either : Bool × ℕ → Bool × ℕ → Bool × ℕ
+either p q = (p .0 || q .0, if (p .0) (p .1) (q .1))
+
+-- 02, Wish 3: "keeping one mark and the settling atom for each node": marks that tell, in a mind, what the pass keeps
+abbrev pub Marked : Layout → Bytes → Mind → List ℕ → Type 0
+Marked l b m marks = (n : ℕ) → n < l .nodes .count → markAt marks n ≡ getD (kept l b (m .beliefs) (m .goals)) n (false, 0)
+
+-- an accepted card and configuration, with such marks
+pub record Judged (l : Layout) (b : Bytes) (c : Configuration) (marks : List ℕ) : Type 0 where
   pub ready : Ready l b c
   pub marked : Marked l b (c .mind) marks

@@ -1,4 +1,4 @@
 pub mod Truth
-pub mod Judged
 pub mod OnePass
 pub mod OnePassCases
+pub mod Judged

@@ -12,10 +12,11 @@ use Rattle.meaning.specs.declared.Answer.the-variants.{Done}
 use Rattle.meaning.specs.declared.Layout.{Layout}
 use Rattle.meaning.specs.Kinds.{NodeKind, nodeKind}
 use Rattle.meaning.specs.Card.{Bytes, layout, nodeAt, nodes, pass, conditions, condition}
-use Rattle.meaning.specs.Refusals.{cardAnswer}
+use Rattle.meaning.specs.Refusals.{other, cardAnswer}
 use Rattle.meaning.specs.Why.{settledBy, settler}
 use Rattle.card.specs.GoodCard.{GoodCondition}
-use Rattle.choices.specs.Truth.{truthOf, truths, other}
+use Rattle.door.specs.Asking.{judging}
+use Rattle.choices.specs.Truth.{truthOf}
 
 -- 02, Wish 3: "keeping one mark and the settling atom for each node": both of node i, by what was kept of the lower nodes and
 -- nothing else.
@@ -53,10 +54,9 @@ pub data Settles (L : Letter) (l : Layout) (b : Bytes) (c : Config) (i : ℕ) : 
 -- 02, Wish 3: "Let a condition be judged in one pass over its nodes from the lowest upward, keeping one mark and the settling
 -- atom for each node. Answers and promises remain what they are.": of the condition of node n.
 pub record OnePass (L : Letter) (l : Layout) (b : Bytes) (c : Config) (n : ℕ) : Type 0 where
-  -- "keeping one mark and the settling atom for each node": the tree's value, and the node that take answers with 16
-  pub keeps : getD (kept l b (c .σ) (c .γ)) n (false, 0) ≡ (valueOf L l b c n, settler L l b c n)
-  -- "one mark": what the engine marks (Marked in Truth) is the tree's value too
-  pub value : getD (truths l b (c .σ) (c .γ)) n false ≡ valueOf L l b c n
+  -- "keeping one mark and the settling atom for each node": the tree's value, and the node that take answers with 16. What is kept
+  -- is what the code's own loop marks (Marked in Judged)
+  pub keeps : getD (kept l b (c .σ) (c .γ)) n (false, 0) ≡ judging L l b c n
   -- "the settling atom": by the tree that node settles it
   pub settled : Settles L l b c (settler L l b c n) n
   -- and no other does

@@ -1,16 +1,18 @@
 // Whether a choice is enabled, or why it is closed, by the marks of the nodes; and the first enabled one in the guide's order.
 ghost use mathlib.Core.Path.{_≡_};
-ghost use mathlib.Core.Bool.{false};
+ghost use mathlib.Core.Bool.{true};
 ghost use Prim.Native.Nat.{_<_};
-ghost use lib.ListN.{getD};
 ghost use Rattle.paper.specs.Transitions.{select, act, revise};
 ghost use Rattle.paper.specs.Next.{enabled};
 ghost use Rattle.runs.specs.Order.{guide};
 ghost use Rattle.door.specs.Words.{agentFor, stateOf, configured, asked, choiceAt, chosen, firstOfKind};
 ghost use Rattle.layout.specs.Entries.{countOf};
-ghost use Rattle.choices.specs.Judged.{Judged};
+ghost use Rattle.choices.specs.Judged.{ofMark, Judged};
 ghost use Rattle.door.specs.Asking.{askedBy};
 use crate::truth::Marks;
+use crate::truth::both_of;
+use crate::truth::is_true;
+use crate::truth::settler;
 use door::asked::Asked;
 use door::asked::Chosen;
 use layout::entries::count_of;
@@ -22,59 +24,54 @@ use meaning::Layout;
 use meaning::Mind;
 use meaning::Plan;
 
-// The mark of a node.
-fn holds(marks: &Marks, node: u8) -> bool
-    ensures { λ r. ⌜ r ≡ getD (now (marks .entry)) node false ⌝ }
+// By whether the plan's front fits, and the mark of the conditions: in this order. "Whoever judges a condition passes it on".
+fn asked_by(front: bool, conditions: u16) -> Asked
+    ensures { λ r. ⌜ r ≡ askedBy true front (ofMark conditions) ⌝ }
 {
-    marks[node as usize]
-}
-
-// The answer by whether the plan's front fits, and whether the conditions hold: in this order.
-fn asked_by(front: bool, conditions: bool) -> Asked
-    ensures { λ r. ⌜ r ≡ askedBy front conditions ⌝ }
-{
+    let hold = is_true(conditions);
     if !front {
         return Asked::Front;
     }
-    if !conditions {
-        return Asked::Condition;
+    if !hold {
+        return Asked::Condition(settler(conditions));
     }
     Asked::Enabled
 }
 
-// Selection rule i: "Enabled if the plan is empty and both conditions of the rule hold."
+// Selection rule i: "Enabled if the plan is empty and both conditions of the rule hold."; "the belief condition before the goal
+// condition".
 fn ask_selection(card: &[u8], l: Layout, m: Mind, plan: &Plan, marks: &Marks, i: usize) -> Asked
     requires { ⌜ Judged l (now card) (configured m (now plan)) (now marks) × (i < l .selections .count) ⌝ }
-    ensures { λ r. ⌜ r ≡ asked (agentFor l (now (card .entry))) (stateOf (configured m (now (plan .entry))) .mental) (select i) ⌝ }
+    ensures { λ r. ⌜ r ≡ asked l (now (card .entry)) (stateOf (configured m (now (plan .entry))) .mental) (select i) ⌝ }
 {
     let e = read_selection(card, l, i);
-    let belief = holds(marks, e.belief);
-    let goal = holds(marks, e.goal);
-    asked_by(m.length == 0, belief & goal)
+    let belief = marks[e.belief as usize];
+    let goal = marks[e.goal as usize];
+    asked_by(m.length == 0, both_of(belief, goal))
 }
 
 // Specification i: "Enabled … if the plan is not empty, its first action is that of the specification, and the precondition
 // holds."
 fn ask_specification(card: &[u8], l: Layout, m: Mind, plan: &Plan, marks: &Marks, i: usize) -> Asked
     requires { ⌜ Judged l (now card) (configured m (now plan)) (now marks) × (i < l .specifications .count) ⌝ }
-    ensures { λ r. ⌜ r ≡ asked (agentFor l (now (card .entry))) (stateOf (configured m (now (plan .entry))) .mental) (act i) ⌝ }
+    ensures { λ r. ⌜ r ≡ asked l (now (card .entry)) (stateOf (configured m (now (plan .entry))) .mental) (act i) ⌝ }
 {
     let e = read_specification(card, l, i);
     let first = plan[0];
-    let belief = holds(marks, e.node);
+    let belief = marks[e.node as usize];
     asked_by((m.length != 0) & (e.action == first), belief)
 }
 
 // Revision rule i: "Enabled if the head is a prefix of the plan and the condition holds."
 fn ask_revision(card: &[u8], l: Layout, m: Mind, plan: &Plan, marks: &Marks, i: usize) -> Asked
     requires { ⌜ Judged l (now card) (configured m (now plan)) (now marks) × (i < l .revisions .count) ⌝ }
-    ensures { λ r. ⌜ r ≡ asked (agentFor l (now (card .entry))) (stateOf (configured m (now (plan .entry))) .mental) (revise i) ⌝ }
+    ensures { λ r. ⌜ r ≡ asked l (now (card .entry)) (stateOf (configured m (now (plan .entry))) .mental) (revise i) ⌝ }
 {
     let e = read_revision(card, l, i);
     let head = e.head;
     let at = pool_at(l, head.start);
     let front = plans::starts_with(card, at, head.length, plan, m.length as usize);
-    let belief = holds(marks, e.node);
+    let belief = marks[e.node as usize];
     asked_by(front, belief)
 }
 
@@ -89,7 +86,7 @@ fn ask_entry(
     i: usize,
 ) -> Asked
     requires { ⌜ Judged l (now card) (configured m (now plan)) (now marks) × (kind < 3) × (i < countOf l kind) ⌝ }
-    ensures { λ r. ⌜ r ≡ asked (agentFor l (now (card .entry))) (stateOf (configured m (now (plan .entry))) .mental) (choiceAt kind i) ⌝ }
+    ensures { λ r. ⌜ r ≡ asked l (now (card .entry)) (stateOf (configured m (now (plan .entry))) .mental) (choiceAt kind i) ⌝ }
 {
     match kind {
         0 => ask_selection(card, l, m, plan, marks, i),
@@ -101,7 +98,7 @@ fn ask_entry(
 // A choice of any number.
 pub fn ask(card: &[u8], l: Layout, m: Mind, plan: &Plan, marks: &Marks, kind: u8, i: usize) -> Asked
     requires { ⌜ Judged l (now card) (configured m (now plan)) (now marks) × (kind < 3) ⌝ }
-    ensures { λ r. ⌜ r ≡ asked (agentFor l (now (card .entry))) (stateOf (configured m (now (plan .entry))) .mental) (choiceAt kind i) ⌝ }
+    ensures { λ r. ⌜ r ≡ asked l (now (card .entry)) (stateOf (configured m (now (plan .entry))) .mental) (choiceAt kind i) ⌝ }
 {
     if count_of(l, kind) <= i {
         return Asked::NoRule;
@@ -127,7 +124,7 @@ pub fn is_enabled(
         Asked::Enabled => true,
         Asked::NoRule => false,
         Asked::Front => false,
-        Asked::Condition => false,
+        Asked::Condition(_) => false,
     }
 }
 
@@ -153,7 +150,7 @@ pub fn first_of_kind(
             }
             Asked::NoRule => i += 1,
             Asked::Front => i += 1,
-            Asked::Condition => i += 1,
+            Asked::Condition(_) => i += 1,
         }
     }
     Chosen::Nothing

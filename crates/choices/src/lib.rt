@@ -1,4 +1,3 @@
 // Choices: conditions judged in one pass, whether a choice is enabled, and the guide's own choice.
 pub mod ask;
-pub mod settler;
 pub mod truth;

@@ -1,40 +1,87 @@
-// Conditions, judged in one pass over the nodes from the lowest upward, with one mark a node.
+// Conditions, judged in one pass over the nodes from the lowest upward. 02, Wish 3: "keeping one mark and the settling atom for
+// each node".
 ghost use mathlib.Core.Path.{_≡_};
-ghost use mathlib.Core.Bool.{false};
-ghost use Prim.Native.Nat.{_≤_};
-ghost use lib.ListN.{length, getD, replicate};
+ghost use mathlib.Core.Bool.{Bool};
+ghost use Prim.Native.Nat.{ℕ, _≤_};
+ghost use lib.ListN.{length, replicate};
 ghost use Rattle.meaning.specs.Kinds.{nodeKind};
 ghost use Rattle.card.specs.GoodCard.{GoodCard};
-ghost use Rattle.choices.specs.Truth.{truthOf, Marked};
+ghost use Rattle.door.specs.Asking.{both};
+ghost use Rattle.choices.specs.OnePass.{keptOf};
+ghost use Rattle.choices.specs.Judged.{ofMark, markAt, either, Marked};
 use layout::entries::read_node;
 use meaning::Layout;
 use meaning::Mind;
 use meaning::Node;
 
-// One mark a node: whether its condition holds.
-pub type Marks = [bool; 256];
+// Of each node one mark and the settling atom, in one number: the number of the node that settled it, and 256 more where its
+// condition holds.
+pub type Marks = [u16; 256];
 
-// The truth of a node, by the marks of the lower nodes.
-fn truth(x: Node, m: Mind, marks: &Marks) -> bool
+// Whether a condition holds, by its mark.
+pub fn is_true(mark: u16) -> bool
+    ensures { λ r. ⌜ r ≡ ofMark mark .0 ⌝ }
+{
+    mark / 256 == 1
+}
+
+// The node that settled it.
+pub fn settler(mark: u16) -> u8
+    ensures { λ r. ⌜ r ≡ ofMark mark .1 ⌝ }
+{
+    (mark % 256) as u8
+}
+
+// The mark of a value and of the node that settled it.
+fn mark_of(value: bool, node: u8) -> u16
+    ensures { λ r. ⌜ _≡_ {A = Bool × ℕ} (ofMark r) (value, node) ⌝ }
+{
+    if value {
+        256 + node as u16
+    } else {
+        node as u16
+    }
+}
+
+// Both of two: "the left child's where the left alone settles the value, else the right's", of an "and".
+pub fn both_of(left: u16, right: u16) -> u16
+    ensures { λ r. ⌜ ofMark r ≡ both (ofMark left) (ofMark right) ⌝ }
+{
+    if is_true(left) { right } else { left }
+}
+
+// One of two: the same of an "or".
+fn one_of(left: u16, right: u16) -> u16
+    ensures { λ r. ⌜ ofMark r ≡ either (ofMark left) (ofMark right) ⌝ }
+{
+    if is_true(left) { left } else { right }
+}
+
+// 02, Wish 1: "Judging a condition should also name the atom that settled it: for an atom or "true", that node; for "not", its
+// child's": node i, by the marks of the lower nodes.
+fn judge(i: u8, x: Node, m: Mind, marks: &Marks) -> u16
     requires { ⌜ x .kind ≤ 5 ⌝ }
-    ensures { λ r. ⌜ r ≡ truthOf (nodeKind (x .kind)) (x .a) (x .b) (m .beliefs) (m .goals) (λ j. getD (now (marks .entry)) j false) ⌝ }
+    ensures { λ r. ⌜ ofMark r ≡ keptOf i (nodeKind (x .kind)) (x .a) (x .b) (m .beliefs) (m .goals) (markAt (now (marks .entry))) ⌝ }
 {
     let kind = x.kind;
     let a = x.a;
     let b = x.b;
     let beliefs = m.beliefs;
     let goals = m.goals;
+    let left = marks[a as usize];
+    let right = marks[b as usize];
+    let child = settler(left);
     match kind {
-        0 => true,
-        1 => sets::member(beliefs, a),
-        2 => sets::member(goals, a),
-        3 => !marks[a as usize],
-        4 => marks[a as usize] & marks[b as usize],
-        _ => marks[a as usize] | marks[b as usize],
+        0 => mark_of(true, i),
+        1 => mark_of(sets::member(beliefs, a), i),
+        2 => mark_of(sets::member(goals, a), i),
+        3 => mark_of(!is_true(left), child),
+        4 => both_of(left, right),
+        _ => one_of(left, right),
     }
 }
 
-// Every node's truth, over marks of whatever was before.
+// Every node, over marks of whatever was before.
 pub fn judge_nodes(card: &[u8], l: Layout, m: Mind, marks: &mut Marks)
     requires { ⌜ GoodCard l (now card) × (length (now marks) ≡ 256) ⌝ }
     ensures { λ r. ⌜ Marked l (now (card .entry)) m (now (marks .exit)) × (length (now (marks .exit)) ≡ 256) ⌝ }
@@ -43,7 +90,7 @@ pub fn judge_nodes(card: &[u8], l: Layout, m: Mind, marks: &mut Marks)
     let n = nodes.count;
     let mut i: usize = 0;
     while i < n {
-        let mark = truth(read_node(card, l, i), m, marks);
+        let mark = judge(i as u8, read_node(card, l, i), m, marks);
         marks[i] = mark;
         i += 1;
     }
@@ -51,7 +98,7 @@ pub fn judge_nodes(card: &[u8], l: Layout, m: Mind, marks: &mut Marks)
 
 // No node is marked.
 pub fn no_marks() -> Marks
-    ensures { λ r. ⌜ r ≡ replicate 256 false ⌝ }
+    ensures { λ r. ⌜ r ≡ replicate 256 0 ⌝ }
 {
-    [false; 256]
+    [0u16; 256]
 }

@@ -1,11 +1,11 @@
 -- The call: its checks in their order, and what it answers.
 use mathlib.Core.Path.{_≡_, refl, ap, ap₂, _∙_, sym, subst}
 use mathlib.Core.Bool.{Bool, true, false}
-use mathlib.Core.List.{[], _∷_, _++_}
+use mathlib.Core.List.{[], _∷_, _++_, append-nil}
 use Prim.Native.Nat.{ℕ, _+_, _-_, _≤_}
 use native.Mathlib.Omega.{arith}
-use lib.ListN.{length, take, drop, set, replicate, length-drop, length-set, length-replicate, drop-of-length-le}
-use lib.Seq.{take-all, paste}
+use lib.ListN.{length, take, drop, set, replicate, length-append, length-drop, length-set, length-replicate, drop-of-length-le}
+use lib.Seq.{take-all, take-at, paste}
 use Rattle.paper.specs.Language.{𝐁}
 use Rattle.meaning.specs.declared.Refusal.{Refusal}
 use Rattle.meaning.specs.declared.Answer.{Answer}
@@ -19,7 +19,6 @@ use Rattle.meaning.specs.Refusals.{andThen, firstGiven, containing, configurati
 use Rattle.meaning.specs.Calls.{checks}
 use Rattle.meaning.proofs.Tables.{done≢refused}
 use Rattle.meaning.proofs.Calls.{good-judged, refused-judged}
-use Rattle.plans.proofs.Laws.{drop-replicate}
 use Rattle.card.specs.Rows.{rowAnswer}
 use Rattle.card.proofs.Rows.{row-done}
 use Rattle.deliberation.specs.declared.Deliberated.{Deliberated}
@@ -48,17 +47,30 @@ pub first-remains : (p stack : Bytes) → drop 127 stack ≡ whole p → length 
 first-remains p stack e n =
     record { room = n; within = omega arith; stacked = subst (Stacked (entryCount p - 1)) (sym e) (put (entryCount p - 1) [] (omega arith) nothing) }
 
-pub handed-out : (stack zeros : Bytes) (top : ℕ) → top ≤ 128 → length stack ≡ 128 → zeros ≡ replicate 128 0
-    → remains (128 - top) (paste zeros 0 (drop top stack) (128 - top)) ≡ remainingOf (drop top stack)
-unfolding remainingOf
-handed-out stack zeros top h s e =
-    let n : length (drop top stack) ≡ 128 - top = length-drop top stack ∙ ap (λ k. k - top) s in
-    let w : length (drop top stack) ≤ 128 - top = omega arith in
-    let f : take (128 - top) (drop top stack) ≡ drop top stack = take-all (128 - top) (drop top stack) w in
-    let k : 0 + (128 - top) ≡ 128 - top = omega arith in
-    let z : drop (0 + (128 - top)) zeros ≡ replicate (128 - length (drop top stack)) 0 =
-    ap₂ (λ j x. drop j x) k e ∙ drop-replicate (128 - top) 128 0 ∙ ap (λ j. replicate (128 - j) 0) (sym n) in
-    λ i. record { length = sym n i; numbers = ap₂ _++_ f z i }
+module _ (d d₁ d₂ : Bytes) (top : ℕ) (h : top ≤ 128) (s : length d ≡ 128) (moved : d₁ ≡ paste d 0 (drop top d) (128 - top)) where
+  count : length (drop top d) ≡ 128 - top
+  count = length-drop top d ∙ ap (λ k. k - top) s
+
+  in-front : d₁ ≡ drop top d ++ drop (128 - top) d
+  in-front =
+      let n = count in
+      let k : 0 + (128 - top) ≡ 128 - top = omega arith in
+      moved ∙ ap₂ (λ (x : Bytes) j. x ++ drop j d) (take-all (128 - top) (drop top d) (omega arith)) k
+
+  pub moved-length : length d₁ ≡ 128
+  moved-length = omega (arith, count, ap length in-front ∙ length-append (drop top d) (drop (128 - top) d), length-drop (128 - top) d)
+
+  pub handed-out : d₂ ≡ (take (128 - top) d₁ ++ replicate (128 - (128 - top)) 0) ++ drop 128 d₁ → remains (128 - top) d₂ ≡ remainingOf (drop top d)
+  unfolding remainingOf
+  handed-out cleared =
+      let n = count in
+      let m = moved-length in
+      let w : length d₁ ≤ 128 = omega arith in
+      let front : Bytes = take (128 - top) d₁ ++ replicate (128 - (128 - top)) 0 in
+      let t : take (128 - top) d₁ ≡ drop top d = ap (take (128 - top)) in-front ∙ take-at (drop top d) (drop (128 - top) d) (128 - top) n in
+      let q : d₂ ≡ drop top d ++ replicate (128 - length (drop top d)) 0 =
+      cleared ∙ ap (λ (x : Bytes). front ++ x) (drop-of-length-le d₁ w) ∙ append-nil front ∙ ap₂ _++_ t (ap (λ j. replicate (128 - j) 0) (sym n)) in
+      λ i. record { length = sym n i; numbers = q i }
 
 -- what the moves came to, as it is answered
 pub ran-so : (o : Outcome) (r : RanMoves) (plan stack numbers : Bytes) (n : ℕ) → RanTo o r plan stack → remains n numbers ≡ remainingOf (drop (r .top) stack)

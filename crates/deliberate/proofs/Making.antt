@@ -25,11 +25,11 @@ use Rattle.meaning.specs.Refusals.{containing}
 use Rattle.meaning.specs.Configurations.{stateOf, configurationOf}
 use Rattle.layout.specs.PlaceParts.{configured}
 use Rattle.door.specs.declared.asked.Chosen.{Chosen}
-use Rattle.choices.specs.Truth.{truths, Marked}
+use Rattle.choices.specs.OnePass.{kept}
 use Rattle.door.specs.Ready.{Ready}
-use Rattle.choices.specs.Judged.{Judged}
+use Rattle.choices.specs.Judged.{markAt, Marked, Judged}
 use Rattle.door.specs.Asking.{choiceAt, chosen}
-use Rattle.door.proofs.Asking.{asked-enabled, enabled-is, empty-exactly}
+use Rattle.door.proofs.Asking.{empty-exactly}
 use Rattle.choices.proofs.Marked.{marked}
 use Rattle.moves.specs.declared.step.Transition.{Transition}
 use Rattle.moves.specs.declared.step.Stepped.{Stepped}
@@ -106,7 +106,7 @@ module _ (l : Layout) (b : Bytes) (c : Configuration) (k : Choice) (x : Stepped)
                 (let y = no-action-keeps t (λ g. eqb-false (kind k) 1 (not-true _ (sym (ap knownAfter u) ∙ z)) g) in
                 let β : x .mind .beliefs ≡ c .mind .beliefs = ap (λ (g : Configuration). g .mind .beliefs) at ∙ y .0 in
                 let γ : x .mind .goals ≡ c .mind .goals = ap (λ (g : Configuration). g .mind .goals) at ∙ y .1 in
-                λ j g. v j g ∙ ap₂ (λ x y. getD (truths l b x y) j false) (sym β) (sym γ));
+                λ j g. v j g ∙ ap₂ (λ x y. getD (kept l b x y) j (false, 0)) (sym β) (sym γ));
           })
 
   -- the same of the choice that is taken
@@ -157,9 +157,6 @@ module _ (l : Layout) (b : Bytes) (c : Configuration) where
   abbrev pub Takes : Option Choice → ℕ → ℕ → Type 0
   Takes o n i = (n < 3) × Enabled l b c (choiceAt n i) × (o ≡ some (choiceAt n i))
 
-  enables : (k : Choice) → enabled (agentFor l b) (stateOf c .mental) k ≡ true → Enabled l b c k
-  enables k e = enabled-is _ (asked-enabled (agentFor l b) (stateOf c .mental) k ∙ e)
-
   pub takes-at : (κ : EntryKind) (a n i : ℕ) → chosen (Made-specs.taken (agentFor l b) (stateOf c .mental) κ a) ≡ Chosen.At n i
       → Takes (Made-specs.taken (agentFor l b) (stateOf c .mental) κ a) n i
   takes-at κ a n i = go (Made-specs.taken (agentFor l b) (stateOf c .mental) κ a) refl
@@ -171,7 +168,7 @@ module _ (l : Layout) (b : Bytes) (c : Configuration) where
           let q = choice-back k n i f in
           let m : kind k ≡ n = cc in
           let t = taken-enabled (agentFor l b) (stateOf c .mental) κ a k e in
-          (subst (λ x. x < 3) m (kind-lt k), subst (Enabled l b c) (sym q) (enables k t), e ∙ ap some (sym q))
+          (subst (λ x. x < 3) m (kind-lt k), subst (Enabled l b c) (sym q) t, e ∙ ap some (sym q))
 
 pub taken-at-all : (o : Option Choice) → isSome o ≡ true → chosen o ≡ Chosen.Nothing → ⊥
 taken-at-all none e f = false≢true e
@@ -210,7 +207,7 @@ module _ (l : Layout) (b : Bytes) (c : Configuration) where
       }
 
   -- what the idle move of a while comes to, by the plan's length and the marks
-  module _ (marks : List Bool) (j : Judged l b c marks) where
+  module _ (marks : List ℕ) (j : Judged l b c marks) where
     abbrev A′ : Agent
     A′ = agentFor l b
 
@@ -221,15 +218,15 @@ module _ (l : Layout) (b : Bytes) (c : Configuration) where
     idle-on false true i body ns e = absurd (false≢true e)
     idle-on false false i body ns e = refl
 
-    pub while-on : (i : ℕ) (e : Node) (q : ℕ → Option (Move (List ℕ))) (ns : List ℕ) (t : Bool) → GoodEntry l b i e → HoldsBy e (c .mind .length) (getD marks (e .a) false) t
+    pub while-on : (i : ℕ) (e : Node) (q : ℕ → Option (Move (List ℕ))) (ns : List ℕ) (t : Bool) → GoodEntry l b i e → HoldsBy e (c .mind .length) (markAt marks (e .a) .0) t
         → moveResult A′ (stateOf c) (moveOf A′ (conditions 𝐁 l b) (stateOf c .mental) i (entryKind (e .kind)) (e .a) (e .b) q) ns ≡ on (again t (e .b) i ns) (stateOf c)
     unfolding 𝒲 stateOf
     while-on i e q ns t g (by-plan h) =
         let k = empty-exactly (c .plan) (c .mind .length) (let x = j .ready .fits in let y = j .ready .room in omega arith) in
         rw h (idle-on (𝒲 notEmptyPlan (stateOf c .mental)) (not (eqb (c .mind .length) 0)) i (e .b) ns (ap not k))
     while-on i e q ns t g (by-mark h) =
-        rw h (idle-on (𝒲 (holds (condition (conditions 𝐁 l b) (e .a))) (stateOf c .mental)) (getD marks (e .a) false) i (e .b) ns
-        (sym (marked l b c marks j i 𝐁 (e .a) (belief-condition (subst (EntryLaws _ _ _ _ _ _) h (g .names))))))
+        rw h (idle-on (𝒲 (holds (condition (conditions 𝐁 l b) (e .a))) (stateOf c .mental)) (markAt marks (e .a) .0) i (e .b) ns
+        (sym (ap (λ p. p .0) (marked l b c marks j 𝐁 (e .a) (belief-condition (subst (EntryLaws _ _ _ _ _ _) h (g .names)))))))
 
 -- ---- an entry without parts
 
@@ -273,8 +270,8 @@ module _ (l : Layout) (b p : Bytes) (c : Configuration) (good : GoodProgram l b 
       let n = length-drop (leaf .top) stack in
       (omega arith, omega arith)
 
-  pub leaf-idles : (marks : List Bool) → Judged l b c marks → (r : AfterMove) (stack′ : Bytes) → r ≡ stayed (c .mind) MoveMade.On (r .top) → r .top ≤ 128
-      → length stack′ ≡ 128 → (t : Bool) → HoldsBy x (c .mind .length) (getD marks (x .a) false) t → drop (r .top) stack′ ≡ again t (x .b) (leaf .at) ns′
+  pub leaf-idles : (marks : List ℕ) → Judged l b c marks → (r : AfterMove) (stack′ : Bytes) → r ≡ stayed (c .mind) MoveMade.On (r .top) → r .top ≤ 128
+      → length stack′ ≡ 128 → (t : Bool) → HoldsBy x (c .mind .length) (markAt marks (x .a) .0) t → drop (r .top) stack′ ≡ again t (x .b) (leaf .at) ns′
       → Makes l b c ns′ (moveResult (agentFor l b) (stateOf c) (moveAt l b p (stateOf c .mental) (leaf .at)) ns′) r (c .plan) stack′
   leaf-idles marks j r stack′ e w n t k f =
       let g = while-on l b c marks j (leaf .at) x (moveAt l b p (stateOf c .mental)) ns′ t leaf-good k in

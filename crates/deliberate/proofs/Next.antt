@@ -14,7 +14,7 @@ use Rattle.meaning.specs.declared.Layout.{Layout}
 use Rattle.meaning.specs.declared.Configuration.{Configuration}
 use Rattle.meaning.specs.Card.{Bytes, agentFor}
 use Rattle.meaning.specs.Configurations.{stateOf}
-use Rattle.choices.specs.Truth.{Marked}
+use Rattle.choices.specs.Judged.{Marked}
 use Rattle.deliberation.specs.FirstMove.{Move}
 use Rattle.deliberation.specs.Entries.{entryCount, moveAt}
 use Rattle.deliberation.specs.Deliberate.{MoveResult, stuck, too-long, on, moveResult}

@@ -15,7 +15,7 @@ use Rattle.meaning.specs.declared.Configuration.{Configuration}
 use Rattle.meaning.specs.Card.{Bytes, agentFor}
 use Rattle.meaning.specs.Configurations.{stateOf, configurationOf}
 use Rattle.layout.specs.PlaceParts.{configured}
-use Rattle.choices.specs.Truth.{Marked}
+use Rattle.choices.specs.Judged.{Marked}
 use Rattle.moves.specs.declared.step.Transition.{Transition}
 use Rattle.deliberation.specs.Kinds.{EntryKind, Execute, Apply, Select, WhilePlan, WhileBelief, Then, Or, entryKind}
 use Rattle.deliberation.specs.FirstMove.{lowestAction, ifEnabled}
@@ -52,7 +52,7 @@ pub record Makes (l : Layout) (b : Bytes) (c : Configuration) (ns : List ℕ) (o
   pub numbers : drop (r .top) stack ≡ numbersAfter o ns
   pub within : r .top ≤ 128
   pub room : length stack ≡ 128
-  pub keeps : r .known ≡ true → (marks : List Bool) → Marked l b (c .mind) marks → Marked l b (r .mind) marks
+  pub keeps : r .known ≡ true → (marks : List ℕ) → Marked l b (c .mind) marks → Marked l b (r .mind) marks
 
 -- 128 bytes of which those from top on are the numbers that remain, stacked
 pub record Remains (p stack : Bytes) (top : ℕ) : Type 0 where

@@ -16,12 +16,13 @@ use card::check::answer_of;
 use card::check::check;
 use deliberation::DeliberationEnding;
 use door::configuration::judge_configuration;
-use layout::bytes::copy;
+use layout::bytes::down;
 use meaning::Answer;
 use meaning::Checked;
 use meaning::Layout;
 use meaning::Mind;
 use meaning::Plan;
+use plans::clear;
 use program::judge_program;
 
 // Of `Deliberated`, all but what the lent plan and the lent numbers hold: how many of these remain.
@@ -53,23 +54,23 @@ fn refused(answer: Answer, m: Mind) -> DeliberatedInPlace
     }
 }
 
-// 02, Wish 6: "the last one the whole": the number that remains before the first move, at the end of 128 bytes.
-fn first_number(entries: usize) -> [u8; 128]
-    requires { ⌜ (1 ≤ entries) × (entries ≤ 128) ⌝ }
-    ensures { λ r. ⌜ (drop 127 r ≡ (entries - 1) ∷ []) × (length r ≡ 128) ⌝ }
+// 02, Wish 6: "the last one the whole": the number that remains before the first move, at the end of the lent ones, which are
+// zeros.
+fn put_whole(remaining: &mut [u8; 128], entries: usize)
+    requires { ⌜ (1 ≤ entries) × (entries ≤ 128) × (now remaining ≡ replicate 128 0) ⌝ }
+    ensures { λ r. ⌜ (drop 127 (now (remaining .exit)) ≡ (entries - 1) ∷ []) × (length (now (remaining .exit)) ≡ 128) ⌝ }
 {
-    let mut stack = no_numbers();
-    stack[127] = (entries - 1) as u8;
-    stack
+    remaining[127] = (entries - 1) as u8;
 }
 
-// The numbers from top on over the front of the lent ones, which are zeros.
-fn hand_out(stack: &[u8; 128], top: usize, remaining: &mut [u8; 128]) -> u8
-    requires { ⌜ (top ≤ 128) × (length (now stack) ≡ 128) × (now remaining ≡ replicate 128 0) ⌝ }
-    ensures { λ r. ⌜ remains r (now (remaining .exit)) ≡ remainingOf (drop top (now (stack .entry))) ⌝ }
+// The numbers from top on to the front, and zeros behind them.
+fn hand_out(remaining: &mut [u8; 128], top: usize) -> u8
+    requires { ⌜ (top ≤ 128) × (length (now remaining) ≡ 128) ⌝ }
+    ensures { λ r. ⌜ remains r (now (remaining .exit)) ≡ remainingOf (drop top (now (remaining .entry))) ⌝ }
 {
     let n = 128 - top;
-    copy(remaining, 0, stack, top, n);
+    down(remaining, 0, top, n);
+    clear(remaining, n, 128);
     n as u8
 }
 
@@ -88,9 +89,9 @@ fn from_moves(
         ≡ deliberated (deliberate (agentFor l (now (card .entry))) (conditions 𝐁 l (now (card .entry))) (entriesOf (now (program .entry)))
         budget (whole (now (program .entry))) (stateOf (configured m (now (plan .entry))))) ⌝ }
 {
-    let mut stack = first_number(program.len() / 4);
-    let ran = run_moves(card, l, m, plan, program, budget, &mut stack, 127);
-    let n = hand_out(&stack, ran.top, remaining);
+    put_whole(remaining, program.len() / 4);
+    let ran = run_moves(card, l, m, plan, program, budget, remaining, 127);
+    let n = hand_out(remaining, ran.top);
     let after = ran.mind;
     let ending = ran.ending;
     DeliberatedInPlace {

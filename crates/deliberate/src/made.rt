@@ -1,14 +1,14 @@
 // A move is made: the first move of the next of the numbers that remain. 02, Wish 6: "Each move is one of the document's
 // meta-level transitions, with selection added".
 ghost use mathlib.Core.Path.{_≡_};
-ghost use mathlib.Core.Bool.{Bool, true, false};
+ghost use mathlib.Core.Bool.{Bool, true};
 ghost use mathlib.Core.List.{[]};
 ghost use Prim.Native.Nat.{_≤_, _<_};
-ghost use lib.ListN.{length, drop, getD};
+ghost use lib.ListN.{length, drop};
 ghost use Rattle.paper.specs.Language.{Agent, Config};
 ghost use Rattle.paper.specs.Next.{isSome};
 ghost use Rattle.door.specs.Words.{Bytes, agentFor, stateOf, configured, Ready, chosen, firstOfKind};
-ghost use Rattle.choices.specs.Judged.{Judged};
+ghost use Rattle.choices.specs.Judged.{markAt, Judged};
 ghost use Rattle.deliberation.specs.Kinds.{entryKind};
 ghost use Rattle.deliberation.specs.FirstMove.{byChoice, lowestAction};
 ghost use Rattle.deliberation.specs.Entries.{moveAt};
@@ -21,6 +21,7 @@ use crate::descent::descend;
 use crate::first::mark_moves;
 use choices::ask::first_of_kind;
 use choices::truth::Marks;
+use choices::truth::is_true;
 use door::asked::Chosen;
 use meaning::Layout;
 use meaning::Mind;
@@ -121,13 +122,13 @@ fn make_choice(
 // Whether a while's condition holds: "3 while the plan is not empty do b, 4 while belief condition a holds do b".
 fn holds(e: Node, m: Mind, marks: &Marks) -> bool
     requires { ⌜ (3 ≤ e .kind) × (e .kind < 5) ⌝ }
-    ensures { λ r. ⌜ HoldsBy e (m .length) (getD (now (marks .entry)) (e .a) false) r ⌝ }
+    ensures { λ r. ⌜ HoldsBy e (m .length) (markAt (now (marks .entry)) (e .a) .0) r ⌝ }
 {
     let kind = e.kind;
     let a = e.a as usize;
     match kind {
         3 => m.length != 0,
-        _ => marks[a],
+        _ => is_true(marks[a]),
     }
 }
 
@@ -135,7 +136,7 @@ fn holds(e: Node, m: Mind, marks: &Marks) -> bool
 fn turn(e: Node, i: usize, m: Mind, marks: &Marks, stack: &mut [u8; 128], top: usize) -> AfterMove
     requires { ⌜ (3 ≤ e .kind) × (e .kind < 5) × (i < 128) × (2 ≤ top) × (top ≤ 128) × (length (now stack) ≡ 128) ⌝ }
     ensures { λ r. ⌜ (r ≡ stayed m MoveMade.On (r .top)) × (r .top ≤ 128) × (length (now (stack .exit)) ≡ 128) ⌝ }
-    ensures { λ r. ⌜ ((t : Bool) × (HoldsBy e (m .length) (getD (now (marks .entry)) (e .a) false) t
+    ensures { λ r. ⌜ ((t : Bool) × (HoldsBy e (m .length) (markAt (now (marks .entry)) (e .a) .0) t
         × (drop (r .top) (now (stack .exit)) ≡ again t (e .b) i (drop top (now (stack .entry)))))) ⌝ }
 {
     if !holds(e, m, marks) {

@@ -19,10 +19,12 @@ use Rattle.meaning.proofs.Entries.{good-entries}
 use Rattle.meaning.proofs.AtomKinds.{no-goal-atom}
 use Rattle.meaning.proofs.AgentEntries.{revisionFor, revision-entry}
 use Rattle.meaning.proofs.Parts.{length-part}
-use Rattle.deliberation.specs.Theorems.{EntryLaw}
+use Rattle.deliberation.specs.Entries.{entryOf}
+use Rattle.deliberation.specs.Theorems.{ProgramExactly}
 use Rattle.deliberation.specs.Equivalence.{NoReactiveLaw, InterpreterLaws}
 use Rattle.deliberation.proofs.Named.{entry-laws}
-use Rattle.deliberation.proofs.Good.{entry-rule}
+use Rattle.deliberation.proofs.Good.{entry-good, program-good, some-entries, most-entries, no-byte-more, entry-known, entry-rule, entry-unused, entry-zero}
+use Rattle.deliberation.proofs.GoalAtoms.{belief-condition}
 use Rattle.deliberation.proofs.Equivalence.{proposition-1, lemma-1, theorem-1}
 
 -- row 7 asks that a head lies in the pool and is not empty
@@ -59,10 +61,28 @@ interpreter-laws = record { proposition-1 = proposition-1; lemma-1 = lemma-1; th
 
 -- ---- the entries of a program
 
-pub entry-law : EntryLaw
+pub program-exactly : ProgramExactly
 unfolding agent agentFor agentOf
-entry-law b p card good i h =
+program-exactly b p card =
     let l = layout b in
-    entry-laws (λ k. rw (length-entries _ (l .revisions)) k) (λ k. rw (length-entries _ (l .selections)) k)
-    (λ n e. (ltb-true n (l .nodes .count) (both (ltb n (l .nodes .count)) _ e .0), no-goal-atom b card n e))
-    (entry-rule (containing 2 l b) l p good i h)
+    let gs = containing 2 l b in (
+      λ good. record {
+        at-least = some-entries gs l p good;
+        at-most = most-entries gs l p good;
+        no-byte-more = no-byte-more gs l p good;
+        entries = λ i h. record {
+          known = entry-known gs l p good i h;
+          names = entry-laws (λ k. rw (length-entries _ (l .revisions)) k) (λ k. rw (length-entries _ (l .selections)) k)
+              (λ n e. (ltb-true n (l .nodes .count) (both (ltb n (l .nodes .count)) _ e .0), no-goal-atom b card n e))
+              (entry-rule gs l p good i h);
+          unused = entry-unused gs l p good i h;
+          zero = entry-zero gs l p good i h;
+        };
+      },
+      λ rules. program-good gs l p (rules .at-least) (rules .at-most) (rules .no-byte-more) (λ i h.
+          let r = rules .entries i h in
+          entry-good gs l i (entryOf p i) (r .known)
+          (entry-laws (λ k. rw (length-entries _ (l .revisions)) at k) (λ k. rw (length-entries _ (l .selections)) at k)
+          (λ n k. belief-condition b card n (k .0) (k .1)) (r .names))
+          (r .unused) (r .zero)),
+    )

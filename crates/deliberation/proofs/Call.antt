@@ -10,12 +10,14 @@ use Rattle.paper.specs.Language.{𝐁, Agent, Config}
 use Rattle.paper.specs.Transitions.{Choice, Step}
 use Rattle.runs.specs.Order.{State}
 use Rattle.runs.specs.Run.{Chain, stay, _then_}
+use Rattle.runs.specs.Theorems.{NoneBelieved}
+use Rattle.runs.proofs.Goals.{goal-law}
 use Rattle.meaning.specs.declared.Refusal.{Refusal}
 use Rattle.meaning.specs.declared.Answer.{Answer}
 use Rattle.meaning.specs.declared.Answer.the-variants.{Done, Refused}
 use Rattle.meaning.specs.declared.Configuration.{Configuration}
 use Rattle.meaning.specs.Card.{Bytes, layout, conditions, agent}
-use Rattle.meaning.specs.Configurations.{stateOf}
+use Rattle.meaning.specs.Configurations.{stateOf, configurationOf}
 use Rattle.meaning.specs.Refusals.{numberOf, answerNumber, Row, _given-when_, firstGiven, cardAnswer, containing, configurationGood, configurationTable}
 use Rattle.meaning.proofs.Tables.{done≢refused, given, not-given}
 use Rattle.meaning.proofs.Accepted.{card-laws}
@@ -24,14 +26,14 @@ use Rattle.deliberation.specs.declared.DeliberationEnding.{DeliberationE
 use Rattle.deliberation.specs.declared.Deliberated.{Deliberated}
 use Rattle.deliberation.specs.Programs.{still}
 use Rattle.deliberation.specs.MetaTransitions.{Computation, notIdle}
-use Rattle.deliberation.specs.Entries.{entryCount, entriesOf, programGood, programTable, deliberateAnswer, program}
+use Rattle.deliberation.specs.Entries.{entryCount, entriesOf, programGood, programTable, deliberateAnswer, program, moveAt}
 use Rattle.deliberation.specs.Deliberate.{Outcome, deliberate, remainingOf, deliberated, whole, deliberates}
-use Rattle.deliberation.specs.Theorems.{partsOf, wholeOf, numbersIn, standFor, Followed, EndsExactly, Tells, TellsLaw, BoundedMovesLaw, RefusalLaw, DeterminedLaw}
+use Rattle.deliberation.specs.Theorems.{partsOf, wholeOf, numbersIn, standFor, Followed, FollowedNumbers, EndsExactly, Deliberates, Tells, TellsLaw, BoundedMovesLaw, RefusalLaw, DeterminedLaw}
 use Rattle.deliberation.proofs.Good.{some-entries, most-entries}
 use Rattle.deliberation.specs.Stacked.{nothing, put}
 use Rattle.deliberation.proofs.Room.{stacked-length, stacked-known}
 use Rattle.deliberation.proofs.Standing.{stood-one}
-use Rattle.deliberation.proofs.Followed.{computation, chain, fits}
+use Rattle.deliberation.proofs.Followed.{computation, chain, Kept, keeps, fits}
 use Rattle.deliberation.proofs.Run.{Walked, walked, ends-exactly}
 
 -- ---- the answer, by its two equations
@@ -137,7 +139,7 @@ module _ (b p : Bytes) (c : Configuration) (budget : ℕ) (pass : Passed b p c) 
   last-known : last < entryCount p
   last-known = let h = some-entries gs (layout b) p (pass .program-good) in omega arith
 
-  walk : Walked gs (layout b) p (pass .program-good) (agent b) (conditions 𝐁 (layout b) b) last last-known budget (still (wholeOf b p)) (stateOf c) (outcome b p c budget)
+  walk : Walked gs (layout b) p (pass .program-good) (agent b) (conditions 𝐁 (layout b) b) last last-known budget (still (wholeOf b p)) (whole p) (stateOf c) (outcome b p c budget)
   walk =
       walked gs (layout b) p (pass .program-good) (agent b) (conditions 𝐁 (layout b) b) last last-known budget (still (wholeOf b p)) (whole p) (stateOf c)
       (sym (stood-one (conditions 𝐁 (layout b) b) (entriesOf p) last)) (put last [] (omega arith) nothing)
@@ -148,6 +150,10 @@ module _ (b p : Bytes) (c : Configuration) (budget : ℕ) (pass : Passed b p c) 
   -- the configuration that is answered stands for the state reached
   state-back : stateOf (deliberated (outcome b p c budget) .configuration) ≡ outcome b p c budget .state
   state-back = configuration-laws .of-state (outcome b p c budget .state) state-fits
+
+  moved : FollowedNumbers (agent b) (moveAt (layout b) b p) (whole p) (stateOf c) (walk .labels) (outcome b p c budget .remaining) (outcome b p c budget .state)
+  unfolding agent
+  moved = walk .numbered
 
   tells : Tells b p c budget (deliberated (outcome b p c budget))
   tells =
@@ -167,6 +173,7 @@ module _ (b p : Bytes) (c : Configuration) (budget : ℕ) (pass : Passed b p c) 
         counted = w .counted;
         ends = subst (λ s. EndsExactly (agent b) budget (outcome b p c budget .count) (w .rest) s (outcome b p c budget .ending)) back (ends-exactly (w .because));
         remains = w .stands ∙ ap (λ ns. partsOf (standFor b p ns)) (sym (numbers-back ns));
+        numbered = rw (state-back, numbers-back ns) moved;
         room = rw (length-back ns) (omega arith);
         known = λ n i. (let h = stacked-known (w .stacked) n (subst (List·Memᴰ n) (numbers-back ns) i) in omega arith);
         chain = subst (λ (s : State). Chain (agent b) (stateOf c .mental) (notIdle (w .labels)) (s .mental)) back (chain (w .followed));
@@ -174,6 +181,20 @@ module _ (b p : Bytes) (c : Configuration) (budget : ℕ) (pass : Passed b p c) 
 
 pub tells-law : TellsLaw
 tells-law b p c budget e r q = subst (Tells b p c budget) (sym (q ∙ deliberates-done b p c budget e)) (tells b p c budget (passed b p c e))
+
+-- ---- what a done deliberation keeps
+
+-- what each transition keeps whose plan fits, a done deliberation keeps
+pub done-keeps : (b p : Bytes) (c : Configuration) (budget : ℕ) → deliberateAnswer b p c ≡ Done → (r : Deliberated) → Deliberates b p c budget r
+    → (Q : State → Type 0) → Kept (agent b) Q → Q (stateOf c) → (s : State) × ((r .configuration ≡ configurationOf s) × Q s)
+done-keeps b p c budget e r q Q f h =
+    let o = outcome b p c budget in
+    (o .state, (ap (λ (x : Deliberated). x .configuration) (q ∙ deliberates-done b p c budget e), keeps Q f (walk b p c budget (passed b p c e) .followed) h))
+
+-- no goal gets believed
+pub none-believed : (b p : Bytes) (c : Configuration) (budget : ℕ) → deliberateAnswer b p c ≡ Done → (r : Deliberated) → Deliberates b p c budget r
+    → NoneBelieved (stateOf c .mental) → NoneBelieved (stateOf (r .configuration) .mental)
+none-believed b p c budget e r q h = goal-law (agent b) .stays-so (tells-law b p c budget e r q .chain) h
 
 -- ---- demand 3
 

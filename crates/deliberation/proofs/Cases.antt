@@ -9,10 +9,10 @@ use Rattle.deliberation.specs.Programs.{𝒲}
 use Rattle.deliberation.specs.FirstMove.{lowestAction, ifEnabled}
 use Rattle.deliberation.specs.Entries.{entryOf, entriesOf, programGood, programTable, deliberateAnswer, firstMoveOf}
 use Rattle.deliberation.specs.Deliberate.{leads, deliberate, remainingOf, deliberates, deliberationEndingNumber}
-use Rattle.deliberation.specs.Cases.{entry, inNumbers, teaching, doubling, withPlan, long, wrong, DeliberationCases}
+use Rattle.deliberation.specs.Cases.{entry, inNumbers, teaching, twoActions, twoActionsAgain, doubling, withPlan, long, wrong, DeliberationCases}
 
 pub cases : DeliberationCases
-unfolding computing flatten assembled set specification selection revision stripeWith stripe loaded 𝒲 lowestAction ifEnabled entryOf entriesOf programGood programTable deliberateAnswer firstMoveOf leads deliberate remainingOf deliberates deliberationEndingNumber entry inNumbers teaching doubling withPlan long wrong
+unfolding computing flatten assembled set specification selection revision stripeWith stripe loaded 𝒲 lowestAction ifEnabled entryOf entriesOf programGood programTable deliberateAnswer firstMoveOf leads deliberate remainingOf deliberates deliberationEndingNumber entry inNumbers teaching twoActions twoActionsAgain doubling withPlan long wrong
 cases =
     record {
       finished = refl;
@@ -20,6 +20,8 @@ cases =
       spent-first = refl;
       no-budget = refl;
       left-done = refl;
+      right-one-number = refl;
+      body-one-number = refl;
       idle-counted = refl;
       idle-leaves = refl;
       stuck = refl;

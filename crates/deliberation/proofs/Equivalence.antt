@@ -17,7 +17,7 @@ use Rattle.runs.specs.Order.{numbers}
 use Rattle.runs.specs.Run.{Chain, stay, _then_}
 use Rattle.runs.specs.Weight.{isSelection, selections}
 use Rattle.runs.proofs.Order.{entry-lt}
-use Rattle.deliberation.specs.Programs.{Bexp, Prog, execute, apply, while_doing_od, _⨾_, _⊕_, Rest, E, still, _⨾′_, 𝒲}
+use Rattle.deliberation.specs.Programs.{Bexp, Prog, execute, apply, select, while_doing_od, _⨾_, _⊕_, Rest, E, still, _⨾′_, 𝒲}
 use Rattle.deliberation.specs.MetaTransitions.{Label, idle, taking, MetaStep, action-execution, rule-application, rule-selection, while-tt, while-ff, in-sequence, choice-left, choice-right, Computation, as-it-is, _and-then_, notIdle}
 use Rattle.deliberation.specs.Interpreter.{orOneOf, anyMove, interpreter}
 use Rattle.deliberation.specs.Equivalence.{NoReactiveRules, NoSelection, Proposition1, Lemma1, Theorem1}
@@ -35,24 +35,28 @@ proposition-1 A s s′ n = record {
 
 -- ---- transitions taken apart by the program
 
-of-execute : {A : Agent} {s s′ : Config} {x : Label} {R : Rest} → MetaStep A execute s x R s′
+pub of-execute : {A : Agent} {s s′ : Config} {x : Label} {R : Rest} → MetaStep A execute s x R s′
     → (n : ℕ) × ((x ≡ taking (Choice.act n)) × ((R ≡ E) × Step A s (Choice.act n) s′))
 of-execute (action-execution {n = n} t) = (n, (refl, (refl, t)))
 
-of-apply : {A : Agent} {s s′ : Config} {x : Label} {R : Rest} {ρ : ℕ} → MetaStep A (apply ρ) s x R s′
+pub of-apply : {A : Agent} {s s′ : Config} {x : Label} {R : Rest} {ρ : ℕ} → MetaStep A (apply ρ) s x R s′
     → (x ≡ taking (Choice.revise ρ)) × ((R ≡ E) × Step A s (Choice.revise ρ) s′)
 of-apply (rule-application t) = (refl, (refl, t))
 
-of-choice : {A : Agent} {s s′ : Config} {x : Label} {R : Rest} {P Q : Prog} → MetaStep A (P ⊕ Q) s x R s′
+pub of-select : {A : Agent} {s s′ : Config} {x : Label} {R : Rest} {ρ : ℕ} → MetaStep A (select ρ) s x R s′
+    → (x ≡ taking (Choice.select ρ)) × ((R ≡ E) × Step A s (Choice.select ρ) s′)
+of-select (rule-selection t) = (refl, (refl, t))
+
+pub of-choice : {A : Agent} {s s′ : Config} {x : Label} {R : Rest} {P Q : Prog} → MetaStep A (P ⊕ Q) s x R s′
     → MetaStep A P s x R s′ ⊎ MetaStep A Q s x R s′
 of-choice (choice-left t) = inl t
 of-choice (choice-right t) = inr t
 
-of-sequence : {A : Agent} {s s′ : Config} {x : Label} {R : Rest} {P Q : Prog} → MetaStep A (P ⨾ Q) s x R s′
+pub of-sequence : {A : Agent} {s s′ : Config} {x : Label} {R : Rest} {P Q : Prog} → MetaStep A (P ⨾ Q) s x R s′
     → (R′ : Rest) × (MetaStep A P s x R′ s′ × (R ≡ still (R′ ⨾′ Q)))
 of-sequence (in-sequence {P₁′ = R′} t) = (R′, (t, refl))
 
-of-while : {A : Agent} {s s′ : Config} {x : Label} {R : Rest} {b : Bexp} {P : Prog} → MetaStep A (while b doing P od) s x R s′
+pub of-while : {A : Agent} {s s′ : Config} {x : Label} {R : Rest} {b : Bexp} {P : Prog} → MetaStep A (while b doing P od) s x R s′
     → (x ≡ idle) × ((s′ ≡ s) × (((𝒲 b s ≡ true) × (R ≡ still (P ⨾ while b doing P od))) ⊎ ((𝒲 b s ≡ false) × (R ≡ E))))
 of-while (while-tt h) = (refl, (refl, inl (h, refl)))
 of-while (while-ff h) = (refl, (refl, inr (h, refl)))

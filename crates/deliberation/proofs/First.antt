@@ -67,6 +67,16 @@ not-enabled : {A : Agent} {s s′ : Config} {k : Choice} → enabled A s k ≡ f
 not-enabled {A} {s} {s′} {k} h x = false≢true (sym h ∙ enabled-exactly A s k .1 (s′, x))
 
 module _ (A : Agent) (s : Config) where
+  lower-closed : (n : ℕ) → lowestAction A s ≡ some (Choice.act n) → (i : ℕ) → i < n → (s′ : Config) → Step A s (Choice.act i) s′ → ⊥
+  unfolding lowestAction ofKind
+  lower-closed n e i h s′ x =
+      let r = lowest-of (enabled A s) Choice.act 0 (length (A .AS)) (Choice.act n) e in
+      let q : n ≡ r .number = act-number (r .is-it) in
+      not-enabled (r .before i (omega arith) (omega arith)) x
+    where
+      act-number : {m n : ℕ} → Choice.act m ≡ Choice.act n → m ≡ n
+      act-number e = cc
+
   lowest-step : (k : Choice) → lowestAction A s ≡ some k → (n : ℕ) × ((k ≡ Choice.act n) × ((s′ : Config) × Step A s (Choice.act n) s′))
   unfolding lowestAction ofKind
   lowest-step k e =
@@ -79,16 +89,6 @@ module _ (A : Agent) (s : Config) where
     where
       act-lt : {s s′ : Config} {n : ℕ} → Step A s (Choice.act n) s′ → n < length (A .AS)
       act-lt (execute {n = n} e p) = entry-lt (A .AS) n e
-
-  lower-closed : (n : ℕ) → lowestAction A s ≡ some (Choice.act n) → (i : ℕ) → i < n → (s′ : Config) → Step A s (Choice.act i) s′ → ⊥
-  unfolding lowestAction ofKind
-  lower-closed n e i h s′ x =
-      let r = lowest-of (enabled A s) Choice.act 0 (length (A .AS)) (Choice.act n) e in
-      let q : n ≡ r .number = act-number (r .is-it) in
-      not-enabled (r .before i (omega arith) (omega arith)) x
-    where
-      act-number : {m n : ℕ} → Choice.act m ≡ Choice.act n → m ≡ n
-      act-number e = cc
 
   if-enabled : (k : Choice) → enabled A s k ≡ true → ifEnabled A s k ≡ some k
   unfolding ifEnabled
@@ -169,7 +169,7 @@ first-move-law A s P = record { is-one = is-one A s P; none-exactly = none-exact
 -- ---- which of them it is
 
 module _ (A : Agent) (s : Config) where
-  lowest : (m : Move Rest) (n : ℕ) → firstMove A s Prog.execute ≡ some m → m .label ≡ taking (Choice.act n)
+  pub lowest : (m : Move Rest) (n : ℕ) → firstMove A s Prog.execute ≡ some m → m .label ≡ taking (Choice.act n)
       → (i : ℕ) → i < n → (s′ : Config) → Step A s (Choice.act i) s′ → ⊥
   unfolding firstMove
   lowest m n e x =
@@ -180,7 +180,7 @@ module _ (A : Agent) (s : Config) where
       taking-inj : {j k : Choice} → taking j ≡ taking k → j ≡ k
       taking-inj e = cc
 
-  left : (P₁ P₂ : Prog) (x : Label) (P₁′ : Rest) (s′ : Config) → MetaStep A P₁ s x P₁′ s′ → firstMove A s (P₁ ⊕ P₂) ≡ firstMove A s P₁
+  pub left : (P₁ P₂ : Prog) (x : Label) (P₁′ : Rest) (s′ : Config) → MetaStep A P₁ s x P₁′ s′ → firstMove A s (P₁ ⊕ P₂) ≡ firstMove A s P₁
   unfolding firstMove
   left P₁ P₂ x P₁′ s′ t = go (firstMove A s P₁) refl
     where
@@ -188,9 +188,14 @@ module _ (A : Agent) (s : Config) where
       go none e = absurd (not-none t e)
       go (some m) e = rw e (either-left m (firstMove A s P₂))
 
-  right : (P₁ P₂ : Prog) → NoTransition A P₁ s → firstMove A s (P₁ ⊕ P₂) ≡ firstMove A s P₂
+  pub right : (P₁ P₂ : Prog) → NoTransition A P₁ s → firstMove A s (P₁ ⊕ P₂) ≡ firstMove A s P₂
   unfolding firstMove
   right P₁ P₂ h = rw (none-exactly A s P₁ .1 h)
 
+  pub in-first : (P₁ P₂ : Prog) (m : Move Rest) → firstMove A s P₁ ≡ some m
+      → firstMove A s (P₁ ⨾ P₂) ≡ some (record { label = m .label; remaining = still (m .remaining ⨾′ P₂) })
+  unfolding firstMove
+  in-first P₁ P₂ m e = rw (e, firstMove)
+
 pub way-out-law : WayOutLaw
-way-out-law A s = record { lowest = lowest A s; left = left A s; right = right A s }
+way-out-law A s = record { lowest = lowest A s; left = left A s; right = right A s; sequence = in-first A s }

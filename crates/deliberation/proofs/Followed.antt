@@ -4,8 +4,9 @@ use mathlib.Core.List.{List, _∷_}
 use Prim.Native.Nat.{_≤_}
 use lib.ListN.{length}
 use Rattle.paper.specs.Language.{Agent, Config}
-use Rattle.paper.specs.Transitions.{Step}
+use Rattle.paper.specs.Transitions.{Choice, Step}
 use Rattle.paper.proofs.Relation.{unique}
+use Rattle.runs.specs.Limits.{longestPlan}
 use Rattle.runs.specs.Order.{State}
 use Rattle.runs.specs.Step.{after}
 use Rattle.runs.specs.Run.{Chain, stay, _then_}
@@ -52,12 +53,20 @@ unfolding notIdle
 chain no-move = stay
 chain (one-move {xs = xs} f g r) = link xs g (chain r)
 
-fits-after : {A : Agent} {s s′ : State} {x : Label} → Goes A s x s′ → length (s .mental .π) ≤ 1024 → length (s′ .mental .π) ≤ 1024
-unfolding after
-fits-after stays h = h
-fits-after (goes t l) h = l
+-- each transition whose plan fits keeps Q
+abbrev pub Kept : Agent → (State → Type 0) → Type 0
+Kept A Q = (s : State) (k : Choice) (c : Config) → Q s → Step A (s .mental) k c → length (c .π) ≤ longestPlan → Q (after s k c)
+
+keeps-one : {A : Agent} {s s′ : State} {x : Label} (Q : State → Type 0) → Kept A Q → Goes A s x s′ → Q s → Q s′
+keeps-one Q f stays h = h
+keeps-one {s = s} Q f (goes {k = k} {c = c} t l) h = f s k c h t l
+
+-- so first moves one after the other keep it
+pub keeps : {A : Agent} {P P′ : Rest} {s s′ : State} {xs : List Label} (Q : State → Type 0) → Kept A Q → Followed A P s xs P′ s′ → Q s → Q s′
+keeps Q f no-move h = h
+keeps Q f (one-move d g r) h = keeps Q f r (keeps-one Q f g h)
 
 pub fits : {A : Agent} {P P′ : Rest} {s s′ : State} {xs : List Label} → Followed A P s xs P′ s′ → length (s .mental .π) ≤ 1024
     → length (s′ .mental .π) ≤ 1024
-fits no-move h = h
-fits (one-move f g r) h = fits r (fits-after g h)
+unfolding after
+fits r h = keeps (λ (s : State). length (s .mental .π) ≤ 1024) (λ s k c q t l. l) r h

@@ -10,4 +10,7 @@ pub mod Followed
 pub mod Run
 pub mod Call
 pub mod Equivalence
+pub mod Determined
+pub mod Numbers
+pub mod GoalAtoms
 pub mod Accepted

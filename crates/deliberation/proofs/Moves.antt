@@ -1,5 +1,5 @@
 -- Moves taken apart: of a choice, a while, a sequence, and of what takes one.
-use mathlib.Core.Path.{_≡_, refl, _∙_, sym}
+use mathlib.Core.Path.{_≡_, refl, ap, ap₂, _∙_, sym}
 use mathlib.Core.Bool.{Bool, true, false}
 use mathlib.Core.Option.{Option, none, some}
 use Rattle.paper.specs.Transitions.{Choice}
@@ -45,3 +45,13 @@ module _ {R : Type 0} where
   pub takes-none : (o : Option Choice) (r : R) → byChoice o r ≡ none → o ≡ none
   takes-none none r e = refl
   takes-none (some k) r e = absurd (none≢some (sym e))
+
+  -- a move, its label and what then remains
+  pub same-move : (m n : Move R) → m .label ≡ n .label → m .remaining ≡ n .remaining → m ≡ n
+  same-move m n e f = ap₂ (λ x r. record { label = x; remaining = r }) e f
+
+  -- two that are none together are the same if their moves are
+  pub same-first : (o u : Option (Move R)) → (o ≡ none → u ≡ none) → (u ≡ none → o ≡ none) → ((m n : Move R) → o ≡ some m → u ≡ some n → m ≡ n) → o ≡ u
+  same-first none u f g h = sym (f refl)
+  same-first (some m) none f g h = g refl
+  same-first (some m) (some n) f g h = ap {B = Option (Move R)} (λ x. some x) (h m n refl refl)

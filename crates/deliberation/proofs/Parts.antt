@@ -201,5 +201,10 @@ same {A} {Q = Q} {s = s} {s′ = s′} {x = x} e t =
     let (Q′, (u, l)) = from-front A s s′ x (r .left) Q (r .front) (r .behind) (sym e ∙ r .are) (r .step) in
     (Q′, (u, r .leaves ∙ sym l))
 
+first-part : (A : Agent) (s : Config) (P Q : Prog) (Qs : List Prog) → parts P ≡ Q ∷ Qs → (m : Move Rest) → firstMove A s Q ≡ some m
+    → (m′ : Move Rest) × ((firstMove A s P ≡ some m′) × ((m′ .label ≡ m .label) × (partsOf (m′ .remaining) ≡ partsOf (m .remaining) ++ Qs)))
+first-part A s P Q Qs e m f =
+    mapped-some partsOf (firstMove A s P) _ (by-parts A s P ∙ ap (headMove A s) e ∙ ap (mapped (λ R. partsOf R ++ Qs)) f)
+
 pub nesting-law : NestingLaw
-nesting-law A = record { same-transitions = λ e t. same e t }
+nesting-law A = record { same-transitions = λ e t. same e t; first-part = first-part A }

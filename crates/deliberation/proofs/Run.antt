@@ -1,5 +1,5 @@
 -- A deliberation makes the first move of what remains, again and again, counts them, and ends for the reason that it gives.
-use mathlib.Core.Path.{_≡_, refl, ap, _∙_, sym, subst}
+use mathlib.Core.Path.{_≡_, refl, ap, sym, subst}
 use mathlib.Core.Bool.{Bool, true}
 use mathlib.Core.List.{List, [], _∷_, _++_}
 use mathlib.Core.Option.{Option, none, some}
@@ -18,15 +18,15 @@ use Rattle.deliberation.specs.declared.DeliberationEnding.{DeliberationE
 use Rattle.deliberation.specs.Programs.{Prog, Rest, E, still}
 use Rattle.deliberation.specs.MetaTransitions.{Label, idle, taking, MetaStep}
 use Rattle.deliberation.specs.FirstMove.{Move, firstMove}
-use Rattle.deliberation.specs.Entries.{entryCount, entriesOf, programGood, program, standing, firstMoveOf}
+use Rattle.deliberation.specs.Entries.{entryCount, entriesOf, programGood, standing, firstMoveOf}
 use Rattle.deliberation.specs.Deliberate.{MoveResult, stuck, on, leads, moveResult, Outcome, ended, oneMore, deliberate, deliberationEndingNumber}
 use Rattle.deliberation.specs.Deliberate as Deliberate
-use Rattle.deliberation.specs.Theorems.{NoTransition, parts, partsOf, Goes, stays, goes, Followed, no-move, one-move, Overflows, EndsExactly}
+use Rattle.deliberation.specs.Theorems.{NoTransition, parts, partsOf, Goes, stays, goes, Followed, no-move, one-move, FollowedNumbers, as-they-are, next-moves, Overflows, EndsExactly}
 use Rattle.deliberation.specs.Stacked.{Stacked, put}
 use Rattle.deliberation.proofs.Room.{move-within}
 use Rattle.deliberation.proofs.First.{is-one, none-exactly}
-use Rattle.deliberation.proofs.Parts.{mapped, mapped-none, mapped-some, some-parts, no-parts, still-inj, still≢E}
-use Rattle.deliberation.proofs.Standing.{stood, stood-next, numbers-same}
+use Rattle.deliberation.proofs.Parts.{mapped, mapped-none, mapped-some, no-parts, still-inj, still≢E}
+use Rattle.deliberation.proofs.Standing.{stood, some-stood, numbers-same}
 use Rattle.deliberation.proofs.Followed.{object}
 
 -- ---- the equations of a move and of a run
@@ -63,43 +63,51 @@ module _ (A : Agent) (βs : List (Query 𝐁)) (es : List Node) (b n : ℕ) (ns 
 -- ---- what a move comes to
 
 module _ (gs : List Bool) (l : Layout) (p : Bytes) (good : programGood gs l p ≡ true) (A : Agent) (βs : List (Query 𝐁)) (j : ℕ) (known : j < entryCount p) where
-  -- what the first move of a program comes to, where it then goes on with numbers
-  pub data Comes (P : Prog) (s : State) : MoveResult → Type 0 where
-    no-move-there : NoTransition A P (s .mental) → Comes P s stuck
-    does-not-fit : Overflows A s P → Comes P s Deliberate.too-long
-    goes-on : (m : Move Rest) (ns : List ℕ) (s′ : State) → firstMove A (s .mental) P ≡ some m → Goes A s (m .label) s′
-        → partsOf (m .remaining) ≡ stood βs (entriesOf p) ns → Stacked j ns → Comes P s (on ns s′)
+  -- what the first move of a program comes to, and of the numbers that stand for it, n and those behind it
+  pub data Comes (P : Prog) (n : ℕ) (behind : List ℕ) (s : State) : MoveResult → Type 0 where
+    no-move-there : NoTransition A P (s .mental) → Comes P n behind s stuck
+    does-not-fit : Overflows A s P → Comes P n behind s Deliberate.too-long
+    goes-on : (m : Move Rest) (k : Move (List ℕ)) (s′ : State) → firstMove A (s .mental) P ≡ some m
+        → firstMoveOf A βs (s .mental) (entriesOf p) n ≡ some k → m .label ≡ k .label → Goes A s (m .label) s′
+        → partsOf (m .remaining) ≡ stood βs (entriesOf p) (k .remaining ++ behind) → Stacked j (k .remaining ++ behind)
+        → Comes P n behind s (on (k .remaining ++ behind) s′)
 
-  module _ (P : Prog) (s : State) (m : Move Rest) (f : firstMove A (s .mental) P ≡ some m) (ns : List ℕ) (q : partsOf (m .remaining) ≡ stood βs (entriesOf p) ns)
-      (room : Stacked j ns) where
-    pub by-step : (k : Choice) → m .label ≡ taking k → {r : Reached} → step A s k ≡ r → StepsTo A s k r → Comes P s (leads A s (taking k) ns)
-    by-step k x e (none-there h) =
-        let (c, t) = is-one A (s .mental) P m f in
-        absurd (h c (object (subst (λ y. MetaStep A P (s .mental) y (m .remaining) c) x t)))
-    by-step k x e (too-long c t h) =
-        rw (leads-full A s k ns e)
-        (does-not-fit (record { move = m; first = f; choice = k; takes = x; reached = c; leads = t; long = h }))
-    by-step k x e (taken c t h) =
-        rw (leads-to A s k ns (after s k c) e) (goes-on m ns (after s k c) f (subst (λ y. Goes A s y (after s k c)) (sym x) (goes t h)) q room)
+  module _ (P : Prog) (n : ℕ) (behind : List ℕ) (s : State) (m : Move Rest) (f : firstMove A (s .mental) P ≡ some m) (k : Move (List ℕ))
+      (g : firstMoveOf A βs (s .mental) (entriesOf p) n ≡ some k) (same : m .label ≡ k .label)
+      (q : partsOf (m .remaining) ≡ stood βs (entriesOf p) (k .remaining ++ behind)) (room : Stacked j (k .remaining ++ behind)) where
+    abbrev ns : List ℕ
+    ns = k .remaining ++ behind
 
-    pub by-label : (x : Label) → m .label ≡ x → Comes P s (leads A s x ns)
+    pub by-step : (c : Choice) → m .label ≡ taking c → {r : Reached} → step A s c ≡ r → StepsTo A s c r → Comes P n behind s (leads A s (taking c) ns)
+    by-step c x e (none-there h) =
+        let (d, t) = is-one A (s .mental) P m f in
+        absurd (h d (object (subst (λ y. MetaStep A P (s .mental) y (m .remaining) d) x t)))
+    by-step c x e (too-long d t h) =
+        rw (leads-full A s c ns e)
+        (does-not-fit (record { move = m; first = f; choice = c; takes = x; reached = d; leads = t; long = h }))
+    by-step c x e (taken d t h) =
+        rw (leads-to A s c ns (after s c d) e)
+        (goes-on m k (after s c d) f g same (subst (λ y. Goes A s y (after s c d)) (sym x) (goes t h)) q room)
+
+    pub by-label : (x : Label) → m .label ≡ x → Comes P n behind s (leads A s x ns)
     unfolding leads
-    by-label idle e = goes-on m ns s f (subst (λ y. Goes A s y s) (sym e) stays) q room
-    by-label (taking k) e = by-step k e refl (steps-to A s k)
+    by-label idle e = goes-on m k s f g same (subst (λ y. Goes A s y s) (sym e) stays) q room
+    by-label (taking c) e = by-step c e refl (steps-to A s c)
 
   first-known : {n : ℕ} {ns : List ℕ} → Stacked j (n ∷ ns) → n < entryCount p
   first-known (put _ _ h t) = omega arith
 
   comes : (P : Prog) (n : ℕ) (ns : List ℕ) (s : State) → Stacked j (n ∷ ns) → parts P ≡ stood βs (entriesOf p) (n ∷ ns)
-      → Comes P s (moveResult A s (firstMoveOf A βs (s .mental) (entriesOf p) n) ns)
+      → Comes P n ns s (moveResult A s (firstMoveOf A βs (s .mental) (entriesOf p) n) ns)
   comes P n ns s t e =
       go (firstMoveOf A βs (s .mental) (entriesOf p) n) refl (numbers-same gs l p good A βs (s .mental) P n ns (first-known t) e)
     where
-      go : (o : Option (Move (List ℕ))) → firstMoveOf A βs (s .mental) (entriesOf p) n ≡ o → mapped partsOf (firstMove A (s .mental) P) ≡ mapped (λ ms. stood βs (entriesOf p) (ms ++ ns)) o → Comes P s (moveResult A s o ns)
+      go : (o : Option (Move (List ℕ))) → firstMoveOf A βs (s .mental) (entriesOf p) n ≡ o
+          → mapped partsOf (firstMove A (s .mental) P) ≡ mapped (λ ms. stood βs (entriesOf p) (ms ++ ns)) o → Comes P n ns s (moveResult A s o ns)
       go none r q = no-move-there (none-exactly A (s .mental) P .0 (mapped-none partsOf (firstMove A (s .mental) P) q))
       go (some m) r q =
           let (m′, (f, (x, w))) = mapped-some partsOf (firstMove A (s .mental) P) _ q in
-          by-label P s m′ f (m .remaining ++ ns) w (move-within A βs (s .mental) gs l p good j n ns m known t r) (m .label) x
+          by-label P n ns s m′ f m r x w (move-within A βs (s .mental) gs l p good j n ns m known t r) (m .label) x
 
 -- ---- why a deliberation ends
 
@@ -158,47 +166,43 @@ ends-exactly (is-full {P = P} h x) =
 -- ---- the run
 
 module _ (gs : List Bool) (l : Layout) (p : Bytes) (good : programGood gs l p ≡ true) (A : Agent) (βs : List (Query 𝐁)) (k : ℕ) (known : k < entryCount p) where
-  pub record Walked (b : ℕ) (R : Rest) (s : State) (o : Outcome) : Type 0 where
+  pub record Walked (b : ℕ) (R : Rest) (ns : List ℕ) (s : State) (o : Outcome) : Type 0 where
     pub labels : List Label
     pub rest : Rest
     pub followed : Followed A R s labels rest (o .state)
     pub stands : partsOf rest ≡ stood βs (entriesOf p) (o .remaining)
+    pub numbered : FollowedNumbers A (λ c n. firstMoveOf A βs c (entriesOf p) n) ns s labels (o .remaining) (o .state)
     pub counted : o .count ≡ length labels
     pub stacked : Stacked k (o .remaining)
     pub because : Because A b (o .count) rest (o .state) (o .ending)
 
   ends-here : (b : ℕ) (e : DeliberationEnding) (R : Rest) (ns : List ℕ) (s : State) → partsOf R ≡ stood βs (entriesOf p) ns → Stacked k ns
-      → Because A b 0 R s e → Walked b R s (ended e ns s)
-  ends-here b e R ns s q t w = record { labels = []; rest = R; followed = no-move; stands = q; counted = refl; stacked = t; because = w }
-
-  some-stood : (n : ℕ) (ns : List ℕ) → [] ≡ stood βs (entriesOf p) (n ∷ ns) → ⊥
-  some-stood n ns e =
-      let r = some-parts (program βs (entriesOf p) n) in
-      let q : [] ≡ (r .front ∷ r .behind) ++ stood βs (entriesOf p) ns = e ∙ stood-next βs (entriesOf p) n ns ∙ ap (λ Ps. Ps ++ stood βs (entriesOf p) ns) (r .are) in
-      let z : _≡_ {A = ℕ} 0 1 = cc in
-      omega arith
+      → Because A b 0 R s e → Walked b R ns s (ended e ns s)
+  ends-here b e R ns s q t w = record { labels = []; rest = R; followed = no-move; stands = q; numbered = as-they-are; counted = refl; stacked = t; because = w }
 
   nothing-stood : (P : Prog) → parts P ≡ stood βs (entriesOf p) [] → ⊥
   unfolding standing
   nothing-stood P e = still≢E (no-parts (still P) e)
 
   pub walked : (b : ℕ) (R : Rest) (ns : List ℕ) (s : State) → partsOf R ≡ stood βs (entriesOf p) ns → Stacked k ns
-      → Walked b R s (deliberate A βs (entriesOf p) b ns s)
+      → Walked b R ns s (deliberate A βs (entriesOf p) b ns s)
   unfolding deliberate
   walked zero R ns s q t = ends-here zero DeliberationEnding.Spent R ns s q t (is-spent refl)
   walked (suc b) E [] s q t = ends-here (suc b) DeliberationEnding.Finished E [] s q t (is-finished (omega arith))
-  walked (suc b) E (n ∷ ns) s q t = absurd (some-stood n ns q)
+  walked (suc b) E (n ∷ ns) s q t = absurd (some-stood βs (entriesOf p) n ns q)
   walked (suc b) (still P) [] s q t = absurd (nothing-stood P q)
   walked (suc b) (still P) (n ∷ ns) s q t = go refl (comes gs l p good A βs k known P n ns s t q) (walked b)
     where
-      go : {c : MoveResult} → moveResult A s (firstMoveOf A βs (s .mental) (entriesOf p) n) ns ≡ c → Comes gs l p good A βs k known P s c
-          → ((R : Rest) (ns : List ℕ) (s : State) → partsOf R ≡ stood βs (entriesOf p) ns → Stacked k ns → Walked b R s (deliberate A βs (entriesOf p) b ns s))
-          → Walked (suc b) (still P) s (deliberate A βs (entriesOf p) (suc b) (n ∷ ns) s)
+      go : {c : MoveResult} → moveResult A s (firstMoveOf A βs (s .mental) (entriesOf p) n) ns ≡ c → Comes gs l p good A βs k known P n ns s c
+          → ((R : Rest) (ns : List ℕ) (s : State) → partsOf R ≡ stood βs (entriesOf p) ns → Stacked k ns → Walked b R ns s (deliberate A βs (entriesOf p) b ns s))
+          → Walked (suc b) (still P) (n ∷ ns) s (deliberate A βs (entriesOf p) (suc b) (n ∷ ns) s)
       go e (no-move-there h) ih =
           rw (run-stuck A βs (entriesOf p) b n ns s e) (ends-here (suc b) DeliberationEnding.Stuck (still P) (n ∷ ns) s q t (is-stuck (omega arith) h))
       go e (does-not-fit h) ih =
           rw (run-full A βs (entriesOf p) b n ns s e) (ends-here (suc b) DeliberationEnding.Full (still P) (n ∷ ns) s q t (is-full (omega arith) h))
-      go e (goes-on m ms s′ f g w room) ih =
+      go e (goes-on m i s′ f u x g w room) ih =
+          let ms = i .remaining ++ ns in
+          let o = deliberate A βs (entriesOf p) b ms s′ in
           let r = ih (m .remaining) ms s′ w room in
           rw (run-on A βs (entriesOf p) b n ns s ms s′ e)
           (record {
@@ -206,6 +210,9 @@ module _ (gs : List Bool) (l : Layout) (p : Bytes) (good : programGood gs l p �
             rest = r .rest;
             followed = one-move f g (r .followed);
             stands = r .stands;
+            numbered =
+                subst (λ y. FollowedNumbers A (λ c n. firstMoveOf A βs c (entriesOf p) n) (n ∷ ns) s (y ∷ r .labels) (o .remaining) (o .state)) (sym x)
+                (next-moves u (subst (λ y. Goes A s y s′) x g) (r .numbered));
             counted = ap suc (r .counted);
             stacked = r .stacked;
             because = one-later (r .because);

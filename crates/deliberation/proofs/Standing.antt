@@ -13,14 +13,13 @@ use Rattle.meaning.specs.declared.Node.{Node}
 use Rattle.meaning.specs.Card.{Bytes, layout, agent, conditions, condition}
 use Rattle.meaning.specs.Refusals.{containing}
 use Rattle.deliberation.specs.Programs.{Bexp, notEmptyPlan, holds, Prog, execute, apply, select, while_doing_od, _⨾_, _⊕_, Rest, E, still, 𝒲}
-use Rattle.deliberation.specs.MetaTransitions.{MetaStep}
 use Rattle.deliberation.specs.Kinds.{EntryKind}
 use Rattle.deliberation.specs.FirstMove.{Move, byChoice, lowestAction, ifEnabled, idles, followedBy, leftElseRight, firstMove}
 use Rattle.deliberation.specs.Entries.{entryCount, entriesOf, programGood, progOf, program, standing, moveOf, firstMoveOf, moveAt}
 use Rattle.deliberation.specs.Theorems.{NoTransition, parts, partsOf, _≈_, standFor, NumbersLaw, EntryLaws, executes, applies, selects, while-plan, while-belief, does-both, does-one}
 use Rattle.deliberation.proofs.Good.{from-lower, entry-rule, program-at, move-at}
-use Rattle.deliberation.proofs.First.{is-one, none-exactly}
-use Rattle.deliberation.proofs.Parts.{mapped, mapped-takes, mapped-idles, mapped-followed, mapped-either, mapped-none, mapped-some, mapped-twice, mapped-same, sequence, first-in}
+use Rattle.deliberation.proofs.First.{none-exactly}
+use Rattle.deliberation.proofs.Parts.{some-parts, mapped, mapped-takes, mapped-idles, mapped-followed, mapped-either, mapped-none, mapped-some, mapped-twice, mapped-same, sequence, first-in}
 
 -- P, and then what remains
 abbrev then : Prog → Rest → Prog
@@ -50,6 +49,14 @@ module _ (βs : List (Query 𝐁)) (es : List Node) where
   pub stood-one : (n : ℕ) → stood (n ∷ []) ≡ parts (program βs es n)
   unfolding standing
   stood-one n = refl
+
+  -- a number stands for something
+  pub some-stood : (n : ℕ) (ns : List ℕ) → [] ≡ stood (n ∷ ns) → ⊥
+  some-stood n ns e =
+      let r = some-parts (program βs es n) in
+      let q : [] ≡ (r .front ∷ r .behind) ++ stood ns = e ∙ stood-next n ns ∙ ap (λ Ps. Ps ++ stood ns) (r .are) in
+      let z : _≡_ {A = ℕ} 0 1 = cc in
+      omega arith
 
   module _ (A : Agent) (s : Config) where
     -- the first move of a program and one over numbers are the same
@@ -136,12 +143,9 @@ module _ (b p : Bytes) (good : programGood (containing 2 (layout b) b) (layout b
   unfolding agent
   same = numbers-same (containing 2 (layout b) b) (layout b) p good A (conditions 𝐁 (layout b) b) s stands n ns h (sym (ap partsOf standing-for))
 
-  one : (m : Move (List ℕ)) → moveAt (layout b) b p s n ≡ some m
-      → (P′ : Rest) × ((s′ : Config) × (MetaStep A stands s (m .label) P′ s′ × (P′ ≈ standFor b p (m .remaining ++ ns))))
-  one m e =
-      let (m′, (f, (x, l))) = mapped-some partsOf (firstMove A s stands) _ (same ∙ ap (mapped (λ ms. partsOf (standFor b p (ms ++ ns)))) e) in
-      let (s′, t) = is-one A s stands m′ f in
-      (m′ .remaining, (s′, (subst (λ y. MetaStep A stands s y (m′ .remaining) s′) x t, l)))
+  is-first : (m : Move (List ℕ)) → moveAt (layout b) b p s n ≡ some m → (m′ : Move Rest)
+      × ((firstMove A s stands ≡ some m′) × ((m′ .label ≡ m .label) × (m′ .remaining ≈ standFor b p (m .remaining ++ ns))))
+  is-first m e = mapped-some partsOf (firstMove A s stands) _ (same ∙ ap (mapped (λ ms. partsOf (standFor b p (ms ++ ns)))) e)
 
   none-there : (moveAt (layout b) b p s n ≡ none) ↔ NoTransition A stands s
   none-there = (
@@ -154,6 +158,6 @@ numbers-law b p good s n ns h =
     record {
       stands = stands b p good s n ns h;
       standing-for = standing-for b p good s n ns h;
-      is-one = one b p good s n ns h;
+      is-first = is-first b p good s n ns h;
       none-exactly = none-there b p good s n ns h;
     }

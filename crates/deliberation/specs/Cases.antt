@@ -33,6 +33,13 @@ teaching = flatten (
     entry 0 0 0 ∷ entry 1 0 0 ∷ entry 1 1 0 ∷ entry 1 2 0 ∷ entry 6 1 0 ∷ entry 6 3 4 ∷ entry 6 2 5 ∷ entry 3 0 6
     ∷ entry 2 0 0 ∷ entry 5 8 7 ∷ [])
 
+-- Two actions in turn, as the right part of a sequence behind a selection, and as the body of a while behind it.
+unfoldable pub twoActions : Bytes
+twoActions = flatten (entry 0 0 0 ∷ entry 2 0 0 ∷ entry 5 0 0 ∷ entry 5 1 2 ∷ [])
+
+unfoldable pub twoActionsAgain : Bytes
+twoActionsAgain = twoActions ++ flatten (entry 3 0 2 ∷ entry 5 1 4 ∷ [])
+
 -- Entries one above the other, each a choice between the one below and itself: 02, Wish 6: "part numbers are lower than their own".
 unfoldable pub doubling : Bytes
 doubling = entry 1 0 0 ++ flatten (map (λ i. entry 6 i i) (numbers 0 127))
@@ -58,6 +65,8 @@ pub record DeliberationCases : Type 0 where
   -- 02, Wish 6: "a sequence is one number until a move is made in it"
   pub no-budget : inNumbers (deliberates stripe teaching loaded 0) ≡ 0 ∷ 0 ∷ 0 ∷ 9 ∷ []
   pub left-done : inNumbers (deliberates stripe teaching loaded 1) ≡ 0 ∷ 0 ∷ 1 ∷ 7 ∷ []
+  pub right-one-number : inNumbers (deliberates stripe twoActions loaded 1) ≡ 0 ∷ 0 ∷ 1 ∷ 2 ∷ []
+  pub body-one-number : inNumbers (deliberates stripe twoActionsAgain loaded 2) ≡ 0 ∷ 0 ∷ 2 ∷ 2 ∷ 4 ∷ []
   -- 02, Wish 6: "idle moves, which leave the whole configuration as it is, phase": a while that holds leaves its body, then itself.
   pub idle-counted : inNumbers (deliberates stripe teaching loaded 2) ≡ 0 ∷ 0 ∷ 2 ∷ 6 ∷ 7 ∷ []
   pub idle-leaves : deliberates stripe teaching loaded 2 .configuration ≡ takes stripe loaded 0 .configuration

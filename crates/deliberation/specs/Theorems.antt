@@ -3,7 +3,7 @@ use mathlib.Core.Path.{_≡_}
 use mathlib.Core.Logic.{_↔_}
 use mathlib.Core.Bool.{true, false}
 use mathlib.Core.List.{List, [], _∷_, _++_, List·Memᴰ}
-use mathlib.Core.Option.{none, some}
+use mathlib.Core.Option.{Option, none, some}
 use Prim.Native.Nat.{ℕ, _+_, _*_, _-_, _≤_, _<_}
 use lib.ListN.{length, take}
 use Rattle.paper.specs.Language.{𝐁, Agent, Config}
@@ -17,19 +17,19 @@ use Rattle.runs.specs.Weight.{weigh, verdict, selections}
 use Rattle.meaning.specs.declared.Refusal.{Refusal}
 use Rattle.meaning.specs.declared.Answer.the-variants.{Done, Refused}
 use Rattle.meaning.specs.declared.Configuration.{Configuration}
-use Rattle.meaning.specs.Card.{Bytes, layout, conditions, agent, weight, initialPlan}
+use Rattle.meaning.specs.Card.{Bytes, layout, condition, conditions, agent, weight, initialPlan}
 use Rattle.meaning.specs.Configurations.{stateOf}
 use Rattle.meaning.specs.Theorems.{Without}
 use Rattle.meaning.specs.Refusals.{answerNumber, cardAnswer, containing, configurationGood}
 use Rattle.deliberation.specs.declared.DeliberationEnding.{DeliberationEnding}
 use Rattle.deliberation.specs.declared.Remaining.{Remaining}
 use Rattle.deliberation.specs.declared.Deliberated.{Deliberated}
-use Rattle.deliberation.specs.Programs.{Prog, execute, apply, select, while_doing_od, _⨾_, _⊕_, Rest, E, still}
+use Rattle.deliberation.specs.Programs.{notEmptyPlan, holds, Prog, execute, apply, select, while_doing_od, _⨾_, _⊕_, Rest, E, still, _⨾′_, 𝒲}
 use Rattle.deliberation.specs.MetaTransitions.{Label, idle, taking, MetaStep, Computation, notIdle}
 use Rattle.deliberation.specs.Kinds.{EntryKind, Execute, Apply, Select, WhilePlan, WhileBelief, Then, Or, entryKind}
 use Rattle.deliberation.specs.FirstMove.{Move, firstMove}
 use Rattle.deliberation.specs.Entries.{entryOf, entryCount, entriesOf, programGood, deliberateAnswer, program, standing, moveAt}
-use Rattle.deliberation.specs.Deliberate.{deliberates}
+use Rattle.deliberation.specs.Deliberate.{whole, deliberates}
 
 -- ---- the first move
 
@@ -37,30 +37,39 @@ use Rattle.deliberation.specs.Deliberate.{deliberates}
 abbrev pub NoTransition : Agent → Prog → Config → Type 0
 NoTransition A P s = (x : Label) (P′ : Rest) (s′ : Config) → MetaStep A P s x P′ s′ → ⊥
 
--- 02, Wish 6: "Each move is one of the document's meta-level transitions, with selection added".
-pub record FirstMoveLaws (A : Agent) (s : Config) (P : Prog) : Type 0 where
+-- 02, Wish 6: "Each move is one of the document's meta-level transitions, with selection added": of a function that gives the first
+-- move of a program in a configuration, if there is one.
+pub record FirstMoveLaws (A : Agent) (s : Config) (first : Prog → Option (Move Rest)) (P : Prog) : Type 0 where
   -- the first move is one of the relation's transitions
-  pub is-one : (m : Move Rest) → firstMove A s P ≡ some m → (s′ : Config) × MetaStep A P s (m .label) (m .remaining) s′
+  pub is-one : (m : Move Rest) → first P ≡ some m → (s′ : Config) × MetaStep A P s (m .label) (m .remaining) s′
   -- and there is none exactly if the relation has none
-  pub none-exactly : (firstMove A s P ≡ none) ↔ NoTransition A P s
+  pub none-exactly : (first P ≡ none) ↔ NoTransition A P s
 
--- The same of every agent, configuration and program.
+-- The same of firstMove, every agent, configuration and program.
 abbrev pub FirstMoveLaw : Type 0
-FirstMoveLaw = (A : Agent) (s : Config) (P : Prog) → FirstMoveLaws A s P
+FirstMoveLaw = (A : Agent) (s : Config) (P : Prog) → FirstMoveLaws A s (firstMove A s) P
 
 -- 000, section 2.2 has "a non-deterministic choice operator": which of the relation's transitions the first move is.
-pub record WayOut (A : Agent) (s : Config) : Type 0 where
+pub record WayOut (A : Agent) (s : Config) (first : Prog → Option (Move Rest)) : Type 0 where
   -- 02, Wish 6: "Execute takes the lowest enabled specification."
-  pub lowest : (m : Move Rest) (n : ℕ) → firstMove A s execute ≡ some m → m .label ≡ taking (Choice.act n)
+  pub lowest : (m : Move Rest) (n : ℕ) → first execute ≡ some m → m .label ≡ taking (Choice.act n)
       → (i : ℕ) → i < n → (s′ : Config) → Step A s (Choice.act i) s′ → ⊥
   -- 02, Wish 6: "Choice takes the left if it has a first move, idle or not, fitting or not"
-  pub left : (P₁ P₂ : Prog) (x : Label) (P₁′ : Rest) (s′ : Config) → MetaStep A P₁ s x P₁′ s′
-      → firstMove A s (P₁ ⊕ P₂) ≡ firstMove A s P₁
+  pub left : (P₁ P₂ : Prog) (x : Label) (P₁′ : Rest) (s′ : Config) → MetaStep A P₁ s x P₁′ s′ → first (P₁ ⊕ P₂) ≡ first P₁
   -- 02, Wish 6: "else the right"
-  pub right : (P₁ P₂ : Prog) → NoTransition A P₁ s → firstMove A s (P₁ ⊕ P₂) ≡ firstMove A s P₂
+  pub right : (P₁ P₂ : Prog) → NoTransition A P₁ s → first (P₁ ⊕ P₂) ≡ first P₂
+  -- 000, Definition 14 "(sequential composition)": of a sequence it is the first move of its first part, a choice or another
+  -- sequence too
+  pub sequence : (P₁ P₂ : Prog) (m : Move Rest) → first P₁ ≡ some m
+      → first (P₁ ⨾ P₂) ≡ some (record { label = m .label; remaining = still (m .remaining ⨾′ P₂) })
 
 abbrev pub WayOutLaw : Type 0
-WayOutLaw = (A : Agent) (s : Config) → WayOut A s
+WayOutLaw = (A : Agent) (s : Config) → WayOut A s (firstMove A s)
+
+-- No other first move of any program meets these laws.
+abbrev pub FirstMoveDetermined : Type 0
+FirstMoveDetermined = (A : Agent) (s : Config) (first : Prog → Option (Move Rest)) → ((P : Prog) → FirstMoveLaws A s first P) → WayOut A s first
+    → (P : Prog) → first P ≡ firstMove A s P
 
 -- ---- an entry
 
@@ -75,12 +84,38 @@ pub data EntryLaws (revisions selections : ℕ) (Condition : ℕ → Type 0) (i 
   does-both : a < i → b < i → EntryLaws revisions selections Condition i a b Then
   does-one : a < i → b < i → EntryLaws revisions selections Condition i a b Or
 
--- The same of every accepted card and every entry: 01, "A configuration and its transitions": "A belief condition contains no goal
--- atom"
-abbrev pub EntryLaw : Type 0
-EntryLaw = (b p : Bytes) → cardAnswer b ≡ Done → programGood (containing 2 (layout b) b) (layout b) p ≡ true → (i : ℕ) → i < entryCount p
-    → EntryLaws (length (agent b .PR)) (length (agent b .PS)) (λ n. (n < layout b .nodes .count) × Without b 2 n) i
-    (entryOf p i .a) (entryOf p i .b) (entryKind (entryOf p i .kind))
+-- 02, Wish 6: "unused bytes are 0": those of an entry's a and b that its kind has no use for.
+pub data Unused (a b : ℕ) : EntryKind → Type 0 where
+  of-execute : a ≡ 0 → b ≡ 0 → Unused a b Execute
+  of-apply : b ≡ 0 → Unused a b Apply
+  of-select : b ≡ 0 → Unused a b Select
+  of-while-plan : a ≡ 0 → Unused a b WhilePlan
+  of-while-belief : Unused a b WhileBelief
+  of-then : Unused a b Then
+  of-or : Unused a b Or
+
+-- The rules for entry i of a program p under a card b.
+pub record EntryRules (b p : Bytes) (i : ℕ) : Type 0 where
+  -- 02, Wish 6: "0 execute, …, 6 a or b"
+  pub known : entryOf p i .kind < 7
+  -- 01, "A configuration and its transitions": "A belief condition contains no goal atom"
+  pub names : EntryLaws (length (agent b .PR)) (length (agent b .PS)) (λ n. (n < layout b .nodes .count) × Without b 2 n) i
+      (entryOf p i .a) (entryOf p i .b) (entryKind (entryOf p i .kind))
+  -- 02, Wish 6: "unused bytes are 0", the fourth of each too
+  pub unused : Unused (entryOf p i .a) (entryOf p i .b) (entryKind (entryOf p i .kind))
+  pub zero : entryOf p i .zero ≡ 0
+
+-- 02, Wish 6: "A program is 1 to 128 entries shaped like nodes": the rules for a program p under a card b.
+pub record ProgramRules (b p : Bytes) : Type 0 where
+  pub at-least : 1 ≤ entryCount p
+  pub at-most : entryCount p ≤ 128
+  pub no-byte-more : length p ≡ 4 * entryCount p
+  pub entries : (i : ℕ) → i < entryCount p → EntryRules b p i
+
+-- 02, Wish 6: "19 a program breaking these rules or naming an unknown rule or node": under every accepted card a program is good
+-- exactly if it keeps them.
+abbrev pub ProgramExactly : Type 0
+ProgramExactly = (b p : Bytes) → cardAnswer b ≡ Done → (programGood (containing 2 (layout b) b) (layout b) p ≡ true) ↔ ProgramRules b p
 
 -- ---- what entry numbers stand for
 
@@ -108,6 +143,9 @@ R ≈ R′ = partsOf R ≡ partsOf R′
 pub record NestingLaws (A : Agent) : Type 0 where
   pub same-transitions : {P Q : Prog} {s s′ : Config} {x : Label} {P′ : Rest} → still P ≈ still Q → MetaStep A P s x P′ s′
       → (Q′ : Rest) × (MetaStep A Q s x Q′ s′ × (P′ ≈ Q′))
+  -- and the first move is that of the first part, at any depth, with the other parts behind what remains of it
+  pub first-part : (s : Config) (P Q : Prog) (Qs : List Prog) → parts P ≡ Q ∷ Qs → (m : Move Rest) → firstMove A s Q ≡ some m
+      → (m′ : Move Rest) × ((firstMove A s P ≡ some m′) × ((m′ .label ≡ m .label) × (partsOf (m′ .remaining) ≡ partsOf (m .remaining) ++ Qs)))
 
 abbrev pub NestingLaw : Type 0
 NestingLaw = (A : Agent) → NestingLaws A
@@ -116,21 +154,47 @@ NestingLaw = (A : Agent) → NestingLaws A
 abbrev pub standFor : Bytes → Bytes → List ℕ → Rest
 standFor b p ns = standing (conditions 𝐁 (layout b) b) (entriesOf p) ns
 
--- What the numbers n, ns stand for, and their first move, which is that of n.
-pub record NumbersLaws (b p : Bytes) (s : Config) (n : ℕ) (ns : List ℕ) : Type 0 where
+-- What the numbers n, ns stand for, and their first move, which is that of n; move gives that of a number.
+pub record NumbersLaws (b p : Bytes) (s : Config) (move : ℕ → Option (Move (List ℕ))) (n : ℕ) (ns : List ℕ) : Type 0 where
   -- the numbers stand for a program
   pub stands : Prog
   pub standing-for : standFor b p (n ∷ ns) ≡ still stands
-  -- their first move is one of the relation's transitions from it, to what the numbers then stand for
-  pub is-one : (m : Move (List ℕ)) → moveAt (layout b) b p s n ≡ some m
-      → (P′ : Rest) × ((s′ : Config) × (MetaStep (agent b) stands s (m .label) P′ s′ × (P′ ≈ standFor b p (m .remaining ++ ns))))
+  -- their first move is the first move of that program, and leaves what the numbers then stand for
+  pub is-first : (m : Move (List ℕ)) → move n ≡ some m → (m′ : Move Rest)
+      × ((firstMove (agent b) s stands ≡ some m′) × ((m′ .label ≡ m .label) × (m′ .remaining ≈ standFor b p (m .remaining ++ ns))))
   -- and they have none exactly if the relation has none
-  pub none-exactly : (moveAt (layout b) b p s n ≡ none) ↔ NoTransition (agent b) stands s
+  pub none-exactly : (move n ≡ none) ↔ NoTransition (agent b) stands s
 
--- The same of a program that is not refused, and its entries.
+-- The same of a program that is not refused, its entries, and any numbers behind one.
 abbrev pub NumbersLaw : Type 0
 NumbersLaw = (b p : Bytes) → programGood (containing 2 (layout b) b) (layout b) p ≡ true → (s : Config) (n : ℕ) (ns : List ℕ)
-    → n < entryCount p → NumbersLaws b p s n ns
+    → n < entryCount p → NumbersLaws b p s (moveAt (layout b) b p s) n ns
+
+-- 02, Wish 6: "a sequence is one number until a move is made in it", which ≈ does not see: what numbers a move in entry n leaves,
+-- where move gives the first move of a number.
+pub record OneNumber (b p : Bytes) (s : Config) (move : ℕ → Option (Move (List ℕ))) (n : ℕ) : Type 0 where
+  -- of a while that goes on: its body, a sequence or not, is one number, and the while is the next
+  pub body : entryKind (entryOf p n .kind) ≡ WhilePlan → 𝒲 notEmptyPlan s ≡ true
+      → move n ≡ some (record { label = idle; remaining = entryOf p n .b ∷ n ∷ [] })
+  pub belief-body : entryKind (entryOf p n .kind) ≡ WhileBelief → 𝒲 (holds (condition (conditions 𝐁 (layout b) b) (entryOf p n .a))) s ≡ true
+      → move n ≡ some (record { label = idle; remaining = entryOf p n .b ∷ n ∷ [] })
+  -- of a then b: the right part, a sequence or not, is one number, behind what the move leaves of the left
+  pub right-part : entryKind (entryOf p n .kind) ≡ Then → (m : Move (List ℕ)) → move (entryOf p n .a) ≡ some m
+      → move n ≡ some (record { label = m .label; remaining = m .remaining ++ (entryOf p n .b ∷ []) })
+  -- of a or b: what the move leaves of the part that is taken
+  pub left-taken : entryKind (entryOf p n .kind) ≡ Or → (m : Move (List ℕ)) → move (entryOf p n .a) ≡ some m → move n ≡ some m
+  pub right-taken : entryKind (entryOf p n .kind) ≡ Or → move (entryOf p n .a) ≡ none → move n ≡ move (entryOf p n .b)
+
+-- The same of a program that is not refused, and its entries.
+abbrev pub OneNumberLaw : Type 0
+OneNumberLaw = (b p : Bytes) → programGood (containing 2 (layout b) b) (layout b) p ≡ true → (s : Config) (n : ℕ) → n < entryCount p
+    → OneNumber b p s (moveAt (layout b) b p s) n
+
+-- No other first moves of a program's entries meet these laws.
+abbrev pub NumbersDetermined : Type 0
+NumbersDetermined = (b p : Bytes) → programGood (containing 2 (layout b) b) (layout b) p ≡ true → (s : Config) (move : ℕ → Option (Move (List ℕ)))
+    → ((n : ℕ) → n < entryCount p → NumbersLaws b p s move n [] × OneNumber b p s move n)
+    → (n : ℕ) → n < entryCount p → move n ≡ moveAt (layout b) b p s n
 
 -- ---- a run of moves
 
@@ -145,6 +209,12 @@ pub data Followed (A : Agent) : Rest → State → List Label → Rest → State
   no-move : {P : Rest} {s : State} → Followed A P s [] P s
   one-move : {P : Prog} {m : Move Rest} {s s′ s″ : State} {xs : List Label} {P″ : Rest} → firstMove A (s .mental) P ≡ some m
       → Goes A s (m .label) s′ → Followed A (m .remaining) s′ xs P″ s″ → Followed A (still P) s (m .label ∷ xs) P″ s″
+
+-- The same of entry numbers, where move gives the first move of a number: the next number moves, and those behind it stay.
+pub data FollowedNumbers (A : Agent) (move : Config → ℕ → Option (Move (List ℕ))) : List ℕ → State → List Label → List ℕ → State → Type 0 where
+  as-they-are : {ns : List ℕ} {s : State} → FollowedNumbers A move ns s [] ns s
+  next-moves : {n : ℕ} {ns : List ℕ} {m : Move (List ℕ)} {s s′ s″ : State} {xs : List Label} {ns″ : List ℕ} → move (s .mental) n ≡ some m
+      → Goes A s (m .label) s′ → FollowedNumbers A move (m .remaining ++ ns) s′ xs ns″ s″ → FollowedNumbers A move (n ∷ ns) s (m .label ∷ xs) ns″ s″
 
 -- The first move of a program takes a choice that leaves too long a plan: 01, "A configuration and its transitions": "would leave
 -- more than 1,024 actions".
@@ -199,6 +269,8 @@ pub record Tells (b p : Bytes) (c : Configuration) (budget : ℕ) (r : Deliberat
   pub ends : EndsExactly (agent b) budget (r .count) rest (stateOf (r .configuration)) (r .ending)
   -- 02, Wish 6: "The answer holds the remaining program as entry numbers, the next first"
   pub remains : rest ≈ standFor b p (numbersIn (r .remaining))
+  -- 02, Wish 6: "a sequence is one number until a move is made in it": they are what these moves leave of the last entry's number
+  pub numbered : FollowedNumbers (agent b) (moveAt (layout b) b p) (whole p) (stateOf c) labels (numbersIn (r .remaining)) (stateOf (r .configuration))
   -- there is room for the numbers, and each is one of the program's
   pub room : r .remaining .length ≤ 128
   pub known : (n : ℕ) → List·Memᴰ n (numbersIn (r .remaining)) → n < entryCount p

@@ -58,12 +58,12 @@ among (q ∷ rows) x = go (q .when x) refl (among rows x)
     go true h ih = rw (given q rows x h) (List·Memᴰ·tail (List·Memᴰ·head refl))
     go false h ih = rw (not-given q rows x h) (⊎-elim List·Memᴰ·head (λ m. List·Memᴰ·tail (List·Memᴰ·tail m)) (List·Memᴰ·cases-cons ih))
 
-and-then-among : (a a′ : Answer) (ns : List ℕ) → List·Memᴰ (answerNumber a) ns → List·Memᴰ (answerNumber a′) ns → List·Memᴰ (answerNumber (andThen a a′)) ns
+pub and-then-among : (a a′ : Answer) (ns : List ℕ) → List·Memᴰ (answerNumber a) ns → List·Memᴰ (answerNumber a′) ns → List·Memᴰ (answerNumber (andThen a a′)) ns
 and-then-among Done a′ ns h g = g
 and-then-among (Refused r) a′ ns h g = h
 
 -- the numbers of a table's rows, as they are listed
-listed : {X : Type 0} (rows : List (Row X)) (x : X) (ns : List ℕ) → rowNumbers rows x ≡ ns → List·Memᴰ (answerNumber (firstGiven rows x)) (0 ∷ ns)
+pub listed : {X : Type 0} (rows : List (Row X)) (x : X) (ns : List ℕ) → rowNumbers rows x ≡ ns → List·Memᴰ (answerNumber (firstGiven rows x)) (0 ∷ ns)
 listed rows x ns e = rw e at (among rows x)
 
 pub card-among : (b : Bytes) → List·Memᴰ (answerNumber (cardAnswer b)) doneOrCard

@@ -17,6 +17,7 @@ use Rattle.meaning.specs.Calls.{choiceOf, choice}
 use Rattle.meaning.proofs.Tables.{and-then-done}
 use Rattle.meaning.proofs.Accepted.{accepted, counts, length-entries, card-laws}
 use Rattle.demands.specs.Demands.{OnAccepted, Transition, ChosenMove}
+use Rattle.demands.specs.Closed.{Has, selection, specification, revision}
 
 -- ---- codes
 
@@ -46,16 +47,31 @@ read (revise n) h =
     let m : (256 * 2 + n) % 256 ≡ n = omega arith in
     rw (d, m) refl
 
-step-number : (A : Agent) {c c′ : Config} {k : Choice} → length (A .PS) ≤ 256 → length (A .AS) ≤ 256 → length (A .PR) ≤ 256 → Step A c k c′ → number k < 256
-unfolding number
-step-number A s a r (execute {n = n} e p) = let h = entry-lt (A .AS) n e in omega arith
-step-number A s a r (apply-PS {n = n} e p q) = let h = entry-lt (A .PS) n e in omega arith
-step-number A s a r (apply-PR π {n = n} e p) = let h = entry-lt (A .PR) n e in omega arith
+-- ---- what a card's agent has
 
--- 01, "The card, edition 1": "revision rules", 0..256
-revisions-numbered : (b : Bytes) → cardAnswer b ≡ Done → length (agent b .PR) ≤ 256
+-- how many rules or specifications an agent has of a choice's kind
+abbrev pub rules : Agent → Choice → ℕ
+rules A (select n) = length (A .PS)
+rules A (act n) = length (A .AS)
+rules A (revise n) = length (A .PR)
+
+pub has-lt : {A : Agent} {k : Choice} → Has A k → number k < rules A k
+unfolding number
+has-lt {A} (selection {n} e) = entry-lt (A .PS) n e
+has-lt {A} (specification {n} e) = entry-lt (A .AS) n e
+has-lt {A} (revision {n} e) = entry-lt (A .PR) n e
+
+pub moved : {A : Agent} {c c′ : Config} {k : Choice} → Step A c k c′ → Has A k
+moved (execute e p) = specification e
+moved (apply-PS e p q) = selection e
+moved (apply-PR π e p) = revision e
+
+-- 00, the machine: "256 action specifications, 256 rules for choosing a plan and 256 for revising one"
+most-rules : (b : Bytes) → cardAnswer b ≡ Done → (k : Choice) → rules (agent b) k ≤ 256
 unfolding agent agentFor agentOf
-revisions-numbered b e = rw (length-entries _ (layout b .revisions)) (counts (layout b) (accepted b e .counts) .revisions)
+most-rules b e (select n) = card-laws b e .numbered .selections
+most-rules b e (act n) = card-laws b e .numbered .specifications
+most-rules b e (revise n) = rw (length-entries _ (layout b .revisions)) (counts (layout b) (accepted b e .counts) .revisions)
 
 -- ---- the code of a move, on an accepted card and configuration
 
@@ -64,11 +80,11 @@ unfolding configurationAnswer
 card-accepted b c e = and-then-done (cardAnswer b) (firstGiven (configurationTable (layout b)) c) e .0
 
 module _ (b : Bytes) (c : Configuration) (on : OnAccepted b c) where
+  pub has-read : {k : Choice} → Has (agent b) k → choice (code k) ≡ some k
+  has-read {k} h = let m = most-rules b (card-accepted b c on) k in let l = has-lt h in read k (omega arith)
+
   pub read-back : {k : Choice} {c′ : Config} → Transition b c k c′ → choice (code k) ≡ some k
-  read-back {k} s =
-      let e = card-accepted b c on in
-      let n = card-laws b e .numbered in
-      read k (step-number (agent b) (n .selections) (n .specifications) (revisions-numbered b e) s)
+  read-back s = has-read (moved s)
 
   pub chosen : {n : ℕ} {k : Choice} {c′ : Config} → ChosenMove b c n k c′ → choice n ≡ some k
   chosen m = rw (m .coded) at (read-back (m .transition))

@@ -3,6 +3,7 @@ use mathlib.Core.Path.{_≡_, _∙_, sym, subst}
 use mathlib.Core.List.{List, _++_}
 use Prim.Native.Nat.{ℕ, _+_, _-_, _*_, _≤_, _<_}
 use native.Mathlib.Omega.{arith}
+use borrow.Author.Tests.{leb-true}
 use lib.ListN.{length, length-append, length-replicate, replicate}
 use Rattle.paper.specs.Atoms.{_∪_}
 use Rattle.paper.specs.Language.{Plan, 𝐁, Agent, Config, Specification}
@@ -18,15 +19,15 @@ use Rattle.meaning.specs.declared.Answer.the-variants.{Done}
 use Rattle.meaning.specs.declared.Layout.{Layout}
 use Rattle.meaning.specs.declared.Configuration.{Configuration}
 use Rattle.meaning.specs.declared.Ran.{Ran}
-use Rattle.meaning.specs.Card.{Bytes, layout, conditions, specificationAt, specificationOf, agentOf, agentFor, agent}
+use Rattle.meaning.specs.Card.{Bytes, layout, conditions, specificationAt, specificationOf, agentOf, agentFor, agent, initialBeliefs, initialGoals, start}
 use Rattle.meaning.specs.Configurations.{padded, stateOf, configurationOf}
-use Rattle.meaning.specs.Refusals.{cardAnswer}
+use Rattle.meaning.specs.Refusals.{cardAnswer, cardLongEnough}
 use Rattle.meaning.proofs.Accepted.{accepted, offsets}
 use Rattle.meaning.proofs.Parts.{length-part}
 use Rattle.demands.specs.Contracts.{Shaped}
 use Rattle.demands.specs.Demands.{OnAccepted}
 use Rattle.demands.proofs.Codes.{card-accepted}
-use Rattle.demands.proofs.Known.{KnownAgent, known-agent, known-after, entry-of}
+use Rattle.demands.proofs.Known.{KnownAgent, known-agent, known-start, known-after, entry-of}
 use Rattle.demands.proofs.Saving.{Kept, kept}
 use Rattle.demands.proofs.Ways.{Running, refused, done}
 
@@ -49,11 +50,23 @@ module _ (b : Bytes) (card : cardAnswer b ≡ Done) where
       let e = o .ends in
       length-part b (l .specifications .offset + 36 * i + 4) 16 (omega arith)
 
-  adds-sixteen : AddsSixteen (agent b)
+  pub adds-sixteen : AddsSixteen (agent b)
   unfolding agent agentFor agentOf specificationOf
   adds-sixteen n s e =
       let (h, q) = entry-of (λ i. specificationOf (conditions 𝐁 l b) (specificationAt l b i)) (l .specifications) n s e in
       subst (λ (x : Specification). length (x .Add) ≡ 16) q (add-length n h)
+
+  -- what a card starts with
+  pub kept-start : Kept l (start b)
+  unfolding start cardLongEnough
+  kept-start =
+      let long : 64 ≤ length b = leb-true 64 (length b) (accepted b card .long-enough) in
+      record {
+        beliefs = length-part b 32 16 (omega arith);
+        goals = length-∖ (initialGoals l b) (initialBeliefs l b) ∙ length-part b 48 16 (omega arith);
+        finished = omega arith;
+        known = known-start b card;
+      }
 
 -- ---- a transition keeps what a place needs
 
@@ -65,7 +78,7 @@ module _ {l : Layout} {A : Agent} (known : KnownAgent l A) (adds : AddsSixteen A
   sized (apply-PS e p q) h g = (h, g)
   sized (apply-PR π e p) h g = (h, g)
 
-  kept-after : (s : State) {k : Choice} {c : Config} → Kept l s → Step A (s .mental) k c → length (c .π) ≤ 1024 → Kept l (after s k c)
+  pub kept-after : (s : State) {k : Choice} {c : Config} → Kept l s → Step A (s .mental) k c → length (c .π) ≤ 1024 → Kept l (after s k c)
   unfolding after
   kept-after s {k} {c} h x fits =
       let (σ, γ) = sized x (h .beliefs) (h .goals) in
@@ -85,7 +98,7 @@ length-padded π h =
     let m : length (π ++ zeros) ≡ length π + length zeros = length-append π zeros in
     omega arith
 
-kept-shaped : (l : Layout) (s : State) → Kept l s → Shaped (configurationOf s)
+pub kept-shaped : (l : Layout) (s : State) → Kept l s → Shaped (configurationOf s)
 unfolding configurationOf
 kept-shaped l s k = record { beliefs = k .beliefs; goals = k .goals; plan = length-padded (s .mental .π) (k .known .fits); finished = k .finished }
 

@@ -10,10 +10,10 @@ use native.Mathlib.Decide.{decLt}
 use native.Mathlib.Omega.{arith}
 use borrow.Author.Tests.{not-true, leb-true, le-leb}
 use lib.Dec.{eqb, ltb}
-use lib.ListN.{length, length-take, take, drop, replicate, getD, List·getD-eq-default}
+use lib.ListN.{length, length-take, length-replicate, getD-replicate, take, drop, replicate, getD, List·getD-eq-default}
 use lib.Seq.{drop-append-seam}
 use Rattle.paper.specs.Atoms.{Atoms, bit, _∈_, _∪_, _∖_}
-use Rattle.paper.specs.Language.{𝐁, 𝐆, Agent, Config, Selection, Revision, Specification}
+use Rattle.paper.specs.Language.{𝐁, 𝐆, Agent, Config, ⟨_/_/_⟩, Selection, Revision, Specification}
 use Rattle.paper.specs.Transitions.{Choice, Entry, Step, execute, apply-PS, apply-PR, σ′, γ′}
 use Rattle.paper.proofs.Sets.{∈-∪, ∈-∖}
 use Rattle.paper.proofs.Relation.{both, none≢some, some-inj}
@@ -26,6 +26,7 @@ use Rattle.meaning.specs.declared.Section.{Section}
 use Rattle.meaning.specs.declared.Span.{Span}
 use Rattle.meaning.specs.declared.Answer.the-variants.{Done}
 use Rattle.meaning.specs.declared.Configuration.{Configuration}
+use Rattle.meaning.specs.Sizes.{edition1Set}
 use Rattle.meaning.specs.Card.{Bytes, layout, part, byte, plan, entries, conditions, specificationAt, selectionAt, revisionAt, specificationOf, selectionOf, revisionOf, agentOf, agentFor, agent, initialPlan, initialBeliefs, initialGoals, start}
 use Rattle.meaning.specs.Configurations.{padded, stateOf, configurationOf}
 use Rattle.meaning.specs.Refusals.{all, every, within, cardAnswer, containing, conditionGood, spanGood, selectionGood, revisionGood, actionsGood, setGood, bothGood, setsGood, pool, configurationGood}
@@ -94,6 +95,24 @@ known-∪ n s t e f = all-unknown n (s ∪ t) (λ k h. ∈-∪ k s t ∙ (λ i. 
 
 known-∖ : (n : ℕ) (s t : Atoms) → setGood n s ≡ true → setGood n (s ∖ t) ≡ true
 known-∖ n s t e = all-unknown n (s ∖ t) (λ k h. ∈-∖ k s t ∙ ap (λ x. x && not (k ∈ t)) (unknown n s e k h))
+
+-- 01, "Numbers the guide may answer": "no atoms"
+pub none-in : (n k : ℕ) → k ∈ replicate n 0 ≡ false
+unfolding _∈_ bit
+none-in n k = elim (decLt (k / 8) n) [
+  | yes l ↦ (let e : _≡_ {A = ℕ} (getD (replicate n 0) (k / 8) 0) 0 = getD-replicate n (k / 8) 0 0 l in rw (e, zero-div))
+  | no l ↦ past (replicate n 0) k (let e : length (replicate {A = ℕ} n 0) ≡ n = length-replicate n 0 in omega arith)
+]
+
+pub known-empty : (l : Layout) → Known l (record { mental = ⟨ replicate edition1Set 0 / [] / replicate edition1Set 0 ⟩; phase = 0; finished = 0 })
+unfolding actionsGood
+known-empty l = record {
+  beliefs = all-unknown (l .atoms) (replicate edition1Set 0) (λ k h. none-in edition1Set k);
+  goals = all-unknown (l .atoms) (replicate edition1Set 0) (λ k h. none-in edition1Set k);
+  actions = refl;
+  fits = omega arith;
+  phase = omega arith;
+}
 
 -- ---- plans
 

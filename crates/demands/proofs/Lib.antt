@@ -11,6 +11,8 @@ pub mod Known
 pub mod Restoring
 pub mod Bounding
 pub mod Testing
+pub mod Closing
+pub mod ClosedExactly
 pub mod Showing
 pub mod AcceptedAgain
 pub mod Striking

@@ -73,7 +73,7 @@ module _ (b : Bytes) (c : Configuration) (t : Turn b c) where
       let (z, e) = refused-then (cardAnswer b) Refusal.Short in
       rw (ap (λ (x : Reply). x .answer) (d .restore) ∙ e, held) (ap (λ (x : Written). x .configuration) (d .save))
 
-  same-held : Shaped c → held t ≡ c
+  pub same-held : Shaped c → held t ≡ c
   same-held h = go (configurationAnswer b c) refl
     where
       go : (a : Answer) → configurationAnswer b c ≡ a → held t ≡ c

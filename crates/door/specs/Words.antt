@@ -7,4 +7,4 @@ pub use Rattle.layout.specs.PlaceParts.{configured}
 pub use Rattle.card.specs.GoodCard.{GoodCard, GoodCondition}
 pub use Rattle.door.specs.Ready.{Ready}
 pub use Rattle.door.specs.InPlace.{replyWith, writtenWith, ranWith}
-pub use Rattle.door.specs.Asking.{asked, choiceAt, chosen, firstOfKind, falseCondition}
+pub use Rattle.door.specs.Asking.{asked, choiceAt, chosen, firstOfKind}

@@ -8,8 +8,8 @@ pub enum Asked {
     NoRule,
     // 02, Wish 1: "the plan's front doesn't fit (empty, not empty, other first action, other head)"
     Front,
-    // 02, Wish 1: "a condition is false"
-    Condition,
+    // 02, Wish 1: "a condition is false, with the node": the one that settled it
+    Condition(u8),
 }
 
 // A choice by its kind (0 selection, 1 action, 2 revision) and its number, or none.

@@ -21,7 +21,7 @@ use Rattle.meaning.specs.Card.{Bytes, agentFor}
 use Rattle.meaning.specs.Configurations.{stateOf}
 use Rattle.layout.specs.Entries.{countOf}
 use Rattle.door.specs.Asking.{choiceAt}
-use Rattle.door.proofs.Asking.{isEnabled, asked-enabled, no-rule}
+use Rattle.door.proofs.Asking.{past-last}
 use Rattle.door.proofs.First.{of-kind}
 use Rattle.sets.specs.Sets.{withMember}
 use Rattle.sets.proofs.Members.{passing-none, passing-yes}
@@ -155,10 +155,7 @@ module _ (l : Layout) (b : Bytes) (c : Configuration) (kind : ℕ) where
 
   -- no choice past a kind's last
   pub none-enabled : (i : ℕ) → countOf l kind ≤ i → i < 256 → enabledCode l b c (256 * kind + i) ≡ false
-  none-enabled i h e =
-      enabled-at i e
-      ∙ sym (asked-enabled (agentFor l b) (stateOf c .mental) (choiceAt kind i))
-      ∙ sym (ap isEnabled (no-rule l b (stateOf c .mental) kind i h))
+  none-enabled i h e = enabled-at i e ∙ past-last l b (stateOf c .mental) kind i h
 
   -- the codes of a kind from the i-th choice on
   codes-from : (i n : ℕ) → kind < 3 → i + n ≤ 256 → map code (keep (enabled (agentFor l b) (stateOf c .mental)) (map (choiceAt kind) (numbers i n))) ≡ codesOf (enabledCode l b c) (256 * kind + i) n

@@ -4,7 +4,7 @@ use mathlib.Core.List.{flatten}
 use Rattle.meaning.specs.Assembled.{assembled}
 use Rattle.meaning.specs.Stripe.{set, specification, selection, revision, stripeWith, stripe, stripe-P4, stripe-P5, stripe-P9, stripe-P10, stripe-P13}
 use Rattle.meaning.specs.Numbers.{checkedNumber, endingNumber, verdictNumber, verdictOffender, verdictRule, offenderNumber, offenderRule}
-use Rattle.meaning.specs.Cases.{shown, shownCheck, shownReply, shownTake, shownGrade, shownWritten, shownRun, configuration, loaded, afterSteps, guideCode, stepLine, takenInTurn, placeP7, resting, PCases, ClosedCases, havingFinished, shownFinished, FinishedCases}
+use Rattle.meaning.specs.Cases.{shown, shownCheck, shownReply, shownTake, shownGrade, shownWritten, shownRun, configuration, loaded, afterSteps, guideCode, stepLine, takenInTurn, placeP7, resting, PCases, stripe-bobbin, ClosedCases, havingFinished, shownFinished, FinishedCases}
 use Rattle.meaning.proofs.Computing.{computing}
 
 pub P-cases : PCases
@@ -37,8 +37,23 @@ P-cases =
     }
 
 pub closed-cases : ClosedCases
-unfolding computing flatten assembled set specification selection revision stripeWith stripe shown shownTake configuration
-closed-cases = record { missing = refl; in-the-way = refl; front = refl; no-specification = refl; no-kind = refl }
+unfolding computing flatten assembled set specification selection revision stripeWith stripe stripe-bobbin shown shownTake configuration
+closed-cases = record {
+  missing = refl;
+  in-the-way = refl;
+  front = refl;
+  empty-plan = refl;
+  not-empty = refl;
+  other-head = refl;
+  no-goal = refl;
+  both-false = refl;
+  goal-false = refl;
+  belief-false = refl;
+  no-selection = refl;
+  no-revision = refl;
+  no-specification = refl;
+  no-kind = refl;
+}
 
 pub finished-cases : FinishedCases
 unfolding computing flatten assembled set specification selection revision stripeWith stripe stripe-P9 shown shownFinished configuration loaded afterSteps takenInTurn placeP7 havingFinished

@@ -151,8 +151,14 @@ pub record PCases : Type 0 where
   -- 01, P13: "Node 0 "not 0": refusal 6."
   pub P13 : shownCheck (checks stripe-P13) ≡ 6 ∷ []
 
--- Where P6 cannot tell the node from the condition's root: 01, "The stripe card": "Specifications: 0 weave if node 4", "1 believes
--- 1; 2 believes 3; 3 not 2; 4 1 and 3". The choice is 256, of specification 0.
+-- 01, "The stripe card": "Selection 0: true, node 5, plan 4.", here with node 1 for its belief condition: its first byte is byte
+-- 206 of the card. Serves ClosedCases.
+unfoldable pub stripe-bobbin : Bytes
+stripe-bobbin = ListN.take 206 stripe ++ (1 ∷ ListN.drop 207 stripe)
+
+-- 02, Wish 1: why a choice is closed. In `missing` and `in-the-way`, where P6 cannot tell the node from the condition's root, the
+-- condition is node 4: 01, "The stripe card": "Specifications: 0 weave if node 4", "1 believes 1; 2 believes 3; 3 not 2; 4 1 and
+-- 3".
 pub record ClosedCases : Type 0 where
   -- 02, Wish 1: "the left child's where the left alone settles the value": atom 1 is missing.
   pub missing : shownTake (takes stripe (configuration (set 8) (set 4) 0 (0 ∷ [])) 256) ≡ 16 ∷ 1 ∷ (set 8 ++ (set 4 ++ (0 ∷ 0 ∷ [])))
@@ -160,7 +166,21 @@ pub record ClosedCases : Type 0 where
   pub in-the-way : shownTake (takes stripe (configuration (set 10) (set 4) 0 (0 ∷ [])) 256) ≡ 16 ∷ 2 ∷ (set 10 ++ (set 4 ++ (0 ∷ 0 ∷ [])))
   -- 02, Wish 1: "15 the plan's front doesn't fit (…, other first action, …)", though the condition is false too.
   pub front : shownTake (takes stripe (configuration (set 8) (set 4) 0 (1 ∷ [])) 256) ≡ 15 ∷ 0 ∷ (set 8 ++ (set 4 ++ (0 ∷ 1 ∷ [])))
-  -- 02, Wish 1: "14 no such rule or specification": specification 3, and a kind that there is not.
+  -- 02, Wish 1: "empty", and "not empty" of selection 0, whose conditions hold
+  pub empty-plan : shownTake (takes stripe (configuration (set 8) (set 4) 0 []) 256) ≡ 15 ∷ 0 ∷ (set 8 ++ (set 4 ++ (0 ∷ [])))
+  pub not-empty : shownTake (takes stripe (configuration (set 8) (set 4) 0 (0 ∷ [])) 0) ≡ 15 ∷ 0 ∷ (set 8 ++ (set 4 ++ (0 ∷ 0 ∷ [])))
+  -- 02, Wish 1: "other head": revision 0's head is 4.
+  pub other-head : shownTake (takes stripe (configuration (set 8) (set 4) 0 (3 ∷ [])) 512) ≡ 15 ∷ 0 ∷ (set 8 ++ (set 4 ++ (0 ∷ 3 ∷ [])))
+  -- 02, Wish 1: "16 a condition is false, with the node": the goal condition of selection 0.
+  pub no-goal : shownTake (takes stripe (configuration (set 8) (set 0) 0 []) 0) ≡ 16 ∷ 5 ∷ (set 8 ++ (set 0 ++ (0 ∷ [])))
+  -- 02, Wish 1: "the belief condition before the goal condition": both are false; the goal condition alone; the belief condition
+  -- alone.
+  pub both-false : shownTake (takes stripe-bobbin (configuration (set 8) (set 0) 0 []) 0) ≡ 16 ∷ 1 ∷ (set 8 ++ (set 0 ++ (0 ∷ [])))
+  pub goal-false : shownTake (takes stripe-bobbin (configuration (set 2) (set 0) 0 []) 0) ≡ 16 ∷ 5 ∷ (set 2 ++ (set 0 ++ (0 ∷ [])))
+  pub belief-false : shownTake (takes stripe-bobbin (configuration (set 8) (set 4) 0 []) 0) ≡ 16 ∷ 1 ∷ (set 8 ++ (set 4 ++ (0 ∷ [])))
+  -- 02, Wish 1: "14 no such rule or specification": selection 1, revision 3, specification 3, and a kind that there is not.
+  pub no-selection : shownTake (takes stripe (configuration (set 8) (set 4) 0 (0 ∷ [])) 1) ≡ 14 ∷ 0 ∷ (set 8 ++ (set 4 ++ (0 ∷ 0 ∷ [])))
+  pub no-revision : shownTake (takes stripe (configuration (set 8) (set 4) 0 (0 ∷ [])) 515) ≡ 14 ∷ 0 ∷ (set 8 ++ (set 4 ++ (0 ∷ 0 ∷ [])))
   pub no-specification : shownTake (takes stripe (configuration (set 8) (set 4) 0 (0 ∷ [])) 259) ≡ 14 ∷ 0 ∷ (set 8 ++ (set 4 ++ (0 ∷ 0 ∷ [])))
   pub no-kind : shownTake (takes stripe (configuration (set 8) (set 4) 0 (0 ∷ [])) 768) ≡ 14 ∷ 0 ∷ (set 8 ++ (set 4 ++ (0 ∷ 0 ∷ [])))
 

@@ -5,6 +5,7 @@ use Prim.Native.Nat.{ℕ, _+_, _*_, _-_}
 use lib.Dec.{leb, ltb, eqb}
 use lib.ListN.{length, getD, take, drop}
 use Rattle.paper.specs.Atoms.{Atoms, _∈_}
+use Rattle.paper.specs.Language.{Letter, 𝐁, 𝐆}
 use Rattle.runs.specs.Limits.{longestPlan, heaviestAction}
 use Rattle.runs.specs.Order.{numbers}
 use Rattle.meaning.specs.declared.Refusal.{Refusal}
@@ -197,6 +198,12 @@ containsOf kind Unknown a b contains = false
 -- wrong kind".
 unfoldable pub containing : ℕ → Layout → Bytes → List Bool
 containing kind l b = pass (λ i x contains. containsOf kind (nodeKind (x .kind)) (x .a) (x .b) contains) false (nodes l b)
+
+-- 01, "A configuration and its transitions": "A belief condition contains no goal atom, and a goal condition no belief atom.": the
+-- kind of the atoms that a condition of a letter may not contain.
+abbrev pub other : Letter → ℕ
+other 𝐁 = 2
+other 𝐆 = 1
 
 -- Not 01, "Numbers the guide may answer", row 7: "unknown … node, condition of the wrong kind": a known node whose condition
 -- contains no atom of the other kind.

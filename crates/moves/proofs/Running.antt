@@ -1,6 +1,6 @@
 -- The guide's own choice and move, and a run of them, over plain values.
 use mathlib.Core.Path.{_≡_, refl, ap, ap₂, _∙_, sym, subst}
-use mathlib.Core.Bool.{Bool, true, false, not}
+use mathlib.Core.Bool.{true, false, not}
 use mathlib.Core.List.{List}
 use mathlib.Core.Option.{Option, none, some}
 use Prim.Native.Nat.{ℕ, suc, _+_, _-_, _%_, _≤_, _<_}
@@ -34,11 +34,11 @@ use Rattle.layout.specs.PlaceParts.{configured}
 use Rattle.plans.proofs.Laws.{length-padded}
 use Rattle.card.specs.GoodCard.{GoodCard}
 use Rattle.door.specs.declared.asked.Chosen.{Chosen}
-use Rattle.choices.specs.Truth.{truths, Marked}
+use Rattle.choices.specs.OnePass.{kept}
+use Rattle.choices.specs.Judged.{Marked}
 use Rattle.door.specs.Ready.{Ready}
 use Rattle.door.specs.Asking.{chosen, choiceAt}
 use Rattle.door.specs.InPlace.{ranWith}
-use Rattle.door.proofs.Asking.{asked-enabled, enabled-is}
 use Rattle.moves.specs.declared.step.Transition.{Transition}
 use Rattle.moves.specs.declared.step.Stepped.{Stepped}
 use Rattle.moves.specs.Steps.{transitionOf, configurationAfter, Enabled, Advances, ownMove}
@@ -68,7 +68,7 @@ module _ (l : Layout) (b : Bytes) (c : Configuration) where
           let a : kind k ≡ n = cc in
           let t = enabled-exactly A (s .mental) k .1 (guide-takes A s k e .leads) in (
             subst (λ x. x < 3) a (kind-lt k),
-            enabled-is _ (asked-enabled A (s .mental) (choiceAt n i) ∙ ap (enabled A (s .mental)) q ∙ t),
+            ap (enabled A (s .mental)) q ∙ t,
             ap (step A s) q ∙ sym (ap (stepBy A s) e),
           )
 
@@ -174,7 +174,7 @@ module _ (l : Layout) (b : Bytes) (budget : ℕ) (start : State) (c : Configurat
     -- a move that is taken: where the run goes on, and that marks stay true unless it was an action
     pub record Moved (n : ℕ) : Type 0 where
       pub goes : Running l b budget start (configured (x .mind) p) (count + 1)
-      pub keeps : not (eqb n 1) ≡ true → (marks : List Bool) → Marked l b (c .mind) marks → Marked l b (x .mind) marks
+      pub keeps : not (eqb n 1) ≡ true → (marks : List ℕ) → Marked l b (c .mind) marks → Marked l b (x .mind) marks
 
     pub running-moved : (n i : ℕ) → x .transition ≡ Transition.Taken n i → Moved n
     unfolding after configurationOf stateOf
@@ -200,7 +200,7 @@ module _ (l : Layout) (b : Bytes) (budget : ℕ) (start : State) (c : Configurat
                   (let s = no-action-keeps y (λ g. eqb-false n 1 (not-true _ z) (sym a ∙ g)) in
                   let β : x .mind .beliefs ≡ c .mind .beliefs = ap (λ (g : Configuration). g .mind .beliefs) at ∙ s .0 in
                   let γ : x .mind .goals ≡ c .mind .goals = ap (λ (g : Configuration). g .mind .goals) at ∙ s .1 in
-                  λ j g. v j g ∙ ap₂ (λ x y. getD (truths l b x y) j false) (sym β) (sym γ));
+                  λ j g. v j g ∙ ap₂ (λ x y. getD (kept l b x y) j (false, 0)) (sym β) (sym γ));
             }
 
         go : {o : Reached} → stepBy B t (guide B t) ≡ o → OwnStep B t o → Moved n

@@ -10,7 +10,7 @@ use lib.Dec.{eqb}
 use lib.ListN.{length, take, drop, length-append, length-drop}
 use lib.Seq.{length-take-le}
 use Rattle.paper.specs.Language.{Config, ⟨_/_/_⟩}
-use Rattle.paper.specs.Transitions.{Choice, select, act, revise, σ′, γ′}
+use Rattle.paper.specs.Transitions.{select, act, revise, σ′, γ′}
 use Rattle.paper.specs.Next.{isEmpty, startsWith, isPrefix, canSelect, selected, canAct, acted, canRevise, revised, outcome, next, isSome, enabled}
 use Rattle.paper.proofs.Relation.{both, prefix-split, false≢true, outcome-yes, outcome-no}
 use Rattle.runs.specs.Order.{State, kind}
@@ -25,7 +25,7 @@ use Rattle.meaning.proofs.Parts.{length-part}
 use Rattle.card.specs.GoodCard.{GoodSpan}
 use Rattle.door.specs.Ready.{Ready}
 use Rattle.meaning.proofs.AgentEntries.{selectionFor, specificationFor, revisionFor, selection-entry, specification-entry, revision-entry}
-use Rattle.door.proofs.Asking.{isEnabled, asked-enabled, empty-exactly, first-exactly, known-number}
+use Rattle.door.proofs.Asking.{empty-exactly, first-exactly, known-number}
 use Rattle.moves.specs.Steps.{Enabled}
 
 -- what is enabled may be applied
@@ -47,9 +47,6 @@ module _ (l : Layout) (b : Bytes) (c : Configuration) (ready : Ready l b c) (i :
   abbrev π : List ℕ
   π = take (c .mind .length) (c .plan)
 
-  enabled-is : (k : Choice) → Enabled l b c k → enabled (agentFor l b) (s .mental) k ≡ true
-  enabled-is k e = sym (asked-enabled (agentFor l b) (s .mental) k) ∙ ap isEnabled e
-
   pub plan-length : (least : ℕ) (p : Span) → GoodSpan l least p → length (plan l b p) ≡ p .length
   unfolding plan
   plan-length least p g = length-part b (l .pool .offset + p .start) (p .length) (let x = g .inside in let y = ready .card .layout .ends in omega arith)
@@ -65,7 +62,7 @@ module _ (l : Layout) (b : Bytes) (c : Configuration) (ready : Ready l b c) (i :
 
     may-select : canSelect (s .mental) (selectionFor l b i) ≡ true
     unfolding enabled next
-    may-select = opened canSelect selected (s .mental) (selectionFor l b i) (sym (ap (λ o. isSome (outcome canSelect selected (s .mental) o)) (selection-entry l b i selection-known)) ∙ enabled-is (select i) e)
+    may-select = opened canSelect selected (s .mental) (selectionFor l b i) (sym (ap (λ o. isSome (outcome canSelect selected (s .mental) o)) (selection-entry l b i selection-known)) ∙ e)
 
     pub plan-empty : n ≡ 0
     unfolding canSelect stateOf
@@ -92,7 +89,7 @@ module _ (l : Layout) (b : Bytes) (c : Configuration) (ready : Ready l b c) (i :
 
     may-act : canAct (s .mental) (specificationFor l b i) ≡ true
     unfolding enabled next
-    may-act = opened canAct acted (s .mental) (specificationFor l b i) (sym (ap (λ o. isSome (outcome canAct acted (s .mental) o)) (specification-entry l b i specification-known)) ∙ enabled-is (act i) e)
+    may-act = opened canAct acted (s .mental) (specificationFor l b i) (sym (ap (λ o. isSome (outcome canAct acted (s .mental) o)) (specification-entry l b i specification-known)) ∙ e)
 
     pub plan-not-empty : 1 ≤ n
     unfolding canAct stateOf
@@ -125,7 +122,7 @@ module _ (l : Layout) (b : Bytes) (c : Configuration) (ready : Ready l b c) (i :
 
     may-revise : canRevise (s .mental) (revisionFor l b i) ≡ true
     unfolding enabled next
-    may-revise = opened canRevise revised (s .mental) (revisionFor l b i) (sym (ap (λ o. isSome (outcome canRevise revised (s .mental) o)) (revision-entry l b i revision-known)) ∙ enabled-is (revise i) e)
+    may-revise = opened canRevise revised (s .mental) (revisionFor l b i) (sym (ap (λ o. isSome (outcome canRevise revised (s .mental) o)) (revision-entry l b i revision-known)) ∙ e)
 
     abbrev pub head : Span
     head = revisionAt l b i .head

@@ -1,5 +1,5 @@
 -- What taking a choice answers.
-use mathlib.Core.Path.{_≡_, refl, ap, _∙_, sym, subst}
+use mathlib.Core.Path.{_≡_, refl, ap, _∙_, sym}
 use mathlib.Core.Bool.{Bool, true, false}
 use mathlib.Core.Option.{Option, none, some}
 use Prim.Native.Nat.{ℕ, suc, _-_, _/_, _%_, _<_}
@@ -21,15 +21,14 @@ use Rattle.meaning.specs.Card.{Bytes, layout, agentFor, agent}
 use Rattle.meaning.specs.Configurations.{stateOf}
 use Rattle.meaning.specs.Refusals.{configurationAnswer}
 use Rattle.meaning.specs.Why.{whyClosed}
-use Rattle.meaning.specs.Calls.{choiceOf, choice, takes}
+use Rattle.meaning.specs.Calls.{choiceOf, choice, reply, takes}
 use Rattle.meaning.proofs.Calls.{takes-nothing, takes-full, takes-to}
-use Rattle.layout.specs.Entries.{countOf}
 use Rattle.door.specs.declared.asked.Asked.{Asked}
-use Rattle.door.specs.Asking.{asked, choiceAt, falseCondition, refusalBy}
-use Rattle.door.proofs.Asking.{isEnabled, closed, asked-enabled, no-rule}
+use Rattle.door.specs.Asking.{asked, answerAsked, choiceAt}
+use Rattle.door.proofs.Asking.{isEnabled, asked-enabled}
 use Rattle.door.proofs.Refusals.{why-asked}
 use Rattle.meaning.proofs.Tables.{done≢refused}
-use Rattle.moves.specs.Steps.{transitionOf, askedFor, answerAsked, answerTo, takenBy}
+use Rattle.moves.specs.Steps.{transitionOf, askedFor, answerTo, takenBy}
 
 module _ (b : Bytes) (c : Configuration) (good : configurationAnswer b c ≡ Done) (code : ℕ) where
   abbrev q : Refusal
@@ -65,24 +64,24 @@ to≢nothing : {k : Choice} {s : State} → to k s ≡ nothing → ⊥
 unfolding is-nothing
 to≢nothing e = false≢true (ap is-nothing e)
 
-module _ (A : Agent) (c : Config) where
+module _ (l : Layout) (b : Bytes) (c : Config) where
   -- an open choice is of a known kind
-  enabled-choice : (k n : ℕ) → askedFor A c (choiceOf k n) ≡ Asked.Enabled → (k < 3) × (asked A c (choiceAt k n) ≡ Asked.Enabled)
+  enabled-choice : (k n : ℕ) → isEnabled (askedFor l b c (choiceOf k n)) ≡ true → (k < 3) × (enabled (agentFor l b) c (choiceAt k n) ≡ true)
   enabled-choice k n e = elim (decLt k 3) [
-    | yes h ↦ (h, ap (askedFor A c) (sym (choice-known k n h)) ∙ e)
-    | no h ↦ absurd (false≢true (ap isEnabled (ap (askedFor A c) (sym (choice-unknown k n (omega arith))) ∙ e)))
+    | yes h ↦ (h, sym (asked-enabled l b c (choiceAt k n)) ∙ ap (λ o. isEnabled (askedFor l b c o)) (sym (choice-known k n h)) ∙ e)
+    | no h ↦ absurd (false≢true (ap (λ o. isEnabled (askedFor l b c o)) (sym (choice-unknown k n (omega arith))) ∙ e))
   ]
 
   module _ (code : ℕ) where
-    pub asked-known : code / 256 < 3 → asked A c (choiceAt (code / 256) (code % 256)) ≡ askedFor A c (choice code)
+    pub asked-known : code / 256 < 3 → asked l b c (choiceAt (code / 256) (code % 256)) ≡ askedFor l b c (choice code)
     unfolding choice
-    asked-known h = sym (ap (askedFor A c) (choice-known (code / 256) (code % 256) h))
+    asked-known h = sym (ap (askedFor l b c) (choice-known (code / 256) (code % 256) h))
 
-    pub asked-unknown : 2 < code / 256 → Asked.NoRule ≡ askedFor A c (choice code)
+    pub asked-unknown : 2 < code / 256 → Asked.NoRule ≡ askedFor l b c (choice code)
     unfolding choice
-    asked-unknown h = sym (ap (askedFor A c) (choice-unknown (code / 256) (code % 256) h))
+    asked-unknown h = sym (ap (askedFor l b c) (choice-unknown (code / 256) (code % 256) h))
 
-    pub enabled-code : askedFor A c (choice code) ≡ Asked.Enabled → (code / 256 < 3) × (asked A c (choiceAt (code / 256) (code % 256)) ≡ Asked.Enabled)
+    pub enabled-code : isEnabled (askedFor l b c (choice code)) ≡ true → (code / 256 < 3) × (enabled (agentFor l b) c (choiceAt (code / 256) (code % 256)) ≡ true)
     unfolding choice
     enabled-code e = enabled-choice (code / 256) (code % 256) e
 
@@ -90,54 +89,41 @@ pub step-known : (A : Agent) (s : State) (code : ℕ) → code / 256 < 3 → ste
 unfolding choice
 step-known A s code h = sym (ap (stepBy A s) (choice-known (code / 256) (code % 256) h))
 
--- a choice that is closed makes no transition
-closed-nothing : (l : Layout) (b : Bytes) (c : Configuration) (k : Choice) → (asked (agentFor l b) (stateOf c .mental) k ≡ Asked.Enabled → ⊥)
-    → step (agentFor l b) (stateOf c) k ≡ nothing
-unfolding enabled
-closed-nothing l b c k h = step-nothing (agentFor l b) (stateOf c) k (go (next (agentFor l b) (stateOf c .mental) k) refl)
-  where
-    no : isSome (next (agentFor l b) (stateOf c .mental) k) ≡ false
-    no = sym (asked-enabled (agentFor l b) (stateOf c .mental) k) ∙ closed _ h
-
-    go : (o : Option Config) → next (agentFor l b) (stateOf c .mental) k ≡ o → next (agentFor l b) (stateOf c .mental) k ≡ none
-    go none e = e
-    go (some d) e = absurd (false≢true (sym no ∙ ap isSome e))
-
-pub closed-by : (l : Layout) (b : Bytes) (c : Configuration) (o : Option Choice) → (askedFor (agentFor l b) (stateOf c .mental) o ≡ Asked.Enabled → ⊥)
-    → stepBy (agentFor l b) (stateOf c) o ≡ nothing
-closed-by l b c none h = refl
-closed-by l b c (some k) h = closed-nothing l b c k h
-
 -- ---- what is answered of a choice that was asked for
 
-pub is-enabled : (x : Asked) (q : Refusal) → answerAsked x q ≡ Done → x ≡ Asked.Enabled
-is-enabled Asked.Enabled q e = refl
-is-enabled Asked.NoRule q e = absurd (done≢refused (sym e))
-is-enabled Asked.Front q e = absurd (done≢refused (sym e))
-is-enabled Asked.Condition q e = absurd (done≢refused (sym e))
+pub is-done : (x : Asked) → answerAsked x ≡ Done → isEnabled x ≡ true
+is-done Asked.Enabled e = refl
+is-done Asked.NoRule e = absurd (done≢refused (sym e))
+is-done Asked.Front e = absurd (done≢refused (sym e))
+is-done (Asked.Condition n) e = absurd (done≢refused (sym e))
 
-pub not-enabled : (x : Asked) (q r : Refusal) → answerAsked x q ≡ Refused r → (answerAsked x q ≡ Refused q) × (x ≡ Asked.Enabled → ⊥)
-not-enabled Asked.Enabled q r e = absurd (done≢refused e)
-not-enabled Asked.NoRule q r e = (refl, λ f. false≢true (ap isEnabled f))
-not-enabled Asked.Front q r e = (refl, λ f. false≢true (ap isEnabled f))
-not-enabled Asked.Condition q r e = (refl, λ f. false≢true (ap isEnabled f))
+is-refused : (x : Asked) (r : Refusal) → answerAsked x ≡ Refused r → isEnabled x ≡ false
+is-refused Asked.Enabled r e = absurd (done≢refused e)
+is-refused Asked.NoRule r e = refl
+is-refused Asked.Front r e = refl
+is-refused (Asked.Condition n) r e = refl
 
-module _ (l : Layout) (b : Bytes) (c : Config) where
-  -- why the choice of a code is closed, by what asking for it answered
-  by-asked : (k n : ℕ) → whyClosed l b c (choiceOf k n) ≡ refusalBy (askedFor (agentFor l b) c (choiceOf k n)) (falseCondition l b c (choiceAt k n))
-  by-asked k n =
-      let Law : Option Choice → Type 0 = λ o. whyClosed l b c o ≡ refusalBy (askedFor (agentFor l b) c o) (falseCondition l b c (choiceAt k n)) in
-      elim (decLt k 3) [
-        | yes h ↦ subst Law (sym (choice-known k n h)) (why-asked l b c (choiceAt k n))
-        | no h ↦ subst Law (sym (choice-unknown k n (omega arith))) refl
-      ]
+module _ (l : Layout) (b : Bytes) (c : Configuration) where
+  -- a choice that is closed makes no transition
+  closed-nothing : (k : Choice) → enabled (agentFor l b) (stateOf c .mental) k ≡ false → step (agentFor l b) (stateOf c) k ≡ nothing
+  unfolding enabled
+  closed-nothing k shut = step-nothing (agentFor l b) (stateOf c) k (go (next (agentFor l b) (stateOf c .mental) k) refl)
+    where
+      go : (o : Option Config) → next (agentFor l b) (stateOf c .mental) k ≡ o → next (agentFor l b) (stateOf c .mental) k ≡ none
+      go none e = e
+      go (some d) e = absurd (false≢true (sym shut ∙ ap isSome e))
 
-  pub why-code : (code : ℕ) (x : Asked) → x ≡ askedFor (agentFor l b) c (choice code)
-      → whyClosed l b c (choice code) ≡ refusalBy x (falseCondition l b c (choiceAt (code / 256) (code % 256)))
-  unfolding choice
-  why-code code x e =
-      by-asked (code / 256) (code % 256)
-      ∙ ap (λ y. refusalBy y (falseCondition l b c (choiceAt (code / 256) (code % 256)))) (sym e)
+  -- and is refused by why it is closed
+  closed : (o : Option Choice) → isEnabled (askedFor l b (stateOf c .mental) o) ≡ false
+      → (answerAsked (askedFor l b (stateOf c .mental) o) ≡ Refused (whyClosed l b (stateOf c .mental) o)) × (stepBy (agentFor l b) (stateOf c) o ≡ nothing)
+  closed none e = (refl, refl)
+  closed (some k) e = (why-asked l b (stateOf c .mental) k e, closed-nothing k (sym (asked-enabled l b (stateOf c .mental) k) ∙ e))
+
+  pub refused-so : (o : Option Choice) (x : Asked) (r : Refusal) → x ≡ askedFor l b (stateOf c .mental) o → answerAsked x ≡ Refused r
+      → reply (answerAsked x) c ≡ takenBy (whyClosed l b (stateOf c .mental) o) (stepBy (agentFor l b) (stateOf c) o) c
+  refused-so o x r a e =
+      let (w, n) = closed o (sym (ap isEnabled a) ∙ is-refused x r e) in
+      ap (λ y. reply y c) (ap answerAsked a ∙ w) ∙ ap (λ y. takenBy (whyClosed l b (stateOf c .mental) o) y c) (sym n)
 
 -- ---- what is answered of a transition
 
@@ -148,42 +134,16 @@ some-answer q q′ full n = refl
 some-answer q q′ (to k s) n = refl
 
 -- an open choice has a transition
-pub enabled-something : (l : Layout) (b : Bytes) (c : Configuration) (k : Choice) → asked (agentFor l b) (stateOf c .mental) k ≡ Asked.Enabled → step (agentFor l b) (stateOf c) k ≡ nothing → ⊥
+pub enabled-something : (l : Layout) (b : Bytes) (c : Configuration) (k : Choice) → enabled (agentFor l b) (stateOf c .mental) k ≡ true → step (agentFor l b) (stateOf c) k ≡ nothing → ⊥
 enabled-something l b c k h e = go e (steps-to (agentFor l b) (stateOf c) k)
   where
     A : Agent
     A = agentFor l b
 
     there : (d : Config) × Step A (stateOf c .mental) k d
-    there = enabled-exactly A (stateOf c .mental) k .0 (sym (asked-enabled A (stateOf c .mental) k) ∙ ap isEnabled h)
+    there = enabled-exactly A (stateOf c .mental) k .0 h
 
     go : {o : Reached} → o ≡ nothing → StepsTo A (stateOf c) k o → ⊥
     go e (none-there n) = n (there .0) (there .1)
     go e (too-long d x f) = full≢nothing e
     go e (taken d x f) = to≢nothing e
-
--- ---- a choice whose condition was asked stands on the card
-
-is-rule : Asked → Bool
-is-rule Asked.Enabled = true
-is-rule Asked.NoRule = false
-is-rule Asked.Front = true
-is-rule Asked.Condition = true
-
-no-rule≢condition : Asked.NoRule ≡ Asked.Condition → ⊥
-unfolding is-rule
-no-rule≢condition e = false≢true (ap is-rule e)
-
-module _ (l : Layout) (b : Bytes) (c : Config) where
-  known-entry : (k n : ℕ) → askedFor (agentFor l b) c (choiceOf k n) ≡ Asked.Condition → (k < 3) × (n < countOf l k)
-  known-entry k n e = elim (decLt k 3) [
-    | yes h ↦ elim (decLt n (countOf l k)) [
-      | yes g ↦ (h, g)
-      | no g ↦ absurd (no-rule≢condition (no-rule l b c k n (omega arith) ∙ ap (askedFor (agentFor l b) c) (sym (choice-known k n h)) ∙ e))
-    ]
-    | no h ↦ absurd (no-rule≢condition (ap (askedFor (agentFor l b) c) (sym (choice-unknown k n (omega arith))) ∙ e))
-  ]
-
-  pub condition-known : (code : ℕ) → askedFor (agentFor l b) c (choice code) ≡ Asked.Condition → (code / 256 < 3) × (code % 256 < countOf l (code / 256))
-  unfolding choice
-  condition-known code e = known-entry (code / 256) (code % 256) e

@@ -1,10 +1,12 @@
 -- What a transition comes to, as the code tells it and as it leaves the lent plan.
 use mathlib.Core.Path.{_≡_}
+use mathlib.Core.Bool.{true}
 use mathlib.Core.List.{List}
 use mathlib.Core.Option.{Option, none, some}
 use Prim.Native.Nat.{ℕ, zero, suc, _+_, _%_}
-use Rattle.paper.specs.Language.{Agent, Config}
+use Rattle.paper.specs.Language.{Config}
 use Rattle.paper.specs.Transitions.{Choice}
+use Rattle.paper.specs.Next.{enabled}
 use Rattle.runs.specs.Limits.{mostFinished}
 use Rattle.runs.specs.Order.{kind, number, guide}
 use Rattle.runs.specs.Step.{upTo, Reached, nothing, full, to, step, stepBy}
@@ -54,7 +56,7 @@ ownMove b c = elim (configurationAnswer b c) [ Done ↦ stepBy (agent b) (stateO
 
 -- a choice of a card is enabled
 abbrev pub Enabled : Layout → Bytes → Configuration → Choice → Type 0
-Enabled l b c k = asked (agentFor l b) (stateOf c .mental) k ≡ Asked.Enabled
+Enabled l b c k = enabled (agentFor l b) (stateOf c .mental) k ≡ true
 
 -- the finished count after a transition that leaves so many actions, where it was f before: finishedWith, by the plan's length
 abbrev pub finishedAt : ℕ → ℕ → ℕ
@@ -75,16 +77,9 @@ answerTo q Transition.Nothing = Refused q
 answerTo q Transition.Full = Refused Refusal.PlanFull
 
 -- why the choice of a code is closed, if it is: where there is none, 02, Wish 1: "no such rule or specification"
-abbrev pub askedFor : Agent → Config → Option Choice → Asked
-askedFor A c none = Asked.NoRule
-askedFor A c (some k) = asked A c k
-
--- done where a choice that was asked for is enabled, and else the refusal q: 02, Wish 1: "10 gives way to three in its place"
-abbrev pub answerAsked : Asked → Refusal → Answer
-answerAsked Asked.Enabled q = Done
-answerAsked Asked.NoRule q = Refused q
-answerAsked Asked.Front q = Refused q
-answerAsked Asked.Condition q = Refused q
+abbrev pub askedFor : Layout → Bytes → Config → Option Choice → Asked
+askedFor l b c none = Asked.NoRule
+askedFor l b c (some k) = asked l b c k
 
 -- what taking a choice answers
 abbrev pub takenBy : Refusal → Reached → Configuration → Reply

@@ -6,7 +6,7 @@ ghost use Rattle.runs.specs.Run.{run};
 ghost use Rattle.meaning.specs.declared.Answer.the-variants.{Done};
 ghost use Rattle.door.specs.Words.{agentFor, stateOf, configured, GoodCard, Ready, ranWith};
 ghost use Rattle.meaning.specs.Calls.{ran, runs};
-ghost use Rattle.choices.specs.Truth.{Marked};
+ghost use Rattle.choices.specs.Judged.{Marked};
 use crate::advance::advance;
 use crate::step::Transition;
 use card::check::answer_of;

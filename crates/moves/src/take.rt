@@ -5,13 +5,13 @@ ghost use Rattle.door.specs.Words.{agentFor, stateOf, configured, Ready, replyW
 ghost use Rattle.meaning.specs.declared.Refusal.{Refusal};
 ghost use Rattle.meaning.specs.Why.{whyClosed};
 ghost use Rattle.meaning.specs.Calls.{choice, takes};
+ghost use Rattle.door.specs.Asking.{answerAsked};
 ghost use Rattle.choices.specs.Judged.{Judged};
-ghost use Rattle.moves.specs.Steps.{answerTo, askedFor, answerAsked, takenBy};
+ghost use Rattle.moves.specs.Steps.{answerTo, askedFor, takenBy};
 use crate::step::Transition;
 use crate::step::step;
 use card::check::answer_of;
 use choices::ask::ask;
-use choices::settler::false_condition;
 use choices::truth::Marks;
 use choices::truth::judge_nodes;
 use choices::truth::no_marks;
@@ -28,7 +28,7 @@ use meaning::Refusal;
 // The choice of a code: "256 times the kind … plus the number". There is no kind past 2.
 fn ask_code(card: &[u8], l: Layout, m: Mind, plan: &Plan, marks: &Marks, code: u16) -> Asked
     requires { ⌜ Judged l (now card) (configured m (now plan)) (now marks) ⌝ }
-    ensures { λ r. ⌜ r ≡ askedFor (agentFor l (now (card .entry))) (stateOf (configured m (now (plan .entry))) .mental) (choice code) ⌝ }
+    ensures { λ r. ⌜ r ≡ askedFor l (now (card .entry)) (stateOf (configured m (now (plan .entry))) .mental) (choice code) ⌝ }
 {
     let kind = code / 256;
     if 2 < kind {
@@ -37,30 +37,15 @@ fn ask_code(card: &[u8], l: Layout, m: Mind, plan: &Plan, marks: &Marks, code: u
     ask(card, l, m, plan, marks, kind as u8, (code % 256) as usize)
 }
 
-// 02, Wish 1: "Refusals: 10 gives way to three in its place and this order": done where the choice of a code, which was asked
-// for, is enabled.
-fn answer_asked(
-    card: &[u8],
-    l: Layout,
-    m: Mind,
-    plan: &Plan,
-    marks: &Marks,
-    asked: Asked,
-    code: u16,
-) -> Answer
-    requires { ⌜ Judged l (now card) (configured m (now plan)) (now marks) ⌝ }
-    requires { ⌜ asked ≡ askedFor (agentFor l (now card)) (stateOf (configured m (now plan)) .mental) (choice code) ⌝ }
-    ensures { λ r. ⌜ r ≡ answerAsked asked (whyClosed l (now (card .entry)) (stateOf (configured m (now (plan .entry))) .mental) (choice code)) ⌝ }
+// 02, Wish 1: "Refusals: 10 gives way to three in its place and this order", "only a refused choice shows it".
+fn answer_asked(asked: Asked) -> Answer
+    ensures { λ r. ⌜ r ≡ answerAsked asked ⌝ }
 {
     match asked {
         Asked::Enabled => Answer::Done,
         Asked::NoRule => Answer::Refused(Refusal::NoRule),
         Asked::Front => Answer::Refused(Refusal::Front),
-        Asked::Condition => {
-            let kind = (code / 256) as u8;
-            let i = (code % 256) as usize;
-            Answer::Refused(false_condition(card, l, m, plan, marks, kind, i))
-        }
+        Asked::Condition(node) => Answer::Refused(Refusal::Condition(node as usize)),
     }
 }
 
@@ -85,7 +70,7 @@ fn take_choice(card: &[u8], l: Layout, m: Mind, plan: &mut Plan, code: u16) -> R
     let mut marks = no_marks();
     judge_nodes(card, l, m, &mut marks);
     let asked = ask_code(card, l, m, plan, &marks, code);
-    let answer = answer_asked(card, l, m, plan, &marks, asked, code);
+    let answer = answer_asked(asked);
     let Answer::Done = answer else {
         return ReplyInPlace {
             answer: answer,

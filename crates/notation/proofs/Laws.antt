@@ -8,6 +8,7 @@ use native.Mathlib.Omega.{arith}
 use borrow.Author.Tests.{leb-true, leb-false, le-leb, lt-leb, ltb-true, ltb-false}
 use lib.Dec.{leb, ltb}
 use lib.ListN.{length, take, drop, take-append-drop}
+use lib.Seq.{take-at}
 use Rattle.paper.proofs.Relation.{both, false≢true}
 use Rattle.meaning.specs.declared.Refusal.{Refusal}
 use Rattle.meaning.specs.declared.Answer.{Answer}
@@ -37,7 +38,7 @@ rows-below x (r ∷ rows) q h e = go (r .when x) (rows-below x rows q (both (leb
     go true ih f = subst (λ z. numberOf z ≤ 9) (refused-inj f) (leb-true _ 9 (both _ _ h .0))
     go false ih f = ih f
 
-card-below : (b : Bytes) (q : Refusal) → cardAnswer b ≡ Refused q → numberOf q ≤ 9
+pub card-below : (b : Bytes) (q : Refusal) → cardAnswer b ≡ Refused q → numberOf q ≤ 9
 unfolding cardAnswer cardTable numberOf
 card-below b q e = rows-below b cardTable q refl e
 
@@ -79,7 +80,7 @@ judged-said s out =
 -- ---- an answer tells which case it is
 
 -- two answers that are the same have the same number
-same-number : {a b : Answer} → a ≡ b → answerNumber a ≡ answerNumber b
+pub same-number : {a b : Answer} → a ≡ b → answerNumber a ≡ answerNumber b
 same-number e = ap answerNumber e
 
 module _ {s : Said} {out : Bytes} where
@@ -293,6 +294,18 @@ read-law t out a n left r =
       card-exactly = λ q h. (card-to (found r) q h, λ (s, (l, e)). within-answer r s l ∙ ap (λ c. andThen c (roomFor (built s) out)) e);
       room-exactly = (room-to (found r), λ (s, (l, (c, h))). within-answer r s l ∙ short s out c h);
     }
+
+-- what an answer of done leaves in front of the lent buffer is the card that the text stands for
+in-front : (c out left : Bytes) (n : ℕ) → n ≡ length c → left ≡ over c out → take n left ≡ c
+in-front c out left n h g = rw (h, g) (take-at c (drop (length c) out) (length c) refl)
+
+pub done-leaves : {t out left : Bytes} {n : ℕ} → Reads t out Done n left
+    → (s : Said) × (WithinLimits t s × ((cardAnswer (built s) ≡ Done) × (take n left ≡ built s)))
+done-leaves {t} {out} {left} {n} r =
+    let laws = read-law t out Done n left r in
+    let (s, (within, (card, room))) = laws .done-exactly .0 refl in
+    let (count, wrote) = laws .built-then s (within .derived) refl in
+    (s, (within, (card, in-front (built s) out left n count wrote)))
 
 -- ---- one answer
 

@@ -28,7 +28,7 @@ use Rattle.notation.proofs.MadeFits.{numbers-each, entries-each, pool-c
 
 -- ---- a number in two bytes
 
-two : (n : ℕ) → n ≤ 65535 → n % 256 + 256 * (n / 256 % 256) ≡ n
+pub two : (n : ℕ) → n ≤ 65535 → n % 256 + 256 * (n / 256 % 256) ≡ n
 two n h = omega arith
 
 -- ---- the layout that a header tells

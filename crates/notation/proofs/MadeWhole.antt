@@ -53,7 +53,7 @@ madeSaid s = record {
 do-nodes : (ds : List Do) → sizes (treesOf (map (λ d. d .condition) ds)) ≡ sizes (map (λ d. d .condition .tree) ds)
 do-nodes ds = ap sizes (map-map (λ c. c .tree) (λ d. d .condition) ds)
 
-select-trees : (ss : List Select) → treesOf (selectConditions ss) ≡ flatten (map (λ r. r .belief .tree ∷ r .goal .tree ∷ []) ss)
+pub select-trees : (ss : List Select) → treesOf (selectConditions ss) ≡ flatten (map (λ r. r .belief .tree ∷ r .goal .tree ∷ []) ss)
 unfolding flatten
 select-trees [] = refl
 select-trees (s ∷ ss) = rw (select-trees ss)

@@ -118,15 +118,15 @@ record Least (w : ℕ) (u : Bytes) (c : Condition) : Type 0 where
   text : brackets (textAs w (c .tree)) ≤ brackets u
 
 -- the more is wanted of a tree, the more there is, by one at most
-record Wants (t : Tree) : Type 0 where
-  depth-and : depthAs 0 t ≤ depthAs 1 t
-  depth-unit : depthAs 1 t ≤ depthAs 2 t
+pub record Wants (t : Tree) : Type 0 where
+  pub depth-and : depthAs 0 t ≤ depthAs 1 t
+  pub depth-unit : depthAs 1 t ≤ depthAs 2 t
   depth-one : depthAs 2 t ≤ suc (depthAs 0 t)
   text-and : brackets (textAs 0 t) ≤ brackets (textAs 1 t)
   text-unit : brackets (textAs 1 t) ≤ brackets (textAs 2 t)
   text-one : brackets (textAs 2 t) ≤ suc (brackets (textAs 0 t))
 
-wants : (t : Tree) → Wants t
+pub wants : (t : Tree) → Wants t
 unfolding textAs depthAs
 wants true = record { depth-and = omega arith; depth-unit = omega arith; depth-one = omega arith; text-and = omega arith; text-unit = omega arith; text-one = omega arith }
 wants (believes n) = record { depth-and = omega arith; depth-unit = omega arith; depth-one = omega arith; text-and = omega arith; text-unit = omega arith; text-one = omega arith }

@@ -2,9 +2,11 @@ pub mod Words
 pub mod Conditions
 pub mod Lines
 pub mod Built
+pub mod Completed
 pub mod Reading
 pub mod Printing
 pub mod Theorems
+pub mod Meant
 pub mod Scanning
 pub mod Values
 pub mod Making

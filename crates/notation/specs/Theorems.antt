@@ -11,13 +11,14 @@ use lib.ListN.{length, take, drop}
 use Rattle.meaning.specs.declared.Refusal.{Refusal}
 use Rattle.meaning.specs.declared.Answer.{Answer}
 use Rattle.meaning.specs.declared.Answer.the-variants.{Done, Refused}
-use Rattle.meaning.specs.Card.{Bytes, layout}
+use Rattle.meaning.specs.Card.{Bytes, layout, nodeAt}
 use Rattle.meaning.specs.Refusals.{numberOf, Row, firstGiven, cardTable, cardAnswer}
 use Rattle.meaning.specs.Calls.{over}
 use Rattle.meaning.specs.Theorems.{rowNumbers}
 use Rattle.notation.specs.Conditions.{Tree, Condition, OrList, treesOf}
 use Rattle.notation.specs.Lines.{Said, Text, conditions}
 use Rattle.notation.specs.Built.{size, own, sizes, built}
+use Rattle.notation.specs.Completed.{AllCompleted}
 use Rattle.notation.specs.Reading.{Derived, WrongAt, shallow, numbersFit, entriesFit, Reads}
 use Rattle.notation.specs.Printing.{treeAt, textOf, depthOf, deeperIf, printed, printAnswer, printLeaves}
 
@@ -60,6 +61,8 @@ TextRowsLaw = (b : Bytes) → rowNumbers rowsOfText b ≡ 3 ∷ 5 ∷ 6 ∷ 7 �
 
 -- 02, Wish 2: "Each atom, `T`, `!` and operator makes one node, numbered as it is completed."
 pub record CompletedLaws (s : Said) : Type 0 where
+  -- every node of every condition, in the order of the text, from number 0 on, and there is no other
+  pub in-order : AllCompleted (nodeAt (layout (built s)) (built s)) 0 (treesOf (conditions s)) (layout (built s) .nodes .count)
   -- 02, Wish 2: "Each … makes one node": there are as many as the trees have, so that none is shared
   pub one-each : layout (built s) .nodes .count ≡ sizes (treesOf (conditions s))
   -- 02, Wish 2: "numbered as it is completed": a condition's own node, behind the nodes of the conditions before it, stands for the
@@ -141,3 +144,41 @@ PrintsAny =
     (b : Bytes) (n : ℕ) (out : Bytes) → cardAnswer b ≡ Done → n < layout b .nodes .count
     → depthOf (treeAt (layout b) b n) ≤ 32 → size (treeAt (layout b) b n) ≤ 256 → length (printed b n) ≤ length out
     → (printAnswer b n out ≡ Done) × (printLeaves b n out ≡ over (printed b n) out) × OrList (printed b n) (asPrinted (treeAt (layout b) b n))
+
+-- A node of an accepted card.
+abbrev pub KnownNode : Bytes → ℕ → Type 0
+KnownNode b n = (cardAnswer b ≡ Done) × (n < layout b .nodes .count)
+
+-- 02, Wish 2: "and refuses: 7 no such node, 18, 25 over 256 nodes, 12.": each exactly when, in this order, behind the card's.
+pub record PrintRefusals (b : Bytes) (n : ℕ) (out : Bytes) : Type 0 where
+  -- docs/TEXT.md: "It refuses: the card with 1 to 9"
+  pub card-first : (q : Refusal) → cardAnswer b ≡ Refused q → printAnswer b n out ≡ Refused q
+  -- docs/TEXT.md: "7 if there is no such node"
+  pub unknown-exactly : cardAnswer b ≡ Done → (printAnswer b n out ≡ Refused Refusal.Rule) ↔ (layout b .nodes .count ≤ n)
+  -- docs/TEXT.md: "18 if the text nests more than 32 deep"
+  pub nested-exactly : (printAnswer b n out ≡ Refused Refusal.Nested) ↔ (KnownNode b n × (32 < depthOf (treeAt (layout b) b n)))
+  -- docs/TEXT.md: "25 if it has more than 256 nodes, a shared one counted each time it is printed"
+  pub large-exactly : (printAnswer b n out ≡ Refused Refusal.Large)
+      ↔ (KnownNode b n × ((depthOf (treeAt (layout b) b n) ≤ 32) × (256 < size (treeAt (layout b) b n))))
+  -- docs/TEXT.md: "12 if the lent buffer is shorter than the text"
+  pub room-exactly : (printAnswer b n out ≡ Refused Refusal.NoRoom)
+      ↔ (KnownNode b n × ((depthOf (treeAt (layout b) b n) ≤ 32) × ((size (treeAt (layout b) b n) ≤ 256) × (length out < length (printed b n)))))
+  -- 02, Wish 2: "a printer writes any condition of at most 256 printed nodes nested within the limit back as text"
+  pub done-exactly : (printAnswer b n out ≡ Done)
+      ↔ (KnownNode b n × ((depthOf (treeAt (layout b) b n) ≤ 32) × ((size (treeAt (layout b) b n) ≤ 256) × (length (printed b n) ≤ length out))))
+
+-- The same of every card, node and buffer.
+abbrev pub PrintRefusalsLaw : Type 0
+PrintRefusalsLaw = (b : Bytes) (n : ℕ) (out : Bytes) → PrintRefusals b n out
+
+-- docs/DECISIONS.md, "Room for a printed condition": "894 bytes": no text that is printed is longer.
+abbrev pub PrintRoom : Type 0
+PrintRoom = (b : Bytes) (n : ℕ) → KnownNode b n → size (treeAt (layout b) b n) ≤ 256 → length (printed b n) ≤ 894
+
+-- 02, Wish 2: "a printer writes any condition … back as text that reads as the same tree": every condition, and every part of one,
+-- of a card that was made from a text, in 894 bytes.
+abbrev pub TextPrints : Type 0
+TextPrints =
+    (t out : Bytes) (n : ℕ) (left : Bytes) → Reads t out Done n left → (k : ℕ) → k < layout (take n left) .nodes .count
+    → (length (printed (take n left) k) ≤ 894)
+    × ((room : Bytes) → length (printed (take n left) k) ≤ length room → printAnswer (take n left) k room ≡ Done)

@@ -24,8 +24,8 @@ fn up(s: &mut Plan, to: usize, from: usize, n: usize)
 }
 
 // Zeros from `from` to `to`.
-fn clear(s: &mut Plan, from: usize, to: usize)
-    requires { ⌜ (from ≤ to) × (to ≤ 1024) × (length (now s) ≡ 1024) ⌝ }
+pub fn clear(s: &mut [u8], from: usize, to: usize)
+    requires { ⌜ (from ≤ to) × (to ≤ length (now s)) ⌝ }
     ensures { λ r. ⌜ now (s .exit) ≡ take from (now (s .entry)) ++ replicate (to - from) 0 ++ drop to (now (s .entry)) ⌝ }
 {
     let mut i: usize = from;

@@ -245,7 +245,7 @@ fn waits(asked: Asked) -> bool {
         Asked::Enabled => false,
         Asked::NoRule => false,
         Asked::Front => false,
-        Asked::Condition => true,
+        Asked::Condition(_) => true,
     }
 }
 

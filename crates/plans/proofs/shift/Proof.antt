@@ -13,7 +13,7 @@ clear-requires : tie.Need-clear-requires
 clear-requires c κs =
     let a = c .before .before .before .before .args in
     let p = c .before .before .before .before .pre in
-    (omega arith, omega arith, length-shift (now (a .plan)) (a .len) (a .hlen) (a .blen) (p .0) (p .1) (p .2) (p .3) (c .before .down .last .0) (c .before .down .ensures))
+    (omega arith, omega (arith, length-shift (now (a .plan)) (a .len) (a .hlen) (a .blen) (p .0) (p .1) (p .2) (p .3) (c .before .down .last .0) (c .before .down .ensures)))
 
 up-requires : tie.Need-up-requires
 up-requires c κs =

@@ -1,5 +1,3 @@
-use mathlib.Core.Bool.{false}
-use lib.ListN.{length-replicate}
 use borrow.Author.Needs.{needs}
 use Rattle.rigtemple.proofs.say_why.Statement.{statement}
 use Rattle.rigtemple.proofs.say_why.Tie as tie
@@ -14,7 +12,7 @@ no-marks-requires : tie.Need-no-marks-requires
 no-marks-requires c κs = search needs
 
 judge-nodes-requires : tie.Need-judge-nodes-requires
-judge-nodes-requires c κs = (c .before .before .before .before .before .admit .ensures .1 _ (c .before .before .before .admitted .given .1) .card, rw (c .before .no-marks .ensures) (length-replicate 256 false))
+judge-nodes-requires c κs = (c .before .before .before .before .before .admit .ensures .1 _ (c .before .before .before .admitted .given .1) .card, rw (c .before .no-marks .ensures))
 
 say-next-requires : tie.Need-say-next-requires
 say-next-requires c κs = record { ready = c .before .before .before .before .before .before .before .admit .ensures .1 _ (c .before .before .before .before .before .admitted .given .1); marked = c .before .judge-nodes .ensures .0 }

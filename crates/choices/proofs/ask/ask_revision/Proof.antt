@@ -2,7 +2,8 @@ use mathlib.Core.Path.{sym, ap, ap₂, _∙_, subst}
 use Rattle.layout.specs.PlaceParts.{configured}
 use Rattle.meaning.specs.Card.{part, plan}
 use Rattle.paper.specs.Next.{isPrefix}
-use mathlib.Core.Bool.{false}
+use mathlib.Core.Bool.{true}
+use Rattle.choices.specs.Judged.{markAt}
 use Rattle.door.specs.Asking.{askedBy}
 use Rattle.choices.proofs.Marked.{asks-revision}
 use Rattle.card.specs.GoodCard.{GoodSpan}
@@ -10,7 +11,7 @@ use Rattle.meaning.specs.declared.RevisionEntry.{RevisionEntry}
 use native.Mathlib.Omega.{arith}
 use borrow.Author.Needs.{needs}
 use denote.Ref.{now}
-use lib.ListN.{length, getD, take}
+use lib.ListN.{take}
 use Rattle.choices.proofs.ask.ask_revision.Statement.{statement}
 use Rattle.choices.proofs.ask.ask_revision.Tie as tie
 
@@ -30,21 +31,21 @@ starts-with-requires c κs =
     let at = c .before .pool-at .ensures in
     (h .some, (let x = h .inside in let y = r .card .layout .ends in omega arith), r .fits, r .room)
 
-holds-requires : tie.Need-holds-requires
-holds-requires c κs = search needs
-
 asked-by-requires : tie.Need-asked-by-requires
 asked-by-requires c κs = search needs
 
 returns : tie.Need-returns
 unfolding plan
 returns c =
-    let a = c .before .before .before .before .before .before .before .before .args in
-    let e = c .before .before .before .before .before .before .read-revision .ensures .0 in
-    let b = c .before .holds .ensures ∙ ap (λ (x : RevisionEntry). getD (now (a .marks)) (x .node) false) e in
-    let at = c .before .before .before .before .pool-at .ensures in
-    let f = c .before .before .starts-with .ensures ∙ (λ j. isPrefix (part (now (a .card)) (at j) (c .before .before .before .before .before .before .read-revision .result .head .length)) (take (a .m .length) (now (a .plan)))) ∙ ap (λ (x : RevisionEntry). isPrefix (plan (a .l) (now (a .card)) (x .head)) (take (a .m .length) (now (a .plan)))) e in
-    c .asked-by .ensures ∙ ap₂ askedBy f b ∙ asks-revision (a .l) (now (a .card)) (configured (a .m) (now (a .plan))) (now (a .marks)) (c .before .before .before .before .before .before .before .before .pre .0) (a .i) (c .before .before .before .before .before .before .before .before .pre .1)
+    let s = c .before .before .before .before .before .before .before .before .before in
+    let a = s .args in
+    let M = now (a .marks) in
+    let r = c .before .before .before .before .before .before .before .read-revision in
+    let e = r .ensures .0 in
+    let at = c .before .before .before .before .before .pool-at .ensures in
+    let f = c .before .before .before .starts-with .ensures ∙ (λ j. isPrefix (part (now (a .card)) (at j) (r .result .head .length)) (take (a .m .length) (now (a .plan)))) ∙ ap (λ (x : RevisionEntry). isPrefix (plan (a .l) (now (a .card)) (x .head)) (take (a .m .length) (now (a .plan)))) e in
+    let p = ap (λ (x : RevisionEntry). markAt M (x .node)) e in
+    c .asked-by .ensures ∙ ap₂ (askedBy true) f p ∙ asks-revision (a .l) (now (a .card)) (configured (a .m) (now (a .plan))) M (s .pre .0) (a .i) (s .pre .1)
 
 pub ask-revision-spec : {M : Type 1} → statement M
 ask-revision-spec =
@@ -54,6 +55,8 @@ ask-revision-spec =
     pool-at-requires
     (λ c. search needs)
     starts-with-requires
-    holds-requires
+    (λ c. search needs)
+    (λ c. search needs)
+    (λ c. search needs)
     asked-by-requires
     returns)

@@ -36,9 +36,8 @@ returns : tie.Need-returns Inv-loop μ-loop
 returns c =
     let a = c .before .before .before .before .before .before .before .args in
     let l = c .before .before .before .before .loop in
-    let A = agentFor (a .l) (now (a .card)) in
     let s : Config = stateOf (configured (a .m) (now (a .plan))) .mental in
-    let e = sym (asked-is A s (choiceAt (a .kind) (l .i)) (c .before .before .ask-entry .result) _ (c .before .before .ask-entry .ensures) (c .enum-told .given .1)) in
+    let e = sym (asked-is (a .l) (now (a .card)) s (choiceAt (a .kind) (l .i)) (c .before .before .ask-entry .result) _ (c .before .before .ask-entry .ensures) (c .enum-told .given .1)) in
     found-of-kind (a .l) (now (a .card)) s (a .kind) (l .i) (c .before .before .before .before .before .before .before .pre .1) (omega arith) e (l .inv .1)
 
 enum-told-2 : tie.Need-enum-told-2 Inv-loop μ-loop
@@ -56,7 +55,7 @@ loop-again c =
     let l = c .before .before .before .before .loop in
     let A = agentFor (a .l) (now (a .card)) in
     let s : Config = stateOf (configured (a .m) (now (a .plan))) .mental in
-    let e = sym (asked-is A s (choiceAt (a .kind) (l .i)) (c .before .before .ask-entry .result) _ (c .before .before .ask-entry .ensures) (c .enum-told2 .given .1)) in
+    let e = sym (asked-is (a .l) (now (a .card)) s (choiceAt (a .kind) (l .i)) (c .before .before .ask-entry .result) _ (c .before .before .ask-entry .ensures) (c .enum-told2 .given .1)) in
     (omega (arith, c .before .before .before .loop-test .taken), left-turn A s (choiceAt (a .kind)) (countOf (a .l) (a .kind)) (l .i) (omega (arith, c .before .before .before .loop-test .taken)) e (l .inv .1))
 
 enum-told-3 : tie.Need-enum-told-3 Inv-loop μ-loop
@@ -74,7 +73,7 @@ loop-again-2 c =
     let l = c .before .before .before .before .loop in
     let A = agentFor (a .l) (now (a .card)) in
     let s : Config = stateOf (configured (a .m) (now (a .plan))) .mental in
-    let e = sym (asked-is A s (choiceAt (a .kind) (l .i)) (c .before .before .ask-entry .result) _ (c .before .before .ask-entry .ensures) (c .enum-told3 .given .1)) in
+    let e = sym (asked-is (a .l) (now (a .card)) s (choiceAt (a .kind) (l .i)) (c .before .before .ask-entry .result) _ (c .before .before .ask-entry .ensures) (c .enum-told3 .given .1)) in
     (omega (arith, c .before .before .before .loop-test .taken), left-turn A s (choiceAt (a .kind)) (countOf (a .l) (a .kind)) (l .i) (omega (arith, c .before .before .before .loop-test .taken)) e (l .inv .1))
 
 enum-told-4 : tie.Need-enum-told-4 Inv-loop μ-loop
@@ -92,7 +91,7 @@ loop-again-3 c =
     let l = c .before .before .before .before .loop in
     let A = agentFor (a .l) (now (a .card)) in
     let s : Config = stateOf (configured (a .m) (now (a .plan))) .mental in
-    let e = sym (asked-is A s (choiceAt (a .kind) (l .i)) (c .before .before .ask-entry .result) _ (c .before .before .ask-entry .ensures) (c .enum-told4 .given .1)) in
+    let e = sym (asked-is (a .l) (now (a .card)) s (choiceAt (a .kind) (l .i)) (c .before .before .ask-entry .result) _ (c .before .before .ask-entry .ensures) (c .enum-told4 .given .1)) in
     (omega (arith, c .before .before .before .loop-test .taken), left-turn A s (choiceAt (a .kind)) (countOf (a .l) (a .kind)) (l .i) (omega (arith, c .before .before .before .loop-test .taken)) e (l .inv .1))
 
 returns-2 : tie.Need-returns-2 Inv-loop μ-loop

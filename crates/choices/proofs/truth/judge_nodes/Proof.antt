@@ -2,10 +2,11 @@ use Rattle.meaning.proofs.Nodes.{node-rule}
 use Rattle.meaning.specs.declared.Node.{Node}
 use mathlib.Core.Bool.{false}
 use lib.ListN.{length-set, length, getD}
-use Rattle.sets.proofs.Loops.{below-turn}
-use Rattle.choices.proofs.Truths.{truth-next}
 use Rattle.meaning.specs.Kinds.{nodeKind}
-use Rattle.choices.specs.Truth.{truthOf, truths}
+use Rattle.choices.specs.OnePass.{keptOf, kept}
+use Rattle.choices.specs.Judged.{markAt}
+use Rattle.choices.proofs.Passing.{told-turn}
+use Rattle.choices.proofs.OnePass.{kept-next}
 use mathlib.Core.Path.{_≡_, ap, _∙_}
 use Prim.Native.Nat.{ℕ, _-_, _≤_, _<_}
 use native.Mathlib.Omega.{arith}
@@ -15,7 +16,7 @@ use Rattle.choices.proofs.truth.judge_nodes.Statement.{statement}
 use Rattle.choices.proofs.truth.judge_nodes.Tie as tie
 
 abbrev Inv-loop : tie.InvT-loop
-Inv-loop card l m marks₀ n i₀ marks i = (i ≤ n) × (length marks ≡ 256) × ((j : ℕ) → j < i → getD marks j false ≡ getD (truths l card (m .beliefs) (m .goals)) j false)
+Inv-loop card l m marks₀ n i₀ marks i = (i ≤ n) × (length marks ≡ 256) × ((j : ℕ) → j < i → markAt marks j ≡ getD (kept l card (m .beliefs) (m .goals)) j (false, 0))
 
 abbrev μ-loop : tie.MeasureT-loop
 μ-loop card l m marks₀ n i₀ marks i = n - i
@@ -23,11 +24,14 @@ abbrev μ-loop : tie.MeasureT-loop
 loop-holds : tie.Need-loop-holds Inv-loop μ-loop
 loop-holds c = (omega arith, c .before .before .pre .1, λ j h. absurd (omega arith))
 
+cast-judge : tie.Need-cast-judge Inv-loop μ-loop
+cast-judge c = let q = c .before .before .before .before .pre .0 .layout .nodes in omega arith
+
 read-node-requires : tie.Need-read-node-requires Inv-loop μ-loop
 read-node-requires c κs = search needs
 
-truth-requires : tie.Need-truth-requires Inv-loop μ-loop
-truth-requires c κs =
+judge-requires : tie.Need-judge-requires Inv-loop μ-loop
+judge-requires c κs =
     let a = c .before .before .before .before .before .before .args in
     let r = node-rule (a .l) (now (a .card)) (c .before .before .before .before .before .before .pre .0 .nodes) (c .before .before .before .loop .i) (omega arith) in
     rw (c .before .read-node .ensures) (r .kinds)
@@ -43,11 +47,11 @@ loop-again c =
     let b = now (a .card) in
     let k : l .i < a .l .nodes .count = omega arith in
     let r = l .inv .1 in
-    let e = c .truth .ensures ∙ ap (λ (x : Node). truthOf (nodeKind (x .kind)) (x .a) (x .b) (a .m .beliefs) (a .m .goals) (λ j. getD (l .marks) j false)) (c .before .before .read-node .ensures) in (
+    let e = c .judge .ensures ∙ ap (λ (x : Node). keptOf (l .i) (nodeKind (x .kind)) (x .a) (x .b) (a .m .beliefs) (a .m .goals) (markAt (l .marks))) (c .before .before .read-node .ensures) in (
       omega arith,
       simp length-set (l .inv .1),
-      below-turn (λ j. getD (truths (a .l) b (a .m .beliefs) (a .m .goals)) j false) (l .marks) (l .i) (c .truth .result) false (let q = p .layout .nodes in omega arith) (l .inv .2)
-          (e ∙ truth-next (a .l) b (p .nodes) (a .m .beliefs) (a .m .goals) (l .i) k (l .marks) (l .inv .2)),
+      told-turn (λ j. getD (kept (a .l) b (a .m .beliefs) (a .m .goals)) j (false, 0)) (l .marks) (l .i) (c .judge .result) (let q = p .layout .nodes in omega arith) (l .inv .2)
+          (e ∙ kept-next (a .l) b (p .nodes) (a .m .beliefs) (a .m .goals) (l .i) k (markAt (l .marks)) (l .inv .2)),
     )
 
 returns : tie.Need-returns Inv-loop μ-loop
@@ -60,8 +64,10 @@ judge-nodes-spec =
     Inv-loop
     μ-loop
     loop-holds
+    cast-judge
     read-node-requires
-    truth-requires
+    judge-requires
+    (λ c. search needs)
     (λ c. search needs)
     (λ c. search needs)
     loop-less

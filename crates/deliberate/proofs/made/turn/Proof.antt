@@ -1,4 +1,5 @@
-use lib.ListN.{length-set, set, drop, getD}
+use lib.ListN.{length-set, set, drop}
+use Rattle.choices.specs.Judged.{markAt}
 use Rattle.deliberate.proofs.Making.{stayed-top, pushed-twice}
 use mathlib.Core.Bool.{true, false}
 use borrow.Author.Tests.{not-true, not-false}
@@ -24,7 +25,7 @@ returns c =
     let (_, _, _, _, h, s) = c .before .before .before .pre in
     let (t, r) = stayed-top (c .stays .result) (a .m) MoveMade.On (a .top) (c .stays .ensures) in
     let f : c .before .before .holds .result ≡ false = not-true _ (c .before .if1 .taken) in
-    ((r, rw t h, s), (false, (subst (HoldsBy (a .e) (a .m .length) (getD (now (a .marks)) (a .e .a) false)) f (c .before .before .holds .ensures), ap (λ n. drop n (now (a .stack))) t)))
+    ((r, rw t h, s), (false, (subst (HoldsBy (a .e) (a .m .length) (markAt (now (a .marks)) (a .e .a) .0)) f (c .before .before .holds .ensures), ap (λ n. drop n (now (a .stack))) t)))
 
 stays-requires-2 : tie.Need-stays-requires-2
 stays-requires-2 c κs = search needs
@@ -39,7 +40,7 @@ returns-2 c =
       (
         true,
         (
-          subst (HoldsBy (a .e) (a .m .length) (getD (now (a .marks)) (a .e .a) false)) f (c .before .before .holds .ensures),
+          subst (HoldsBy (a .e) (a .m .length) (markAt (now (a .marks)) (a .e .a) .0)) f (c .before .before .holds .ensures),
           ap (λ n. drop n (set (set (now (a .stack)) (a .top - 1) (a .i)) (a .top - 2) (a .e .b))) t ∙ pushed-twice (now (a .stack)) (a .top) (a .i) (a .e .b) k (omega arith),
         ),
       ),

@@ -1,9 +1,9 @@
 use Rattle.paper.proofs.Relation.{false≢true}
-use lib.ListN.{length-replicate, length, drop}
+use lib.ListN.{length, drop}
 use Rattle.deliberate.specs.declared.run.RanMoves.{RanMoves}
 use Rattle.deliberate.specs.Ran.{RanTo}
 use mathlib.Core.Path.{subst, _≡_, sym}
-use Rattle.choices.specs.Truth.{Marked}
+use Rattle.choices.specs.Judged.{Marked}
 use mathlib.Core.Bool.{true, false}
 use Rattle.meaning.specs.Configurations.{stateOf}
 use Rattle.layout.specs.PlaceParts.{configured}
@@ -29,7 +29,7 @@ loop-holds c =
     let a = c .before .before .before .args in
     let (h, g, r) = c .before .before .before .pre in (
       deliberating-start (a .l) (now (a .card)) (now (a .program)) (a .budget) (configured (a .m) (now (a .plan))) (now (a .stack)) (a .top) h r,
-      rw (c .no-marks .ensures) (length-replicate 256 false),
+      rw (c .no-marks .ensures),
       λ e. absurd (false≢true e),
     )
 

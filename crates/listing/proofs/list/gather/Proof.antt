@@ -1,5 +1,4 @@
 use mathlib.Core.Path.{ap, _∙_, sym, subst}
-use mathlib.Core.Bool.{false}
 use Prim.Native.Nat.{ℕ}
 use lib.ListN.{length, length-replicate}
 use Rattle.listing.specs.Listed.{Gathered, enabledCode}
@@ -15,7 +14,7 @@ no-marks-requires : tie.Need-no-marks-requires
 no-marks-requires c κs = search needs
 
 judge-nodes-requires : tie.Need-judge-nodes-requires
-judge-nodes-requires c κs = (c .before .before .before .pre .0 .card, rw (c .before .no-marks .ensures) (length-replicate 256 false))
+judge-nodes-requires c κs = (c .before .before .before .pre .0 .card, rw (c .before .no-marks .ensures))
 
 gather-kind-requires : tie.Need-gather-kind-requires
 gather-kind-requires c κs =

@@ -1,5 +1,3 @@
-use mathlib.Core.Bool.{false}
-use lib.ListN.{length-replicate}
 use Rattle.layout.specs.PlaceParts.{configured}
 use mathlib.Core.Path.{sym, ap, _∙_}
 use Rattle.door.proofs.Accepting.{admitted-good, admitted-refused}
@@ -33,7 +31,7 @@ no-marks-requires : tie.Need-no-marks-requires
 no-marks-requires c κs = search needs
 
 judge-nodes-requires : tie.Need-judge-nodes-requires
-judge-nodes-requires c κs = (c .before .before .before .before .before .admit .ensures .1 _ (c .before .before .before .admitted .given .1) .card, rw (c .before .no-marks .ensures) (length-replicate 256 false))
+judge-nodes-requires c κs = (c .before .before .before .before .before .admit .ensures .1 _ (c .before .before .before .admitted .given .1) .card, rw (c .before .no-marks .ensures))
 
 advance-requires : tie.Need-advance-requires
 advance-requires c κs = record { ready = c .before .before .before .before .before .before .before .before .admit .ensures .1 _ (c .before .before .before .before .before .before .admitted .given .1); marked = c .before .before .judge-nodes .ensures .0 }

@@ -1,10 +1,10 @@
 use Rattle.door.specs.declared.in_place.RanInPlace.{RanInPlace}
 use Rattle.door.specs.InPlace.{ranWith}
 use mathlib.Core.Bool.{true, false}
-use lib.ListN.{length-replicate, length}
+use lib.ListN.{length}
 use Rattle.paper.proofs.Relation.{false≢true}
 use Rattle.meaning.specs.Configurations.{stateOf}
-use Rattle.choices.specs.Truth.{Marked}
+use Rattle.choices.specs.Judged.{Marked}
 use Rattle.moves.proofs.Running.{Running, running-start, running-spent, running-rest, running-full, running-moved}
 use Rattle.layout.specs.PlaceParts.{configured}
 use mathlib.Core.Path.{_≡_, ap, _∙_}
@@ -28,7 +28,7 @@ loop-holds : tie.Need-loop-holds Inv-loop μ-loop
 loop-holds c =
     let a = c .before .before .args in (
       running-start (a .l) (now (a .card)) (a .budget) (configured (a .m) (now (a .plan))) (c .before .before .pre),
-      rw (c .no-marks .ensures) (length-replicate 256 false),
+      rw (c .no-marks .ensures),
       λ e. absurd (false≢true e),
     )
 

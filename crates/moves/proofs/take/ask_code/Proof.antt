@@ -1,4 +1,3 @@
-use Rattle.meaning.specs.Card.{agentFor}
 use Rattle.meaning.specs.Configurations.{stateOf}
 use Rattle.moves.proofs.Taking.{asked-known, asked-unknown}
 use Rattle.layout.specs.PlaceParts.{configured}
@@ -12,7 +11,7 @@ use Rattle.moves.proofs.take.ask_code.Tie as tie
 returns : tie.Need-returns
 returns c =
     let a = c .before .before .args in
-    asked-unknown (agentFor (a .l) (now (a .card))) (stateOf (configured (a .m) (now (a .plan))) .mental) (a .code) (c .if1 .taken)
+    asked-unknown (a .l) (now (a .card)) (stateOf (configured (a .m) (now (a .plan))) .mental) (a .code) (c .if1 .taken)
 
 ask-requires : tie.Need-ask-requires
 ask-requires c κs = (c .before .before .pre, omega arith)
@@ -20,7 +19,7 @@ ask-requires c κs = (c .before .before .pre, omega arith)
 returns-2 : tie.Need-returns-2
 returns-2 c =
     let a = c .before .before .before .args in
-    c .ask .ensures ∙ asked-known (agentFor (a .l) (now (a .card))) (stateOf (configured (a .m) (now (a .plan))) .mental) (a .code) (omega arith)
+    c .ask .ensures ∙ asked-known (a .l) (now (a .card)) (stateOf (configured (a .m) (now (a .plan))) .mental) (a .code) (omega arith)
 
 pub ask-code-spec : {M : Type 1} → statement M
 ask-code-spec = tie.close (tie.spec returns (λ c. search needs) (λ c. search needs) ask-requires returns-2)

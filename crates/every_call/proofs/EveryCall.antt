@@ -1,0 +1,82 @@
+-- What the documents say of every public call, from what is proved of each.
+use mathlib.Core.Path.{_≡_, refl, _∙_, sym}
+use Prim.Native.Nat.{ℕ}
+use lib.ListN.{length, take, drop}
+use lib.Seq.{take-at}
+use Rattle.meaning.specs.declared.Answer.{Answer}
+use Rattle.meaning.specs.declared.Answer.the-variants.{Done}
+use Rattle.meaning.specs.Card.{Bytes}
+use Rattle.meaning.specs.Refusals.{andThen, firstGiven, cardAnswer}
+use Rattle.meaning.specs.Calls.{roomFor, over}
+use Rattle.meaning.proofs.Tables.{done≢refused, and-then-done}
+use Rattle.demands.proofs.Demands.{demand-1, determined}
+use Rattle.demands.proofs.Testing.{test-order}
+use Rattle.demands.proofs.AcceptedAgain.{again}
+use Rattle.demands.proofs.Striking.{struck}
+use Rattle.notation.specs.Lines.{Said}
+use Rattle.notation.specs.Built.{built}
+use Rattle.notation.specs.Reading.{textTable, saidAnswer, Reads, no-text, refused, done}
+use Rattle.notation.proofs.Laws.{read-law, read-determined}
+use Rattle.deliberation.proofs.Call.{refusal-law, determined-law}
+use Rattle.every_call.specs.EveryCall.{EveryCall, EveryOrder, EveryAnswer, EveryDone, EveryGoal}
+use Rattle.every_call.proofs.Listed.{deliberate-answer, name-answer, deliberate-among, name-among, print-among, text-among, deliberate-refused, name-refused, print-refused}
+use Rattle.every_call.proofs.Ordered.{name-card, name-shed, name-master, name-action, print-card, print-next, print-room, text-next, text-card, text-room}
+use Rattle.every_call.proofs.Deliberating.{deliberate-again, deliberate-struck}
+
+pub every-call : EveryCall
+every-call = record {
+  eight = demand-1;
+  deliberate-listed = λ b p c budget r w. rw (deliberate-answer b p c budget r w) (deliberate-among b p c);
+  name-listed = λ b q r w. rw (name-answer b q r w) (name-among b q);
+  text-listed = text-among;
+  print-listed = λ b n out left a count w. rw (w .answer) (print-among b n out);
+  deliberate-hands-back = deliberate-refused;
+  name-hands-back = name-refused;
+  text-leaves = λ t out left a n w. read-law t out a n left w .nothing-written;
+  print-leaves = print-refused;
+}
+
+pub every-order : EveryOrder
+every-order = record {
+  eight = test-order;
+  deliberate = refusal-law;
+  name-card = name-card;
+  print-card = print-card;
+  name-shed = name-shed;
+  name-master = name-master;
+  name-action = name-action;
+  text-first = λ t out left a n w. read-law t out a n left w .text-exactly .1;
+  text-next = text-next;
+  text-card = text-card;
+  text-room = text-room;
+  print-next = print-next;
+  print-room = print-room;
+}
+
+pub every-answer : EveryAnswer
+every-answer = record {
+  eight = determined;
+  deliberate = determined-law;
+  name = λ b q r r′ e e′. e ∙ sym e′;
+  text = read-determined;
+  print = λ b n out left left′ a a′ count count′ w w′. (w .answer ∙ sym (w′ .answer), w .counted ∙ sym (w′ .counted), w .leaves ∙ sym (w′ .leaves));
+}
+
+built-accepted : (s : Said) (out : Bytes) → saidAnswer s out ≡ Done → cardAnswer (built s) ≡ Done
+unfolding saidAnswer
+built-accepted s out e =
+    let (f, g) = and-then-done (firstGiven textTable s) (andThen (cardAnswer (built s)) (roomFor (built s) out)) e in
+    and-then-done (cardAnswer (built s)) (roomFor (built s) out) g .0
+
+text-accepted : (t out left : Bytes) (a : Answer) (n : ℕ) → Reads t out a n left → a ≡ Done → cardAnswer (take n left) ≡ Done
+text-accepted t out left a n (no-text w) h = absurd (done≢refused (sym h))
+text-accepted t out left a n (refused x e) h = absurd (done≢refused (sym h))
+text-accepted t out left a n (done {s} x e) h =
+    let z : take (length (built s)) (over (built s) out) ≡ built s = take-at (built s) (drop (length (built s)) out) (length (built s)) refl in
+    rw z (built-accepted s out e)
+
+pub every-done : EveryDone
+every-done = record { eight = again; deliberate = deliberate-again; text = text-accepted }
+
+pub every-goal : EveryGoal
+every-goal = record { eight = struck; deliberate = deliberate-struck }

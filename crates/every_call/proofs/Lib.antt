@@ -1,0 +1,5 @@
+pub mod Listed
+pub mod Ordered
+pub mod Deliberating
+pub mod EveryCall
+pub mod SinceLoad

@@ -1,0 +1,125 @@
+-- What the documents say of every public call, of all twelve: a record for each sentence, with what is said of the eight calls of
+-- document 01, and the same of deliberate, name, text and print, as far as it concerns each (proved in proofs/).
+use mathlib.Core.Path.{_≡_}
+use mathlib.Core.Bool.{true, false}
+use mathlib.Core.List.{List, [], _∷_, _++_, List·Memᴰ}
+use Prim.Native.Nat.{ℕ, _≤_}
+use lib.ListN.{take, replicate}
+use Rattle.meaning.specs.declared.Refusal.{Refusal}
+use Rattle.meaning.specs.declared.Answer.{Answer}
+use Rattle.meaning.specs.declared.Answer.the-variants.{Done, Refused}
+use Rattle.meaning.specs.declared.Configuration.{Configuration}
+use Rattle.meaning.specs.Card.{Bytes, layout}
+use Rattle.meaning.specs.Refusals.{answerNumber, firstGiven, cardAnswer}
+use Rattle.meaning.specs.Calls.{roomFor}
+use Rattle.demands.specs.Demands.{doneOrCard, Demand1, Determined, OnAccepted}
+use Rattle.demands.specs.TestOrder.{TestOrder}
+use Rattle.demands.specs.AcceptedAgain.{AcceptedAgain}
+use Rattle.demands.specs.Struck.{Unbelieved, Struck}
+use Rattle.notation.specs.Lines.{Said, Text}
+use Rattle.notation.specs.Built.{built}
+use Rattle.notation.specs.Reading.{Derived, textTable, Reads}
+use Rattle.notation.specs.Printing.{printTable, printed}
+use Rattle.notation.specs.Theorems.{ReadDetermined}
+use Rattle.deliberation.specs.declared.Deliberated.{Deliberated}
+use Rattle.deliberation.specs.Theorems.{Deliberates, RefusalLaw, DeterminedLaw}
+use Rattle.names.specs.declared.Named.{Named}
+use Rattle.names.specs.Sheets.{shedGood, masterGood}
+use Rattle.names.specs.Naming.{Question, refusedName}
+use Rattle.every_call.specs.Calls.{Names, Prints}
+
+-- 00, demand 1: "Every public call ends, on all bytes and numbers, with an answer listed in document 01. A refusal hands back the
+-- configuration it was given, or the empty one where it was given none, and writes to no lent buffer." That each call ends is
+-- proved with its code. What remains of a refused deliberation is no number, in 128 bytes that are all 0; for C those are lent, and
+-- are the one buffer that a refusal writes.
+pub record EveryCall : Type 0 where
+  pub eight : Demand1
+  -- 02, Wish 6: "19 …, after 9 and before 13."
+  pub deliberate-listed : (b p : Bytes) (c : Configuration) (budget : ℕ) (r : Deliberated) → Deliberates b p c budget r
+      → List·Memᴰ (answerNumber (r .answer)) (doneOrCard ++ (19 ∷ 13 ∷ []))
+  -- 02, Wish 8: "20 a sheet breaking these rules, the shed's before the master; then 21 unknown action."
+  pub name-listed : (b : Bytes) (q : Question) (r : Named) → Names b q r
+      → List·Memᴰ (answerNumber (r .answer)) (doneOrCard ++ (20 ∷ 21 ∷ []))
+  -- 02, Wish 2: "17 text, …; 18 nested too deep; 25 a number too large for its field, …; then 3 and 5 to 9 as for the card it would
+  -- build; 12."
+  pub text-listed : (t out left : Bytes) (a : Answer) (n : ℕ) → Reads t out a n left
+      → List·Memᴰ (answerNumber a) (0 ∷ 17 ∷ 18 ∷ 25 ∷ 3 ∷ 5 ∷ 6 ∷ 7 ∷ 8 ∷ 9 ∷ 12 ∷ [])
+  -- 02, Wish 2: "refuses: 7 no such node, 18, 25 over 256 nodes, 12."
+  pub print-listed : (b : Bytes) (n : ℕ) (out left : Bytes) (a : Answer) (count : ℕ) → Prints b n out a count left
+      → List·Memᴰ (answerNumber a) (doneOrCard ++ (18 ∷ 25 ∷ 12 ∷ []))
+  -- 00, demand 1: "A refusal hands back the configuration it was given"; 01, "Numbers the guide may answer": "Any count in a
+  -- refusal is 0."; 02, Wish 6: "none when refused": the numbers that are handed out are all 0.
+  pub deliberate-hands-back : (b p : Bytes) (c : Configuration) (budget : ℕ) (r : Deliberated) → Deliberates b p c budget r
+      → (q : Refusal) → r .answer ≡ Refused q
+      → (r .configuration ≡ c) × ((r .count ≡ 0) × ((r .remaining .length ≡ 0) × (r .remaining .numbers ≡ replicate 128 0)))
+  -- 02, Wish 8: "Refusals, with an empty part of the master"
+  pub name-hands-back : (b : Bytes) (q : Question) (r : Named) → Names b q r → (x : Refusal) → r .answer ≡ Refused x
+      → r ≡ refusedName (Refused x)
+  -- 00, demand 1: "and writes to no lent buffer"; 01, "Numbers the guide may answer": "Any count in a refusal is 0."
+  pub text-leaves : (t out left : Bytes) (a : Answer) (n : ℕ) → Reads t out a n left → (q : Refusal) → a ≡ Refused q
+      → (n ≡ 0) × (left ≡ out)
+  pub print-leaves : (b : Bytes) (n : ℕ) (out left : Bytes) (a : Answer) (count : ℕ) → Prints b n out a count left
+      → (q : Refusal) → a ≡ Refused q → (count ≡ 0) × (left ≡ out)
+
+-- 01, "Numbers the guide may answer": "They are tested in the table's order, the card first with 1 to 9, then a place with 1, 2, 3,
+-- 4, 8, 9 or a configuration with 13; then the rest."
+pub record EveryOrder : Type 0 where
+  pub eight : TestOrder
+  -- 02, Wish 6: "19 a program breaking these rules or naming an unknown rule or node, after 9 and before 13."
+  pub deliberate : RefusalLaw
+  -- 01, "Numbers the guide may answer": "the card first with 1 to 9", of the two others that are given one
+  pub name-card : (b : Bytes) (q : Question) (r : Named) → Names b q r → (x : Refusal) → cardAnswer b ≡ Refused x → r .answer ≡ Refused x
+  pub print-card : (b : Bytes) (n : ℕ) (out left : Bytes) (a : Answer) (count : ℕ) → Prints b n out a count left
+      → (q : Refusal) → cardAnswer b ≡ Refused q → a ≡ Refused q
+  -- 02, Wish 8: "20 a sheet breaking these rules, the shed's before the master"
+  pub name-shed : (b : Bytes) (q : Question) (r : Named) → Names b q r → cardAnswer b ≡ Done
+      → shedGood (layout b .actions) (q .shed) ≡ false → r .answer ≡ Refused (Refusal.Sheet 1)
+  pub name-master : (b : Bytes) (q : Question) (r : Named) → Names b q r → cardAnswer b ≡ Done
+      → shedGood (layout b .actions) (q .shed) ≡ true → masterGood (layout b .actions) (q .master) ≡ false
+      → r .answer ≡ Refused (Refusal.Sheet 0)
+  -- 02, Wish 8: "then 21 unknown action."
+  pub name-action : (b : Bytes) (q : Question) (r : Named) → Names b q r → cardAnswer b ≡ Done
+      → shedGood (layout b .actions) (q .shed) ≡ true → masterGood (layout b .actions) (q .master) ≡ true
+      → layout b .actions ≤ q .action → r .answer ≡ Refused Refusal.NoAction
+  -- 02, Wish 2: "Refusals, in this order: 17 text"
+  pub text-first : (t out left : Bytes) (a : Answer) (n : ℕ) → Reads t out a n left → (Derived t → ⊥)
+      → (p : ℕ) × (a ≡ Refused (Refusal.Text p))
+  -- 02, Wish 2: "18 nested too deep; 25 a number too large for its field": in the order of these rows
+  pub text-next : (t out left : Bytes) (a : Answer) (n : ℕ) → Reads t out a n left → (s : Said) → Text t s
+      → (q : Refusal) → firstGiven textTable s ≡ Refused q → a ≡ Refused q
+  -- 02, Wish 2: "then 3 and 5 to 9 as for the card it would build; 12."
+  pub text-card : (t out left : Bytes) (a : Answer) (n : ℕ) → Reads t out a n left → (s : Said) → Text t s
+      → firstGiven textTable s ≡ Done → (q : Refusal) → cardAnswer (built s) ≡ Refused q → a ≡ Refused q
+  pub text-room : (t out left : Bytes) (a : Answer) (n : ℕ) → Reads t out a n left → (s : Said) → Text t s
+      → firstGiven textTable s ≡ Done → cardAnswer (built s) ≡ Done → a ≡ roomFor (built s) out
+  -- 02, Wish 2: "refuses: 7 no such node, 18, 25 over 256 nodes": in the order of these rows; then "12"
+  pub print-next : (b : Bytes) (n : ℕ) (out left : Bytes) (a : Answer) (count : ℕ) → Prints b n out a count left
+      → cardAnswer b ≡ Done → (q : Refusal) → firstGiven (printTable (layout b) b) n ≡ Refused q → a ≡ Refused q
+  pub print-room : (b : Bytes) (n : ℕ) (out left : Bytes) (a : Answer) (count : ℕ) → Prints b n out a count left
+      → cardAnswer b ≡ Done → firstGiven (printTable (layout b) b) n ≡ Done → a ≡ roomFor (printed b n) out
+
+-- 01, "What the contracts settle": "For each public function and each input, refusals too, the contract determines the answer and
+-- every byte and number in lent buffers afterwards; equality of any two conforming answers is proved".
+pub record EveryAnswer : Type 0 where
+  pub eight : Determined
+  pub deliberate : DeterminedLaw
+  pub name : (b : Bytes) (q : Question) (r r′ : Named) → Names b q r → Names b q r′ → r ≡ r′
+  pub text : ReadDetermined
+  pub print : (b : Bytes) (n : ℕ) (out left left′ : Bytes) (a a′ : Answer) (count count′ : ℕ)
+      → Prints b n out a count left → Prints b n out a′ count′ left′ → (a ≡ a′) × (count ≡ count′) × (left ≡ left′)
+
+-- 00, demand 2: "On an accepted card and configuration": what a call answers when it is done, the same card accepts, so that no
+-- call after it answers 13; and the card that a text stands for is accepted.
+pub record EveryDone : Type 0 where
+  pub eight : AcceptedAgain
+  pub deliberate : (b p : Bytes) (c : Configuration) (budget : ℕ) (r : Deliberated) → Deliberates b p c budget r → r .answer ≡ Done
+      → OnAccepted b (r .configuration)
+  -- 02, Wish 2: "builds an edition 1 card": as many of the bytes as were told
+  pub text : (t out left : Bytes) (a : Answer) (n : ℕ) → Reads t out a n left → a ≡ Done → cardAnswer (take n left) ≡ Done
+
+-- 02, Wish 5: "From now on goals are struck by the beliefs": from a configuration where no goal is believed, no call reaches one
+-- where one is.
+pub record EveryGoal : Type 0 where
+  pub eight : Struck
+  pub deliberate : (b p : Bytes) (c : Configuration) (budget : ℕ) (r : Deliberated) → Deliberates b p c budget r → Unbelieved c
+      → Unbelieved (r .configuration)
