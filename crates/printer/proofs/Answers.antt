@@ -12,7 +12,8 @@ use Rattle.meaning.specs.declared.Answer.{Answer}
 use Rattle.meaning.specs.declared.Answer.the-variants.{Done, Refused}
 use Rattle.meaning.specs.declared.Layout.{Layout}
 use Rattle.meaning.specs.declared.Checked.{Checked}
-use Rattle.meaning.specs.Card.{Bytes, layout}
+use Rattle.meaning.specs.Trees.{Tree}
+use Rattle.meaning.specs.Card.{Bytes, layout, treeAt}
 use Rattle.meaning.specs.Refusals.{Row, _given-when_, firstGiven, andThen}
 use Rattle.meaning.specs.Calls.{over, roomFor, checks, countBy, leavesBy}
 use Rattle.meaning.proofs.Tables.{given, not-given, and-then-done}
@@ -20,9 +21,8 @@ use Rattle.meaning.proofs.Calls.{good-judged, refused-judged}
 use Rattle.card.specs.Rows.{rowAnswer, rowsFrom}
 use Rattle.card.specs.GoodCard.{GoodCard}
 use Rattle.card.proofs.Rows.{row-done, no-row}
-use Rattle.notation.specs.Conditions.{Tree}
 use Rattle.notation.specs.Built.{size}
-use Rattle.notation.specs.Printing.{treeAt, depthOf, printTable, printed, printAnswer, printCount, printLeaves}
+use Rattle.notation.specs.Printing.{depthOf, printTable, printed, printAnswer, printCount, printLeaves}
 use Rattle.printer.specs.Measures.{Right}
 use Rattle.printer.specs.Answers.{nodeText, nodeAnswer, NodePrinted}
 use Rattle.printer.proofs.Writing.{short}
