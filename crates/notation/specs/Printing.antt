@@ -1,4 +1,5 @@
 -- What printing a condition answers (02, Wish 2; docs/TEXT.md, "The printer"), and what the lent buffer then holds.
+use mathlib.Core.Path.{_≡_}
 use mathlib.Core.Bool.{Bool, not}
 use mathlib.Core.List.{List, [], _∷_, _++_}
 use Prim.Native.Nat.{ℕ, zero, suc, max, _+_, _/_, _%_}
@@ -91,3 +92,10 @@ printCount b n out = countBy (printAnswer b n out) (printed b n)
 
 unfoldable pub printLeaves : Bytes → ℕ → Bytes → Bytes
 printLeaves b n out = leavesBy (printAnswer b n out) (printed b n) out
+
+-- 02, Wish 2: "a printer writes any condition": node n of the card b, into the lent buffer out; the answer, the count, and what
+-- the buffer then holds.
+pub record Prints (b : Bytes) (n : ℕ) (out : Bytes) (a : Answer) (count : ℕ) (left : Bytes) : Type 0 where
+  pub answer : a ≡ printAnswer b n out
+  pub counted : count ≡ printCount b n out
+  pub leaves : left ≡ printLeaves b n out
