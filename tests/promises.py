@@ -27,7 +27,7 @@ READING = (
     ("the agent and its transitions", ("paper/specs/Atoms.antt", "paper/specs/Language.antt", "paper/specs/Transitions.antt")),
     ("the transitions as a function", ("paper/specs/Next.antt",)),
     ("the order, a run, the grade", ("runs/src/lib.rt", "runs/specs/Limits.antt", "runs/specs/Order.antt", "runs/specs/Step.antt", "runs/specs/Run.antt", "runs/specs/Weight.antt")),
-    ("a card's bytes, a configuration, a place", ("meaning/src/lib.rt", "meaning/specs/Kinds.antt", "meaning/specs/Sizes.antt", "meaning/specs/Card.antt", "meaning/specs/Configurations.antt",
+    ("a card's bytes, a configuration, a place", ("meaning/src/lib.rt", "meaning/specs/Kinds.antt", "meaning/specs/Trees.antt", "meaning/specs/Sizes.antt", "meaning/specs/Card.antt", "meaning/specs/Configurations.antt",
                                                   "meaning/specs/Place.antt")),
     ("the refusals and the eight answers", ("meaning/specs/Refusals.antt", "meaning/specs/Why.antt", "meaning/specs/Calls.antt",
                                             "meaning/specs/Numbers.antt")),
@@ -45,7 +45,7 @@ READING = (
     ("cards as text", ("notation/specs/Words.antt", "notation/specs/Conditions.antt", "notation/specs/Lines.antt", "meaning/specs/Assembled.antt",
                        "notation/specs/Built.antt", "notation/specs/Reading.antt", "notation/specs/Printing.antt")),
     ("what is proved of texts", ("notation/specs/Completed.antt", "notation/specs/Theorems.antt", "notation/specs/Meant.antt")),
-    ("every call, and the count since load", ("every_call/specs/Calls.antt", "every_call/specs/EveryCall.antt", "every_call/specs/SinceLoad.antt")),
+    ("every call, and the count since load", ("every_call/specs/EveryCall.antt", "every_call/specs/SinceLoad.antt")),
     ("the cases", ("paper/specs/Cases.antt", "meaning/specs/Stripe.antt", "meaning/specs/Cases.antt", "notation/specs/Cases.antt",
                    "deliberation/specs/Cases.antt")),
 )

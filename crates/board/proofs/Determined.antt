@@ -32,7 +32,13 @@ determined =
             m,
             e .2 .1 ∙ ap answerCarried a ∙ sym (f .2 .1),
           );
-      print = λ card node text left left′ n n′ k k′ e f. (same (e .0) (f .0), same (e .2) (f .2), same (e .1) (f .1));
+      print = λ card node text left left′ n n′ k k′ e f.
+          let p = e .1 in
+          let q = f .1 in (
+            e .2 ∙ ap answerNumber (same (p .answer) (q .answer)) ∙ sym (f .2),
+            same (p .leaves) (q .leaves),
+            same (p .counted) (q .counted),
+          );
       name = λ card asked n n′ s s′ a a′ l l′ e f. (same (e .0) (f .0), same (e .1) (f .1), same (e .2) (f .2), same (e .3) (f .3));
       parts = λ b b′ g g′ p p′ n n′ f f′ m m′ e. (
         ap (λ (c : Configuration). c .mind .beliefs) e,

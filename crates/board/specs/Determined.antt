@@ -11,7 +11,7 @@ use Rattle.meaning.specs.Calls.{checks, loads, grades, lists, listLeaves, takes
 use Rattle.meaning.specs.Refusals.{answerNumber}
 use Rattle.meaning.specs.Numbers.{checkedNumber}
 use Rattle.notation.specs.Reading.{Reads}
-use Rattle.notation.specs.Printing.{printAnswer, printCount, printLeaves}
+use Rattle.notation.specs.Printing as Printing
 use Rattle.deliberation.specs.Deliberate.{deliberates}
 use Rattle.names.specs.Naming.{Question, names}
 use Rattle.board.specs.Header.{whole, replied, took, gradedAs, wrote, readAs, ranTo, deliberatedTo, namedAs}
@@ -68,7 +68,7 @@ ReadsText text card n left count place = (x : Answer) × Reads text card x count
 -- lent text.
 abbrev pub Prints : Bytes → ℕ → Bytes → ℕ → Bytes → ℕ → Type 0
 Prints card node text n left count =
-    (n ≡ answerNumber (printAnswer card node text)) × (count ≡ printCount card node text) × (left ≡ printLeaves card node text)
+    (x : Answer) × Printing.Prints card node text x count left × (n ≡ answerNumber x)
 
 -- 02, Wish 8: "hands back the part of the shed's sheet that holds its name, or the part of the master sheet": asked of both sheets
 -- for an action.

@@ -7,18 +7,19 @@ use native.Mathlib.Omega.{arith}
 use lib.ListN.{getD}
 use Rattle.paper.specs.Next.{if}
 use Rattle.paper.specs.Atoms.{Atoms}
-use Rattle.paper.specs.Language.{Letter, 𝐁, 𝐆, Query, ⊤, Config}
+use Rattle.paper.specs.Language.{Letter, 𝐁, 𝐆, Config}
 use Rattle.paper.specs.Transitions.{_⊨_}
 use Rattle.meaning.specs.declared.Layout.{Layout}
 use Rattle.meaning.specs.declared.Node.{Node}
 use Rattle.meaning.specs.Kinds.{NodeKind, nodeKind}
-use Rattle.meaning.specs.Card.{Bytes, layout, nodeAt, queryOf, conditions}
+use Rattle.meaning.specs.Trees.{Tree, treeOf, queryOf}
+use Rattle.meaning.specs.Card.{Bytes, layout, nodeAt, treeAt}
 use Rattle.meaning.specs.Refusals.{nodesGood, containsOf, containing, other}
 use Rattle.meaning.specs.Why.{settledBy, settler}
 use Rattle.meaning.proofs.Accepted.{accepted}
 use Rattle.meaning.proofs.NodeKinds.{is-true, is-belief, is-goal, is-not, is-and, is-or, Known, leaf, inner, known-kind, leaf-low, leaf-kind, inner-kind}
 use Rattle.meaning.proofs.Nodes.{node-rule, made-of, made-from, contains-at, condition-at}
-use Rattle.meaning.proofs.Settling.{settled-leaf, settler-at}
+use Rattle.meaning.proofs.Settling.{settled-leaf, tree-truth, settler-at}
 use Rattle.meaning.proofs.AtomKinds.{or-none, first-free, second-free}
 use Rattle.paper.proofs.Relation.{false≢true}
 use Rattle.card.specs.GoodCard.{GoodCondition}
@@ -99,10 +100,10 @@ module _ (L : Letter) (l : Layout) (b : Bytes) (good : nodesGood l b ≡ true) (
 -- ---- what is kept of a node
 
 -- one node: its truth is that of its query, if this holds of its children and no atom is of the other kind
-node-truth : (L : Letter) (c : Config) {k : ℕ} {κ : NodeKind} → Known k κ → (a b : ℕ) (t : ℕ → Bool) (q : ℕ → Query L) (contains : ℕ → Bool)
+node-truth : (L : Letter) (c : Config) {k : ℕ} {κ : NodeKind} → Known k κ → (a b : ℕ) (t : ℕ → Bool) (tree : ℕ → Tree) (contains : ℕ → Bool)
     → containsOf (other L) κ a b contains ≡ false
-    → (3 ≤ k → contains a ≡ false → t a ≡ (c ⊨ q a)) → (4 ≤ k → contains b ≡ false → t b ≡ (c ⊨ q b))
-    → truthOf κ a b (c .σ) (c .γ) t ≡ (c ⊨ queryOf L κ a b q)
+    → (3 ≤ k → contains a ≡ false → t a ≡ (c ⊨ queryOf L (tree a))) → (4 ≤ k → contains b ≡ false → t b ≡ (c ⊨ queryOf L (tree b)))
+    → truthOf κ a b (c .σ) (c .γ) t ≡ (c ⊨ queryOf L (treeOf κ a b tree))
 unfolding _⊨_
 node-truth L c (leaf is-true) a b t q n e f s = refl
 node-truth 𝐁 c (leaf is-belief) a b t q n e f s = refl
@@ -160,7 +161,8 @@ module _ (L : Letter) (l : Layout) (b : Bytes) (good : nodesGood l b ≡ true) (
       (λ q. (let z = r .first q in keeps-below m (x .a) (omega arith) (omega arith) (first-free (other L) (inner-kind (x .kind) q (r .kinds)) (x .a) (x .b) contains free)))
       (λ q. (let z = r .second q in keeps-below m (x .b) (omega arith) (omega arith) (second-free (other L) (inner-kind (x .kind) (omega arith) (r .kinds)) (x .a) (x .b) contains q free)))
       ∙ ap₂ (λ v i. (v, i))
-      (node-truth L c known (x .a) (x .b) (valueOf L l b c) (λ j. getD (conditions L l b) j ⊤) contains free (λ _ _. refl) (λ _ _. refl) ∙ ap (λ φ. c ⊨ φ) (sym (condition-at l b good n k L)))
+      (node-truth L c known (x .a) (x .b) (valueOf L l b c) (treeAt l b) contains free (λ _ _. sym (tree-truth L l b good c (x .a))) (λ _ _. sym (tree-truth L l b good c (x .b)))
+      ∙ ap (λ φ. c ⊨ φ) (sym (condition-at l b good n k L)))
       (sym (settler-at L l b good c n k))
 
   pub one-pass-of : (n : ℕ) → GoodCondition l b (other L) n → OnePass L l b c n

@@ -9,9 +9,10 @@ use native.Mathlib.Omega.{arith}
 use borrow.Author.Tests.{eq-eqb, eqb-true}
 use lib.ListN.{length, drop, getD, length-drop}
 use Rattle.paper.specs.Next.{if}
+use Rattle.meaning.specs.Trees.{Tree, and, or}
 use Rattle.meaning.specs.Card.{Bytes}
 use Rattle.notation.specs.Built.{node}
-use Rattle.notation.specs.Conditions.{Tree, and, or, Condition, joined}
+use Rattle.notation.specs.Conditions.{Condition, joined}
 use Rattle.notation.specs.Values.{Read, nested, got, then, more, several, unitOf, andListOf}
 use Rattle.notation.specs.Making.{addedTo, withTree, lastNode}
 use Rattle.conditions.specs.declared.read.Reading.{Reading}

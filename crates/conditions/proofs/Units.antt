@@ -10,9 +10,10 @@ use borrow.Author.Tests.{ne-eqb, eqb-true}
 use lib.Dec.{eqb, leb}
 use lib.ListN.{length, drop, getD}
 use Rattle.paper.specs.Next.{if}
+use Rattle.meaning.specs.Trees.{true, believes, goal}
 use Rattle.meaning.specs.Card.{Bytes}
 use Rattle.notation.specs.Built.{node}
-use Rattle.notation.specs.Conditions.{true, believes, goal, Condition, plain, negated, bracketed}
+use Rattle.notation.specs.Conditions.{Condition, plain, negated, bracketed}
 use Rattle.notation.specs.Values.{Read, nested, got, then, numberValue, digitsRest, inNot, inBrackets, orListOf, unitBy, unitOf}
 use Rattle.notation.specs.Making.{when, addedTo, withTree, lastNode}
 use Rattle.conditions.specs.declared.read.Reading.{Reading}

@@ -65,7 +65,7 @@ module _ (A : Agent) where
       go false h = refl
 
   module _ (c : Config) where
-    false-has : {k : Choice} {L : Letter} → FalseCondition A c k L → Has A k
+    pub false-has : {k : Choice} {L : Letter} → FalseCondition A c k L → Has A k
     false-has (belief e p f) = selection e
     false-has (goal e p h f) = selection e
     false-has (precondition π e p f) = specification e
@@ -119,13 +119,13 @@ module _ (A : Agent) where
 -- ---- the node is one alone
 
 module _ (b : Bytes) where
-  root : Choice → Letter → ℕ
+  unfoldable pub root : Choice → Letter → ℕ
   root (select n) 𝐁 = selectionAt (layout b) b n .belief
   root (select n) 𝐆 = selectionAt (layout b) b n .goal
   root (act n) L = specificationAt (layout b) b n .node
   root (revise n) L = revisionAt (layout b) b n .node
 
-  rooted : {k : Choice} {L : Letter} {x : ℕ} → ConditionOf (layout b) b k L x → x ≡ root k L
+  pub rooted : {k : Choice} {L : Letter} {x : ℕ} → ConditionOf (layout b) b k L x → x ≡ root k L
   unfolding root
   rooted Shown.belief = refl
   rooted Shown.goal = refl
@@ -169,7 +169,7 @@ module _ (b : Bytes) (c : Configuration) (on : OnAccepted b c) (n : ℕ) where
           let m = stateOf c .mental in
           let k≡ : f .chosen ≡ k = same (f .coded) (false-has (agent b) m (f .is-false)) p (unfit-has (agent b) u) in
           false≢true (sym (unfit-front (agent b) u) ∙ (rw k≡ at (false-front (agent b) m (f .is-false))))
-  by-reason (is-false {node} f s) = record {
+  by-reason (is-false {node} f) = record {
     no-rule = (λ e. absurd (differ _ _ (λ z. omega arith) e), λ x. absurd (x (f .chosen) (f .coded) (false-has (agent b) _ (f .is-false))));
     front = (λ e. absurd (differ _ _ (λ z. omega arith) e), λ (k, (p, u)). absurd (never k p u));
     condition = λ node′. (λ e. (let z : node ≡ node′ = ap answerCarried e in rw z at f), λ g. ap (λ x. Refused (Refusal.Condition x)) (one g));

@@ -3,7 +3,7 @@ use mathlib.Core.Path.{_≡_, refl, ap, sym, _∙_}
 use mathlib.Core.Bool.{Bool, true, false, _&&_}
 use mathlib.Core.List.{[], _∷_, _++_}
 use mathlib.Core.Option.{Option, none, some}
-use Prim.Native.Nat.{ℕ, _<_, _≤_}
+use Prim.Native.Nat.{ℕ, _≤_}
 use native.Mathlib.Omega.{arith}
 use borrow.Author.Tests.{ltb-true, ltb-false, eqb-true, eqb-false, eq-eqb}
 use lib.Dec.{ltb}
@@ -11,7 +11,7 @@ use lib.ListN.{length, drop}
 use Rattle.paper.specs.Language.{Plan, Letter, 𝐁, 𝐆, Agent, Config, Selection, Specification, Revision}
 use Rattle.paper.specs.Transitions.{_⊨_, Choice, select, act, revise, Entry, Step}
 use Rattle.paper.specs.Next.{isEmpty, startsWith, isPrefix, canSelect, selected, canAct, acted, canRevise, revised, outcome, next, isSome, enabled}
-use Rattle.paper.proofs.Relation.{both, false≢true, none≢some, some-inj, prefix-split, outcome-yes, enabled-exactly}
+use Rattle.paper.proofs.Relation.{false≢true, none≢some, some-inj, prefix-split, outcome-yes, enabled-exactly}
 use Rattle.runs.specs.Order.{code, number}
 use Rattle.meaning.specs.declared.Refusal.{Refusal}
 use Rattle.meaning.specs.declared.Layout.{Layout}
@@ -22,17 +22,15 @@ use Rattle.meaning.specs.declared.Configuration.{Configuration}
 use Rattle.meaning.specs.Card.{Bytes, layout, conditions, plan, specificationAt, selectionAt, revisionAt, specificationOf, selectionOf, revisionOf, agentOf, agentFor, agent}
 use Rattle.meaning.specs.Card as Card
 use Rattle.meaning.specs.Configurations.{stateOf}
-use Rattle.meaning.specs.Refusals.{containing, conditionGood, specificationGood, selectionGood, revisionGood}
 use Rattle.meaning.specs.Why.{settler, falseOf, frontFirst, ruleFirst, why, whyClosed}
 use Rattle.meaning.specs.Calls.{choice}
-use Rattle.meaning.proofs.Accepted.{accepted, length-entries}
-use Rattle.meaning.proofs.Entries.{GoodEntries, good-entries}
+use Rattle.meaning.proofs.Accepted.{length-entries}
 use Rattle.meaning.proofs.AgentEntries.{selectionFor, specificationFor, revisionFor, selection-entry, specification-entry, revision-entry}
 use Rattle.demands.specs.Demands.{OnAccepted, ChosenMove}
 use Rattle.demands.specs.Shown.{ConditionOf, Shown}
 use Rattle.demands.specs.Shown as Shown
 use Rattle.demands.specs.Closed.{Has, UnfitFront, is-empty, not-empty, other-first-action, other-head, FalseCondition, belief, goal, precondition, condition, FalseAt}
-use Rattle.demands.proofs.Codes.{card-accepted, coded, rules, has-lt, has-read}
+use Rattle.demands.proofs.Codes.{coded, rules, has-lt, has-read}
 
 -- ---- fronts that do not fit, and fronts that do
 
@@ -80,7 +78,7 @@ module _ (A : Agent) (c : Config) (n : ℕ) where
 pub data Reason (b : Bytes) (c : Configuration) (n : ℕ) : Refusal → Type 0 where
   none-such : ((k : Choice) → code k ≡ n → Has (agent b) k → ⊥) → Reason b c n Refusal.NoRule
   unfit : (k : Choice) → code k ≡ n → UnfitFront (agent b) (stateOf c .mental .π) k → Reason b c n Refusal.Front
-  is-false : {node : ℕ} → FalseAt b c n node → Shown b c n node → Reason b c n (Refusal.Condition node)
+  is-false : {node : ℕ} → FalseAt b c n node → Reason b c n (Refusal.Condition node)
 
 module _ (b : Bytes) (c : Configuration) (on : OnAccepted b c) (n : ℕ) where
   abbrev l : Layout
@@ -95,12 +93,6 @@ module _ (b : Bytes) (c : Configuration) (on : OnAccepted b c) (n : ℕ) where
   abbrev NoMove : Choice → Type 0
   NoMove k = (c′ : Config) → Step (agent b) m k c′ → ⊥
 
-  good : GoodEntries l b
-  good = good-entries l b (accepted b (card-accepted b c on) .rules)
-
-  known : (L : ℕ) (x : ℕ) → conditionGood l (containing L l b) x ≡ true → x < l .nodes .count
-  known L x e = ltb-true _ _ (both (ltb x (l .nodes .count)) _ e .0)
-
   -- the agent has none under the number of the code's choice
   absent : (k : Choice) → choice n ≡ some k → rules (agent b) k ≤ number k → Reason b c n Refusal.NoRule
   absent k h past =
@@ -109,11 +101,9 @@ module _ (b : Bytes) (c : Configuration) (on : OnAccepted b c) (n : ℕ) where
       let lt = has-lt (rw (sym same) at t) in
       omega arith)
 
-  shows : (k : Choice) → choice n ≡ some k → (L : Letter) → FalseCondition (agent b) m k L → (x : ℕ) → ConditionOf l b k L x → x < l .nodes .count
-      → holds L x ≡ false → Reason b c n (Refusal.Condition (settler L l b m x))
-  shows k h L f x o i e =
-      is-false (record { chosen = k; coded = coded n k h; letter = L; is-false = f; root = x; condition-of = o; settled = refl })
-      (record { chosen = k; coded = h; letter = L; root = x; condition-of = o; known = i; is-false = e; settled = refl })
+  shows : (k : Choice) → choice n ≡ some k → (L : Letter) → FalseCondition (agent b) m k L → (x : ℕ) → ConditionOf l b k L x
+      → Reason b c n (Refusal.Condition (settler L l b m x))
+  shows k h L f x o = is-false (record { chosen = k; coded = coded n k h; letter = L; is-false = f; root = x; condition-of = o; settled = refl })
 
   module _ (i : ℕ) where
     abbrev entry : SelectionEntry
@@ -126,69 +116,53 @@ module _ (b : Bytes) (c : Configuration) (on : OnAccepted b c) (n : ℕ) where
     revising = revisionAt l b i
 
     of-selection : choice n ≡ some (select i) → NoMove (select i) → Reason b c n (why l b m (select i))
-    unfolding why agent agentFor agentOf canSelect selectionOf selectionGood number
+    unfolding why agent agentFor agentOf canSelect selectionOf number
     of-selection h none-there =
         go (ltb i (l .selections .count)) refl (isEmpty (m .π)) refl (holds 𝐁 (entry .belief)) refl (holds 𝐆 (entry .goal)) refl
       where
         there : ltb i (l .selections .count) ≡ true → Entry (agent b .PS) i (selectionFor l b i)
         there t = selection-entry l b i (ltb-true _ _ t)
 
-        known-belief : ltb i (l .selections .count) ≡ true → entry .belief < l .nodes .count
-        known-belief t = known 2 (entry .belief) (both (conditionGood l (containing 2 l b) (entry .belief)) _ (good .selection i (ltb-true _ _ t)) .0)
-
-        known-goal : ltb i (l .selections .count) ≡ true → entry .goal < l .nodes .count
-        known-goal t =
-            let e = both (conditionGood l (containing 2 l b) (entry .belief)) _ (good .selection i (ltb-true _ _ t)) .1 in
-            known 1 (entry .goal) (both (conditionGood l (containing 1 l b) (entry .goal)) _ e .0)
-
         go : (t : Bool) → ltb i (l .selections .count) ≡ t → (f : Bool) → isEmpty (m .π) ≡ f → (u : Bool) → holds 𝐁 (entry .belief) ≡ u → (v : Bool) → holds 𝐆 (entry .goal) ≡ v
             → Reason b c n (ruleFirst t (frontFirst f (falseOf u (settler 𝐁 l b m (entry .belief)) (settler 𝐆 l b m (entry .goal)))))
         go false et f ef u eu v ev = absent (select i) h (rw (length-entries _ (l .selections)) (ltb-false _ _ et))
         go true et false ef u eu v ev = unfit (select i) (coded n (select i) h) (unfit-selection (agent b) i (selectionFor l b i) (m .π) (there et) ef)
-        go true et true ef false eu v ev = shows (select i) h 𝐁 (belief (there et) (empty-plan (m .π) ef) eu) (entry .belief) Shown.belief (known-belief et) eu
-        go true et true ef true eu false ev = shows (select i) h 𝐆 (goal (there et) (empty-plan (m .π) ef) eu ev) (entry .goal) Shown.goal (known-goal et) ev
+        go true et true ef false eu v ev = shows (select i) h 𝐁 (belief (there et) (empty-plan (m .π) ef) eu) (entry .belief) Shown.belief
+        go true et true ef true eu false ev = shows (select i) h 𝐆 (goal (there et) (empty-plan (m .π) ef) eu ev) (entry .goal) Shown.goal
         go true et true ef true eu true ev =
             let (c′, s) = selects (agent b) m i (selectionFor l b i) (there et) (λ j. ef j && (eu j && ev j)) in absurd (none-there c′ s)
 
     of-specification : choice n ≡ some (act i) → NoMove (act i) → Reason b c n (why l b m (act i))
-    unfolding why agent agentFor agentOf canAct specificationOf specificationGood number
+    unfolding why agent agentFor agentOf canAct specificationOf number
     of-specification h none-there =
         go (ltb i (l .specifications .count)) refl (startsWith (specified .action) (m .π)) refl (holds 𝐁 (specified .node)) refl
       where
         there : ltb i (l .specifications .count) ≡ true → Entry (agent b .AS) i (specificationFor l b i)
         there t = specification-entry l b i (ltb-true _ _ t)
 
-        known-node : ltb i (l .specifications .count) ≡ true → specified .node < l .nodes .count
-        known-node t =
-            let q = both (ltb (specified .action) (l .actions)) _ (good .specification i (ltb-true _ _ t)) .1 in
-            known 2 (specified .node) (both (conditionGood l (containing 2 l b) (specified .node)) _ q .0)
-
         go : (t : Bool) → ltb i (l .specifications .count) ≡ t → (f : Bool) → startsWith (specified .action) (m .π) ≡ f → (u : Bool) → holds 𝐁 (specified .node) ≡ u
             → Reason b c n (ruleFirst t (frontFirst f (Refusal.Condition (settler 𝐁 l b m (specified .node)))))
         go false et f ef u eu = absent (act i) h (rw (length-entries _ (l .specifications)) (ltb-false _ _ et))
         go true et false ef u eu = unfit (act i) (coded n (act i) h) (unfit-specification (agent b) i (specificationFor l b i) (m .π) (there et) ef)
         go true et true ef false eu =
-            shows (act i) h 𝐁 (precondition (drop 1 (m .π)) (there et) (first-action (specified .action) (m .π) ef) eu) (specified .node) Shown.precondition (known-node et) eu
+            shows (act i) h 𝐁 (precondition (drop 1 (m .π)) (there et) (first-action (specified .action) (m .π) ef) eu) (specified .node) Shown.precondition
         go true et true ef true eu =
             let (c′, s) = acts (agent b) m i (specificationFor l b i) (there et) (λ j. ef j && eu j) in absurd (none-there c′ s)
 
     of-revision : choice n ≡ some (revise i) → NoMove (revise i) → Reason b c n (why l b m (revise i))
-    unfolding why agent agentFor agentOf canRevise revisionOf revisionGood number
+    unfolding why agent agentFor agentOf canRevise revisionOf number
     of-revision h none-there =
         go (ltb i (l .revisions .count)) refl (isPrefix (plan l b (revising .head)) (m .π)) refl (holds 𝐁 (revising .node)) refl
       where
         there : ltb i (l .revisions .count) ≡ true → Entry (agent b .PR) i (revisionFor l b i)
         there t = revision-entry l b i (ltb-true _ _ t)
 
-        known-node : ltb i (l .revisions .count) ≡ true → revising .node < l .nodes .count
-        known-node t = known 2 (revising .node) (both (conditionGood l (containing 2 l b) (revising .node)) _ (good .revision i (ltb-true _ _ t)) .0)
-
         go : (t : Bool) → ltb i (l .revisions .count) ≡ t → (f : Bool) → isPrefix (plan l b (revising .head)) (m .π) ≡ f → (u : Bool) → holds 𝐁 (revising .node) ≡ u
             → Reason b c n (ruleFirst t (frontFirst f (Refusal.Condition (settler 𝐁 l b m (revising .node)))))
         go false et f ef u eu = absent (revise i) h (rw (length-entries _ (l .revisions)) (ltb-false _ _ et))
         go true et false ef u eu = unfit (revise i) (coded n (revise i) h) (unfit-revision (agent b) i (revisionFor l b i) (m .π) (there et) ef)
         go true et true ef false eu =
-            shows (revise i) h 𝐁 (condition (drop (length (plan l b (revising .head))) (m .π)) (there et) (prefix-split (plan l b (revising .head)) (m .π) ef) eu) (revising .node) Shown.condition (known-node et) eu
+            shows (revise i) h 𝐁 (condition (drop (length (plan l b (revising .head))) (m .π)) (there et) (prefix-split (plan l b (revising .head)) (m .π) ef) eu) (revising .node) Shown.condition
         go true et true ef true eu =
             let (c′, s) = revises (agent b) m i (revisionFor l b i) (there et) (λ j. ef j && eu j) in absurd (none-there c′ s)
 

@@ -1,52 +1,105 @@
 -- 16 is answered with the node that settles a false condition of the choice.
 use mathlib.Core.Path.{_≡_, refl, ap, sym, _∙_}
-use mathlib.Core.Bool.{true}
+use mathlib.Core.Bool.{true, false}
 use mathlib.Core.List.{[], _∷_, _++_, List·Memᴰ}
 use Prim.Native.Nat.{ℕ, _<_}
 use native.Mathlib.Omega.{arith}
+use borrow.Author.Tests.{ltb-true}
+use lib.Dec.{ltb}
+use Rattle.paper.specs.Language.{Letter, 𝐁, 𝐆, Config, Selection, Specification, Revision}
+use Rattle.paper.specs.Transitions.{_⊨_, Choice, Entry}
+use Rattle.paper.proofs.Relation.{both, some-inj}
+use Rattle.runs.specs.Order.{number}
 use Rattle.meaning.specs.declared.Refusal.{Refusal}
 use Rattle.meaning.specs.declared.Layout.{Layout}
 use Rattle.meaning.specs.declared.Configuration.{Configuration}
 use Rattle.meaning.specs.declared.Reply.{Reply}
-use Rattle.meaning.specs.Card.{Bytes, layout}
+use Rattle.meaning.specs.Card.{Bytes, layout, conditions, specificationAt, selectionAt, revisionAt, specificationOf, selectionOf, revisionOf, agentOf, agentFor, agent}
+use Rattle.meaning.specs.Card as Card
 use Rattle.meaning.specs.Configurations.{stateOf}
-use Rattle.meaning.specs.Refusals.{numberOf, answerNumber, carried, answerCarried, nodesGood}
+use Rattle.meaning.specs.Refusals.{numberOf, answerNumber, carried, answerCarried, nodesGood, containing, conditionGood, specificationGood, selectionGood, revisionGood}
 use Rattle.meaning.specs.Theorems.{StandsIn, is-it, in-first, in-second}
-use Rattle.meaning.proofs.Accepted.{accepted, counts}
+use Rattle.meaning.proofs.Accepted.{accepted, counts, length-entries}
+use Rattle.meaning.proofs.Entries.{GoodEntries, good-entries}
+use Rattle.meaning.proofs.AgentEntries.{selection-entry, specification-entry, revision-entry}
 use Rattle.meaning.proofs.Nodes.{node-rule}
 use Rattle.meaning.proofs.Settling.{settler-law}
-use Rattle.meaning.proofs.Tables.{done≢refused}
 use Rattle.meaning.proofs.Carrying.{Carries, nothing, a-node, a-place, a-sheet, carries}
-use Rattle.meaning.specs.declared.Answer.{Answer}
-use Rattle.meaning.specs.declared.Answer.the-variants.{Refused}
 use Rattle.demands.specs.Contracts.{Takes}
 use Rattle.demands.specs.Demands.{doneOrCard, OnAccepted}
 use Rattle.demands.specs.Shown.{Shown, ShownLaw}
+use Rattle.demands.specs.Closed.{Has, selection, specification, revision, FalseCondition, belief, goal, precondition, condition, FalseAt}
 use Rattle.demands.proofs.Among.{outside, configuration-among}
-use Rattle.demands.proofs.Codes.{card-accepted}
+use Rattle.demands.proofs.Codes.{card-accepted, has-lt, has-read}
 use Rattle.demands.proofs.Ways.{Taking, refused, is-closed, plan-full, done, taking}
 use Rattle.demands.proofs.Closing.{Reason, none-such, unfit, is-false, reason}
+use Rattle.demands.proofs.ClosedExactly.{false-has, root, rooted, closed-law}
 
--- 16 is no other number
-not-16 : (a : Answer) (node : ℕ) → (answerNumber a ≡ 16 → ⊥) → a ≡ Refused (Refusal.Condition node) → ⊥
-unfolding answerNumber numberOf
-not-16 a node h e = h (ap answerNumber e)
+-- ---- the condition that is false, by the card's bytes
 
-shown-by : {b : Bytes} {c : Configuration} {n : ℕ} {q : Refusal} → Reason b c n q → (node : ℕ) → Refused q ≡ Refused (Refusal.Condition node) → Shown b c n node
-unfolding answerNumber numberOf answerCarried carried
-shown-by (none-such x) node e = absurd (not-16 _ node (λ z. omega arith) e)
-shown-by (unfit k p u) node e = absurd (not-16 _ node (λ z. omega arith) e)
-shown-by (is-false {node = m} f s) node e = let z : m ≡ node = ap answerCarried e in rw z at s
+module _ (b : Bytes) (c : Configuration) (on : OnAccepted b c) where
+  abbrev l : Layout
+  l = layout b
+
+  abbrev m : Config
+  m = stateOf c .mental
+
+  good : GoodEntries l b
+  good = good-entries l b (accepted b (card-accepted b c on) .rules)
+
+  known : (L : ℕ) (x : ℕ) → conditionGood l (containing L l b) x ≡ true → x < l .nodes .count
+  known L x e = ltb-true _ _ (both (ltb x (l .nodes .count)) _ e .0)
+
+  module _ {i : ℕ} where
+    selection-lt : {r : Selection} → Entry (agent b .PS) i r → i < l .selections .count
+    unfolding agent agentFor agentOf number
+    selection-lt e = rw (length-entries _ (l .selections)) at (has-lt {A = agent b} (selection {n = i} e))
+
+    specification-lt : {s : Specification} → Entry (agent b .AS) i s → i < l .specifications .count
+    unfolding agent agentFor agentOf number
+    specification-lt e = rw (length-entries _ (l .specifications)) at (has-lt {A = agent b} (specification {n = i} e))
+
+    revision-lt : {r : Revision} → Entry (agent b .PR) i r → i < l .revisions .count
+    unfolding agent agentFor agentOf number
+    revision-lt e = rw (length-entries _ (l .revisions)) at (has-lt {A = agent b} (revision {n = i} e))
+
+  root-known : {k : Choice} → Has (agent b) k → (L : Letter) → root b k L < l .nodes .count
+  unfolding root selectionGood specificationGood revisionGood
+  root-known (selection {n = i} e) 𝐁 =
+      known 2 _ (both (conditionGood l (containing 2 l b) (selectionAt l b i .belief)) _ (good .selection i (selection-lt e)) .0)
+  root-known (selection {n = i} e) 𝐆 =
+      let q = both (conditionGood l (containing 2 l b) (selectionAt l b i .belief)) _ (good .selection i (selection-lt e)) .1 in
+      known 1 _ (both (conditionGood l (containing 1 l b) (selectionAt l b i .goal)) _ q .0)
+  root-known (specification {n = i} e) L =
+      let q = both (ltb (specificationAt l b i .action) (l .actions)) _ (good .specification i (specification-lt e)) .1 in
+      known 2 _ (both (conditionGood l (containing 2 l b) (specificationAt l b i .node)) _ q .0)
+  root-known (revision {n = i} e) L =
+      known 2 _ (both (conditionGood l (containing 2 l b) (revisionAt l b i .node)) _ (good .revision i (revision-lt e)) .0)
+
+  root-false : {k : Choice} {L : Letter} → FalseCondition (agent b) m k L → (m ⊨ Card.condition (conditions L l b) (root b k L)) ≡ false
+  unfolding root agent selectionOf specificationOf revisionOf
+  root-false (belief {n} e p f) = ap (λ r. m ⊨ r .β) (some-inj (sym (selection-entry l b n (selection-lt e)) ∙ e)) ∙ f
+  root-false (goal {n} e p h f) = ap (λ r. m ⊨ r .κ) (some-inj (sym (selection-entry l b n (selection-lt e)) ∙ e)) ∙ f
+  root-false (precondition {n} π e p f) = ap (λ s. m ⊨ s .β) (some-inj (sym (specification-entry l b n (specification-lt e)) ∙ e)) ∙ f
+  root-false (condition {n} π e p f) = ap (λ r. m ⊨ r .β) (some-inj (sym (revision-entry l b n (revision-lt e)) ∙ e)) ∙ f
+
+  shown-of : {n node : ℕ} → FalseAt b c n node → Shown b c n node
+  shown-of f =
+      let has = false-has (agent b) m (f .is-false) in
+      let at = rooted b (f .condition-of) in
+      record {
+        chosen = f .chosen;
+        coded = rw (f .coded) at (has-read b c on has);
+        letter = f .letter;
+        root = f .root;
+        condition-of = f .condition-of;
+        known = rw at (root-known has (f .letter));
+        is-false = rw at (root-false (f .is-false));
+        settled = f .settled;
+      }
 
 pub shown-law : ShownLaw
-unfolding answerNumber numberOf
-shown-law b c on n r e node a = go r (taking b c n r e) a
-  where
-    go : (r : Reply) → Taking b c n r → r .answer ≡ Refused (Refusal.Condition node) → Shown b c n node
-    go r (refused h) a = absurd (done≢refused (sym on ∙ h))
-    go r (is-closed h w i none-there) a = shown-by (rw w (reason b c on n none-there)) node a
-    go r (plan-full h k c′ x f) a = absurd (not-16 _ node (λ z. omega arith) a)
-    go r (done h k c′ x f) a = absurd (not-16 _ node (λ z. omega arith) a)
+shown-law b c on n r e node a = shown-of b c on (closed-law b c on n r e .condition node .0 a)
 
 -- ---- the node is one of the card's, and so fits in the 16 bits that it is told in
 
@@ -77,8 +130,8 @@ module _ (b : Bytes) (c : Configuration) (n : ℕ) where
   unfolding carried
   narrow on (none-such x) = omega arith
   narrow on (unfit k p u) = omega arith
-  narrow on (is-false {node = node} f s) =
-      let k = node-known on node s in let most = counts (layout b) (accepted b (card-accepted b c on) .counts) .nodes in omega arith
+  narrow on (is-false {node = node} f) =
+      let k = node-known on node (shown-of b c on f) in let most = counts (layout b) (accepted b (card-accepted b c on) .counts) .nodes in omega arith
 
   pub node-narrow : (r : Reply) → Takes b c n r → answerCarried (r .answer) < 65536
   unfolding answerNumber answerCarried carried

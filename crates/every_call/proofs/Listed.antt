@@ -20,7 +20,7 @@ use Rattle.demands.proofs.Among.{wider, and-then-among, listed, card-among}
 use Rattle.notation.specs.Lines.{Said}
 use Rattle.notation.specs.Built.{built}
 use Rattle.notation.specs.Reading.{numbersFit, entriesFit, textTable, saidAnswer, Reads, no-text, refused, done}
-use Rattle.notation.specs.Printing.{printTable, printed, printAnswer, printCount, printLeaves}
+use Rattle.notation.specs.Printing.{printTable, printed, printAnswer, printCount, printLeaves, Prints}
 use Rattle.notation.specs.Theorems.{rowsOfText}
 use Rattle.notation.proofs.MadeCards.{built-law, text-rows}
 use Rattle.deliberation.specs.declared.Deliberated.{Deliberated}
@@ -30,9 +30,8 @@ use Rattle.deliberation.specs.Theorems.{Deliberates}
 use Rattle.deliberation.proofs.Call.{deliberates-done, deliberates-refused}
 use Rattle.names.specs.declared.Named.{Named}
 use Rattle.names.specs.Sheets.{nameSpan}
-use Rattle.names.specs.Naming.{Question, nameTable, nameAnswer, named, refusedName, found, answered, names}
+use Rattle.names.specs.Naming.{Question, nameTable, nameAnswer, named, refusedName, found, answered, names, Names}
 use Rattle.names.proofs.Naming.{on-refusal}
-use Rattle.every_call.specs.Calls.{Names, Prints}
 
 -- ---- the answer is that of the checks
 

@@ -13,12 +13,11 @@ use Rattle.meaning.proofs.Tables.{given, not-given}
 use Rattle.notation.specs.Lines.{Said, Text}
 use Rattle.notation.specs.Built.{built}
 use Rattle.notation.specs.Reading.{textTable, saidAnswer, Reads, no-text, refused, done}
-use Rattle.notation.specs.Printing.{printTable, printed, printAnswer}
+use Rattle.notation.specs.Printing.{printTable, printed, printAnswer, Prints}
 use Rattle.notation.proofs.ReadingOnce.{unambiguous}
 use Rattle.names.specs.declared.Named.{Named}
 use Rattle.names.specs.Sheets.{shedGood, masterGood}
-use Rattle.names.specs.Naming.{Question, nameTable, nameAnswer}
-use Rattle.every_call.specs.Calls.{Names, Prints}
+use Rattle.names.specs.Naming.{Question, nameTable, nameAnswer, Names}
 use Rattle.every_call.proofs.Listed.{name-answer}
 
 -- what comes after a refusal is not asked; what comes after a test that is passed is

@@ -19,14 +19,13 @@ use Rattle.demands.specs.Struck.{Unbelieved, Struck}
 use Rattle.notation.specs.Lines.{Said, Text}
 use Rattle.notation.specs.Built.{built}
 use Rattle.notation.specs.Reading.{Derived, textTable, Reads}
-use Rattle.notation.specs.Printing.{printTable, printed}
+use Rattle.notation.specs.Printing.{printTable, printed, Prints}
 use Rattle.notation.specs.Theorems.{ReadDetermined}
 use Rattle.deliberation.specs.declared.Deliberated.{Deliberated}
 use Rattle.deliberation.specs.Theorems.{Deliberates, RefusalLaw, DeterminedLaw}
 use Rattle.names.specs.declared.Named.{Named}
 use Rattle.names.specs.Sheets.{shedGood, masterGood}
-use Rattle.names.specs.Naming.{Question, refusedName}
-use Rattle.every_call.specs.Calls.{Names, Prints}
+use Rattle.names.specs.Naming.{Question, refusedName, Names}
 
 -- 00, demand 1: "Every public call ends, on all bytes and numbers, with an answer listed in document 01. A refusal hands back the
 -- configuration it was given, or the empty one where it was given none, and writes to no lent buffer." That each call ends is

@@ -7,7 +7,7 @@ ghost use Rattle.demands.specs.Contracts.{Checks, Loads, Grades, Lists, Takes, 
 ghost use Rattle.deliberation.specs.Theorems.{Deliberates};
 ghost use Rattle.door.specs.InPlace.{replyWith, ranWith};
 ghost use Rattle.deliberate.specs.InPlace.{deliberatedWith};
-ghost use Rattle.names.specs.Naming.{asked, names, nameOf, placeOf};
+ghost use Rattle.names.specs.Naming.{asked, names, Names, nameOf, placeOf};
 use deliberate::call::DeliberatedInPlace;
 use deliberation::Deliberated;
 use deliberation::Remaining;
@@ -192,7 +192,7 @@ pub fn restore(card: &[u8], p: &[u8]) -> Reply
 
 // The part that holds an action's name, of the shed's sheet or of the master's: which, and its start and length.
 pub fn named(card: &[u8], shed: &[u8], master: &[u8], action: u16) -> Named
-    ensures { λ r. ⌜ r ≡ names (now (card .entry)) (asked (now (shed .entry)) (now (master .entry)) action) ⌝ }
+    ensures { λ r. ⌜ Names (now (card .entry)) (asked (now (shed .entry)) (now (master .entry)) action) r ⌝ }
     ensures { λ r. ⌜ r .part .start + r .part .length ≤ 65535 ⌝ }
 {
     names::name::named(card, shed, master, action as usize)

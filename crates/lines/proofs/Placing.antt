@@ -11,9 +11,9 @@ use lib.Dec.{leb}
 use lib.ListN.{length, take, drop}
 use lib.Seq.{paste, length-paste, take-all, take-take, drop-drop}
 use Rattle.paper.specs.Next.{if}
+use Rattle.meaning.specs.Trees.{Tree, true, believes, goal, not, and, or}
+use Rattle.meaning.specs.Trees as Trees
 use Rattle.meaning.specs.Card.{Bytes, part}
-use Rattle.notation.specs.Conditions.{Tree, true, believes, goal, not, and, or}
-use Rattle.notation.specs.Conditions as Conditions
 use Rattle.notation.specs.Built.{node}
 use Rattle.notation.specs.Making.{bind, when, addedTo, lastNode, withTree, withPlan, treeIn, planIn, putNodes, putPool}
 use Rattle.conditions.specs.Reads.{nodesOf}
@@ -45,7 +45,7 @@ unfolding withTree
 tree-none Tree.true = refl
 tree-none (believes n) = when-none (leb n 255)
 tree-none (goal n) = when-none (leb n 255)
-tree-none (Conditions.not t) = ap (λ o. addedTo 1024 (node 3 (lastNode o) 0) o) (tree-none t)
+tree-none (Trees.not t) = ap (λ o. addedTo 1024 (node 3 (lastNode o) 0) o) (tree-none t)
 tree-none (and l r) =
     ap (λ o. addedTo 1024 (node 4 (lastNode o) (lastNode (withTree r o))) (withTree r o)) (tree-none l)
     ∙ ap (λ o. addedTo 1024 (node 4 0 (lastNode o)) o) (tree-none r)

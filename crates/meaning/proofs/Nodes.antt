@@ -7,15 +7,17 @@ use native.Mathlib.Decide.{decLe}
 use native.Mathlib.Nat.{zero-add}
 use native.Mathlib.Omega.{arith}
 use lib.Dec.{ltb}
-use lib.ListN.{length, getD}
+use lib.ListN.{length, getD, List·getD-map}
 use borrow.Author.Tests.{ltb-true}
-use Rattle.paper.specs.Language.{Letter, 𝐁, 𝐆, Query, ⊤, atom, ¬′, _∧′_, _∨′_}
+use Rattle.paper.specs.Language.{Letter}
 use Rattle.paper.proofs.Relation.{both, false≢true}
 use Rattle.runs.proofs.Numbers.{length-made, made-at}
 use Rattle.meaning.specs.declared.Layout.{Layout}
 use Rattle.meaning.specs.declared.Node.{Node}
 use Rattle.meaning.specs.Kinds.{NodeKind, nodeKind}
-use Rattle.meaning.specs.Card.{Bytes, nodeAt, nodes, pass, queryOf, conditions}
+use Rattle.meaning.specs.Trees.{Tree, treeOf, queryOf}
+use Rattle.meaning.specs.Trees as Trees
+use Rattle.meaning.specs.Card.{Bytes, nodeAt, nodes, pass, trees, treeAt, conditions, condition}
 use Rattle.meaning.specs.Refusals.{kindGood, nodeGood, nodesGood, containsOf, containing}
 use Rattle.meaning.proofs.Every.{every-at}
 use Rattle.meaning.proofs.NodeKinds.{Leaf, is-true, is-belief, is-goal, Inner, is-not, is-and, is-or, Known, leaf, inner, known-kind, unknown-kind, leaf-low, inner-high}
@@ -98,15 +100,18 @@ contains-children kind (inner is-not) a b q q′ f s = f (omega arith)
 contains-children kind (inner is-and) a b q q′ f s = ap₂ _||_ (f (omega arith)) (s (omega arith))
 contains-children kind (inner is-or) a b q q′ f s = ap₂ _||_ (f (omega arith)) (s (omega arith))
 
-pub query-children : (L : Letter) {k : ℕ} {κ : NodeKind} → Known k κ → (a b : ℕ) (q q′ : ℕ → Query L) → (3 ≤ k → q a ≡ q′ a) → (4 ≤ k → q b ≡ q′ b) → queryOf L κ a b q ≡ queryOf L κ a b q′
-query-children L (leaf is-true) a b q q′ f s = refl
-query-children 𝐁 (leaf is-belief) a b q q′ f s = refl
-query-children 𝐆 (leaf is-belief) a b q q′ f s = refl
-query-children 𝐁 (leaf is-goal) a b q q′ f s = refl
-query-children 𝐆 (leaf is-goal) a b q q′ f s = refl
-query-children L (inner is-not) a b q q′ f s = ap ¬′ (f (omega arith))
-query-children L (inner is-and) a b q q′ f s = ap₂ _∧′_ (f (omega arith)) (s (omega arith))
-query-children L (inner is-or) a b q q′ f s = ap₂ _∨′_ (f (omega arith)) (s (omega arith))
+tree-children : {k : ℕ} {κ : NodeKind} → Known k κ → (a b : ℕ) (q q′ : ℕ → Tree) → (3 ≤ k → q a ≡ q′ a) → (4 ≤ k → q b ≡ q′ b) → treeOf κ a b q ≡ treeOf κ a b q′
+tree-children (leaf is-true) a b q q′ f s = refl
+tree-children (leaf is-belief) a b q q′ f s = refl
+tree-children (leaf is-goal) a b q q′ f s = refl
+tree-children (inner is-not) a b q q′ f s = ap Trees.not (f (omega arith))
+tree-children (inner is-and) a b q q′ f s = ap₂ Trees.and (f (omega arith)) (s (omega arith))
+tree-children (inner is-or) a b q q′ f s = ap₂ Trees.or (f (omega arith)) (s (omega arith))
+
+-- the condition of a node is its tree, read as a query
+pub query-at : (L : Letter) (l : Layout) (b : Bytes) (n : ℕ) → condition (conditions L l b) n ≡ queryOf L (treeAt l b n)
+unfolding conditions
+query-at L l b n = List·getD-map (queryOf L) (trees l b) n Trees.true
 
 module _ (l : Layout) (b : Bytes) (good : nodesGood l b ≡ true) (i : ℕ) (h : i < l .nodes .count) where
   pub contains-at : (kind : ℕ)
@@ -114,7 +119,10 @@ module _ (l : Layout) (b : Bytes) (good : nodesGood l b ≡ true) (i : ℕ) (h :
   unfolding containing
   contains-at kind = made-of l b good i h (λ i. containsOf kind) false (λ i k κ. contains-children kind)
 
+  pub tree-at : treeAt l b i ≡ treeOf (nodeKind (nodeAt l b i .kind)) (nodeAt l b i .a) (nodeAt l b i .b) (treeAt l b)
+  unfolding trees
+  tree-at = made-of l b good i h (λ i. treeOf) Trees.true (λ i k κ. tree-children)
+
   pub condition-at : (L : Letter)
-      → getD (conditions L l b) i ⊤ ≡ queryOf L (nodeKind (nodeAt l b i .kind)) (nodeAt l b i .a) (nodeAt l b i .b) (λ j. getD (conditions L l b) j ⊤)
-  unfolding conditions
-  condition-at L = made-of l b good i h (λ i. queryOf L) ⊤ (λ i k κ. query-children L)
+      → condition (conditions L l b) i ≡ queryOf L (treeOf (nodeKind (nodeAt l b i .kind)) (nodeAt l b i .a) (nodeAt l b i .b) (treeAt l b))
+  condition-at L = query-at L l b i ∙ ap (queryOf L) tree-at

@@ -1,5 +1,5 @@
 -- The node that settles a condition is one of its own, is "true" or an atom, and has its value, turned for each "not".
-use mathlib.Core.Path.{_≡_, refl, ap, sym, _∙_, subst}
+use mathlib.Core.Path.{_≡_, refl, ap, ap₂, sym, _∙_, subst}
 use mathlib.Core.Bool.{Bool, true, false, not, _&&_, _||_}
 use Prim.Native.Nat.{ℕ, zero, suc, _≤_, _<_}
 use native.Mathlib.Nat.{not-suc-le-zero}
@@ -11,13 +11,14 @@ use Rattle.paper.specs.Transitions.{_⊨_}
 use Rattle.meaning.specs.declared.Layout.{Layout}
 use Rattle.meaning.specs.declared.Node.{Node}
 use Rattle.meaning.specs.Kinds.{NodeKind, nodeKind}
-use Rattle.meaning.specs.Card.{Bytes, layout, nodeAt, queryOf, conditions, condition}
+use Rattle.meaning.specs.Trees.{treeOf, queryOf}
+use Rattle.meaning.specs.Card.{Bytes, layout, nodeAt, treeAt, conditions, condition}
 use Rattle.meaning.specs.Refusals.{nodesGood}
 use Rattle.meaning.specs.Why.{settledBy, settlers, settler, turns}
 use Rattle.meaning.specs.Theorems.{StandsIn, is-it, in-first, in-second, turnedBy, SettlerLaws, SettlerLaw}
 use Rattle.meaning.proofs.Accepted.{accepted}
 use Rattle.meaning.proofs.NodeKinds.{Leaf, is-true, is-belief, is-goal, is-not, is-and, is-or, Known, leaf, inner, known-kind, leaf-low}
-use Rattle.meaning.proofs.Nodes.{node-rule, made-of, condition-at}
+use Rattle.meaning.proofs.Nodes.{node-rule, made-of, query-at, condition-at}
 
 -- ---- what is made of a node looks at the children that its kind has
 
@@ -58,6 +59,10 @@ module _ (L : Letter) (l : Layout) (b : Bytes) (good : nodesGood l b ≡ true) (
   abbrev Law : ℕ → Type 0
   Law = SettlerLaws L l b c
 
+  -- a tree has the truth of the node's condition
+  pub tree-truth : (j : ℕ) → (c ⊨ queryOf L (treeAt l b j)) ≡ t j
+  tree-truth j = ap (λ φ. c ⊨ φ) (sym (query-at L l b j))
+
   module _ (n : ℕ) (h : n < l .nodes .count) where
     abbrev x : Node
     x = nodeAt l b n
@@ -70,7 +75,7 @@ module _ (L : Letter) (l : Layout) (b : Bytes) (good : nodesGood l b ≡ true) (
     unfolding turns
     turned-at = made-of l b good n h (λ i κ a b q. settledBy false not κ a b t q) false (λ i k κ. settled-children false not t)
 
-    truth-at : t n ≡ (c ⊨ queryOf L (nodeKind (x .kind)) (x .a) (x .b) (condition (conditions L l b)))
+    truth-at : t n ≡ (c ⊨ queryOf L (treeOf (nodeKind (x .kind)) (x .a) (x .b) (treeAt l b)))
     truth-at = ap (λ φ. c ⊨ φ) (condition-at l b good n h L)
 
     -- a node that settles itself
@@ -106,14 +111,16 @@ module _ (L : Letter) (l : Layout) (b : Bytes) (good : nodesGood l b ≡ true) (
 
     by-kind : {k : ℕ} {κ : NodeKind} → Known k κ → x .kind ≡ k → (3 ≤ k → Law (x .a)) → (4 ≤ k → Law (x .b))
         → s n ≡ settledBy n (λ j. j) κ (x .a) (x .b) t s → u n ≡ settledBy false not κ (x .a) (x .b) t u
-        → t n ≡ (c ⊨ queryOf L κ (x .a) (x .b) (condition (conditions L l b))) → Law n
+        → t n ≡ (c ⊨ queryOf L (treeOf κ (x .a) (x .b) (treeAt l b))) → Law n
     unfolding _⊨_
     by-kind (leaf y) e first second es eu et = let z = leaf-low y in itself (omega arith) (es ∙ settled-leaf n (λ j. j) y (x .a) (x .b) t s) (eu ∙ settled-leaf false not y (x .a) (x .b) t u)
     by-kind (inner is-not) e first second es eu et =
         let r = first (omega arith) in
-        passed (x .a) (λ m. in-first (omega arith)) es (not (u (x .a))) eu (et ∙ ap not (r .value) ∙ sym (turned-not (u (x .a)) (t (s (x .a))))) r
-    by-kind (inner is-and) e first second es eu et = both-and (omega arith) (first (omega arith)) (second (omega arith)) (t (x .a)) refl es eu et
-    by-kind (inner is-or) e first second es eu et = both-or (omega arith) (first (omega arith)) (second (omega arith)) (t (x .a)) refl es eu et
+        passed (x .a) (λ m. in-first (omega arith)) es (not (u (x .a))) eu (et ∙ ap not (tree-truth (x .a) ∙ r .value) ∙ sym (turned-not (u (x .a)) (t (s (x .a))))) r
+    by-kind (inner is-and) e first second es eu et =
+        both-and (omega arith) (first (omega arith)) (second (omega arith)) (t (x .a)) refl es eu (et ∙ ap₂ _&&_ (tree-truth (x .a)) (tree-truth (x .b)))
+    by-kind (inner is-or) e first second es eu et =
+        both-or (omega arith) (first (omega arith)) (second (omega arith)) (t (x .a)) refl es eu (et ∙ ap₂ _||_ (tree-truth (x .a)) (tree-truth (x .b)))
 
   below : (m n : ℕ) → n < m → n < l .nodes .count → Law n
   below zero n h k = absurd (not-suc-le-zero h)

@@ -2,7 +2,7 @@
 use mathlib.Core.List.{List, [], _∷_, _++_, map}
 use Prim.Native.Nat.{ℕ, _+_, _*_}
 use lib.ListN.{length, getD, take, drop}
-use Rattle.paper.specs.Language.{Plan, Letter, 𝐁, 𝐆, Query, ⊤, atom, ¬′, _∧′_, _∨′_, Specification, Selection, Revision, Agent, ⟨_/_/_⟩}
+use Rattle.paper.specs.Language.{Plan, Letter, 𝐁, 𝐆, Query, ⊤, Specification, Selection, Revision, Agent, ⟨_/_/_⟩}
 use Rattle.paper.specs.Transitions.{struckBy}
 use Rattle.runs.specs.Order.{State, numbers}
 use Rattle.meaning.specs.declared.Section.{Section}
@@ -12,7 +12,8 @@ use Rattle.meaning.specs.declared.Node.{Node}
 use Rattle.meaning.specs.declared.SpecificationEntry.{SpecificationEntry}
 use Rattle.meaning.specs.declared.SelectionEntry.{SelectionEntry}
 use Rattle.meaning.specs.declared.RevisionEntry.{RevisionEntry}
-use Rattle.meaning.specs.Kinds.{NodeKind, True, Believes, HasGoal, Not, And, Or, Unknown, nodeKind}
+use Rattle.meaning.specs.Kinds.{nodeKind}
+use Rattle.meaning.specs.Trees.{Tree, true, treeOf, queryOf}
 use Rattle.meaning.specs.Sizes.{setBytes, goalsAt, headerBytes, delAt, specificationBytes}
 
 -- 00, demand 1: "on all bytes and numbers": the bytes of a card or place, in their order.
@@ -117,29 +118,23 @@ module _ {X : Type 0} (make : ℕ → Node → (ℕ → X) → X) (other : X) wh
   passOn made [] = made
   passOn made (n ∷ ns) = passOn (made ++ (make (length made) n (λ j. getD made j other) ∷ [])) ns
 
-  -- The whole pass. Serves conditions, and containing in Refusals: 01, "The card, edition 1": "A child's number is lower than
+  -- The whole pass. Serves trees, and containing in Refusals: 01, "The card, edition 1": "A child's number is lower than
   -- the node's own."
   abbrev pub pass : List Node → List X
   pass ns = passOn [] ns
 
--- 01, "The card, edition 1": "Kind 0 true …; 1 believes a; 2 has goal a …; 3 not a …; 4 a and b; 5 a or b.", read by the letter
--- of the condition: an atom of a belief condition is of kind 1, one of a goal condition of kind 2. What is no such node is
--- "true" (docs/DECISIONS.md, "An unknown node or kind in the definitions").
-abbrev pub queryOf : (L : Letter) → NodeKind → ℕ → ℕ → (ℕ → Query L) → Query L
-queryOf L True a b query = ⊤
-queryOf 𝐁 Believes a b query = atom a
-queryOf 𝐆 Believes a b query = ⊤
-queryOf 𝐁 HasGoal a b query = ⊤
-queryOf 𝐆 HasGoal a b query = atom a
-queryOf L Not a b query = ¬′ (query a)
-queryOf L And a b query = query a ∧′ query b
-queryOf L Or a b query = query a ∨′ query b
-queryOf L Unknown a b query = ⊤
+-- 01, "The card, edition 1": "Kind 0 true …; 1 believes a; …": what each node stands for, in one pass.
+unfoldable pub trees : Layout → Bytes → List Tree
+trees l b = pass (λ i n tree. treeOf (nodeKind (n .kind)) (n .a) (n .b) tree) true (nodes l b)
+
+-- The tree of a node, by its number.
+abbrev pub treeAt : Layout → Bytes → ℕ → Tree
+treeAt l b n = getD (trees l b) n true
 
 -- 01, "A configuration and its transitions": "Conditions (004, Definitions 3 and 8)": what each node stands for, as a belief
 -- condition or as a goal condition.
 unfoldable pub conditions : (L : Letter) → Layout → Bytes → List (Query L)
-conditions L l b = pass (λ i n query. queryOf L (nodeKind (n .kind)) (n .a) (n .b) query) ⊤ (nodes l b)
+conditions L l b = map (queryOf L) (trees l b)
 
 -- A node's condition, by its number. Serves the entries: 01, "The card, edition 1": "action, node", "belief node, goal node". A
 -- node past the last one is "true" (docs/DECISIONS.md, "An unknown node or kind in the definitions").

@@ -1,4 +1,5 @@
 pub mod Kinds
+pub mod Trees
 pub mod Sizes
 pub mod Card
 pub mod Configurations

@@ -1,4 +1,5 @@
 -- What the call answers that is asked for an action's name (02, Wish 8), on all bytes and numbers.
+use mathlib.Core.Path.{_≡_}
 use mathlib.Core.Bool.{not}
 use mathlib.Core.List.{List, [], _∷_}
 use Prim.Native.Nat.{ℕ, _+_}
@@ -59,6 +60,10 @@ answered (Refused r) q = refusedName (Refused r)
 
 unfoldable pub names : Bytes → Question → Named
 names b q = answered (nameAnswer b q) q
+
+-- 02, Wish 8: "Asked for an action, the guide hands back the part of the shed's sheet that holds its name"
+abbrev pub Names : Bytes → Question → Named → Type 0
+Names b q r = r ≡ names b q
 
 -- The sheet that an answer's part lies in.
 abbrev pub sheetOf : {X : Type 0} → Named → X → X → X

@@ -2,7 +2,7 @@
 ghost use mathlib.Core.Path.{_≡_};
 ghost use Prim.Native.Nat.{_+_, _≤_};
 ghost use Rattle.meaning.specs.Refusals.{firstGiven};
-ghost use Rattle.names.specs.Naming.{asked, nameTable, refusedName, found, names, nameOf, placeOf};
+ghost use Rattle.names.specs.Naming.{asked, nameTable, refusedName, found, names, Names, nameOf, placeOf};
 ghost use Rattle.names.specs.Working.{SheetsReady};
 use crate::Named;
 use crate::sheet::master_good;
@@ -70,7 +70,7 @@ fn find(shed: &[u8], master: &[u8], action: usize) -> Named
 
 // What the call answers: the number, which sheet, and the part's start and length.
 pub fn named(card: &[u8], shed: &[u8], master: &[u8], action: usize) -> Named
-    ensures { λ r. ⌜ r ≡ names (now (card .entry)) (asked (now (shed .entry)) (now (master .entry)) action) ⌝ }
+    ensures { λ r. ⌜ Names (now (card .entry)) (asked (now (shed .entry)) (now (master .entry)) action) r ⌝ }
     ensures { λ r. ⌜ r .part .start + r .part .length ≤ 65535 ⌝ }
 {
     let checked = check(card);

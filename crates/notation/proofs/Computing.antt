@@ -13,13 +13,13 @@ use Rattle.paper.proofs.Relation.{none≢some, some-inj}
 use Rattle.meaning.specs.declared.Refusal.{Refusal}
 use Rattle.meaning.specs.declared.Answer.{Answer}
 use Rattle.meaning.specs.declared.Answer.the-variants.{Done, Refused}
-use Rattle.meaning.specs.Card.{Bytes}
+use Rattle.meaning.specs.Card.{Bytes, trees}
 use Rattle.meaning.specs.Assembled.{assembled}
 use Rattle.meaning.specs.Calls.{over}
 use Rattle.notation.specs.Lines.{Said, Text, conditions}
 use Rattle.notation.specs.Built.{size, nodesFrom, allNodes, sizes, setOf, specifications, selections, revisions, built}
 use Rattle.notation.specs.Reading.{Derived, numbersFit, entriesFit, textTable, saidAnswer, Reads, no-text, refused, done}
-use Rattle.notation.specs.Printing.{trees, decimalIn, decimal, textAs, depthAs, printTable, printed, printAnswer, printCount, printLeaves}
+use Rattle.notation.specs.Printing.{decimalIn, decimal, textAs, depthAs, printTable, printed, printAnswer, printCount, printLeaves}
 use Rattle.notation.specs.Scanning.{lines, first, step, accepts, judge}
 use Rattle.notation.proofs.Texts.{Scanned, scanned}
 use Rattle.notation.specs.Values.{digitsValue, digitsRest, listValues, listRest, behindLine, Read, nested, got, more, unitOf, Item, doItemAt, selectItemAt, reviseItemAt, beginItem, numberItem, lineAt, itemsAt}

@@ -7,8 +7,9 @@ use mathlib.Core.Option.{Option, none}
 use Prim.Native.Nat.{ℕ, zero, suc}
 use borrow.Author.Tests.{eqb-true}
 use lib.Dec.{eqb}
+use Rattle.meaning.specs.Trees.{and, or}
 use Rattle.meaning.specs.Card.{Bytes}
-use Rattle.notation.specs.Conditions.{Condition, joined, and, or, Unit, T, B, G, !, brackets, units, AndMore, last-unit, next-unit, OrList, and-lists, OrMore, last-list, next-list}
+use Rattle.notation.specs.Conditions.{Condition, joined, Unit, T, B, G, !, brackets, units, AndMore, last-unit, next-unit, OrList, and-lists, OrMore, last-list, next-list}
 use Rattle.notation.specs.Scanning.{ScanState, rest, number, unit, after, digit, when, step}
 use Rattle.notation.proofs.Following.{Stops, More, nothing, and-unit, or-unit, Behind, After, Lang}
 use Rattle.notation.proofs.Deriving.{same-head, same-tail, eqb-same, By, by-yes, by-no, split, Derives}

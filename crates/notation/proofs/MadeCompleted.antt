@@ -7,10 +7,9 @@ use lib.ListN.{length, getD, length-append}
 use lib.Seq.{getD-at}
 use Rattle.meaning.specs.declared.Node.{Node}
 use Rattle.meaning.specs.Kinds.{nodeKind}
+use Rattle.meaning.specs.Trees.{Tree, true, believes, goal, not, and, or, treeOf}
 use Rattle.meaning.specs.Card.{Bytes, passOn, pass}
-use Rattle.notation.specs.Conditions.{Tree, true, believes, goal, not, and, or}
 use Rattle.notation.specs.Built.{size, sizes, own, node, nodesFrom, allNodes}
-use Rattle.notation.specs.Printing.{treeOf}
 use Rattle.notation.proofs.MadeLists.{flatten-append}
 
 -- the trees of a tree's nodes, in the order in which they are completed

@@ -5,7 +5,7 @@ use Prim.Native.Nat.{ℕ, _+_, _*_}
 use native.Mathlib.Nat.{add-zero, add-assoc}
 use native.Mathlib.Omega.{arith}
 use lib.ListN.{length, length-append}
-use Rattle.notation.specs.Conditions.{Tree}
+use Rattle.meaning.specs.Trees.{Tree}
 use Rattle.notation.specs.Built.{size, sizes, nodesFrom, allNodes}
 use Rattle.notation.proofs.MadeLists.{EntrySized, sized-append, length-flatten}
 use Rattle.notation.proofs.MadeTrees.{nodes-sized, nodes-counted}

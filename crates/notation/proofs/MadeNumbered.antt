@@ -7,14 +7,14 @@ use native.Mathlib.Nat.{add-zero}
 use native.Mathlib.Omega.{arith}
 use lib.ListN.{length, getD, List·getD-map}
 use Rattle.paper.proofs.Relation.{both}
-use Rattle.meaning.specs.Card.{Bytes, byte, nodeFrom, nodeAt, nodes}
+use Rattle.meaning.specs.Trees.{Tree}
+use Rattle.meaning.specs.Card.{Bytes, byte, nodeFrom, nodeAt, nodes, trees}
 use Rattle.meaning.proofs.Nodes.{node-at}
-use Rattle.notation.specs.Conditions.{Tree, treesOf}
+use Rattle.notation.specs.Conditions.{treesOf}
 use Rattle.notation.specs.Lines.{Said, conditions}
 use Rattle.notation.specs.Built.{sizes, allNodes, built}
 use Rattle.notation.specs.Completed.{AllCompleted}
 use Rattle.notation.specs.Reading.{numbersFit, entriesFit}
-use Rattle.notation.specs.Printing.{trees}
 use Rattle.notation.specs.Theorems.{CompletedLaws, CompletedLaw}
 use Rattle.notation.proofs.MadeNodes.{all-nodes-sized, all-nodes-counted}
 use Rattle.notation.proofs.MadeWhole.{madeSaid}

@@ -7,8 +7,8 @@ use lib.ListN.{length, getD, length-append}
 use lib.Seq.{getD-at}
 use Rattle.meaning.specs.declared.Node.{Node}
 use Rattle.meaning.specs.Kinds.{nodeKind}
+use Rattle.meaning.specs.Trees.{Tree, true, believes, goal, not, and, or}
 use Rattle.meaning.specs.Card.{Bytes}
-use Rattle.notation.specs.Conditions.{Tree, true, believes, goal, not, and, or}
 use Rattle.notation.specs.Built.{size, sizes, own, node, nodesFrom, allNodes}
 use Rattle.notation.specs.Completed.{IsNode, Completed, the-true, a-belief, a-goal, a-not, an-and, an-or, AllCompleted, no-tree, next-tree}
 use Rattle.notation.proofs.MadeTrees.{some-node, nodes-counted}

@@ -7,8 +7,8 @@ use Prim.Native.Nat.{ℕ, _+_, _-_, _*_, _≤_}
 use native.Mathlib.Omega.{arith}
 use lib.Dec.{leb}
 use lib.ListN.{length, length-append}
+use Rattle.meaning.specs.Trees.{Tree}
 use Rattle.meaning.specs.Card.{Bytes}
-use Rattle.notation.specs.Conditions.{Tree}
 use Rattle.notation.specs.Built.{nodesFrom}
 use Rattle.notation.specs.Values.{Item, atoms-said, action-said, do-said, select-said, revise-said, begin-said}
 use Rattle.notation.specs.Making.{Sections, putNodes, putPool, putWeights, putSpecifications, putSelections, putRevisions, setFits, treeIn, planIn, weightIn, specificationIn, selectionIn, revisionIn, doIn, selectIn, reviseIn, beginIn, itemIn, itemsIn}

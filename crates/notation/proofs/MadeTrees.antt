@@ -10,9 +10,9 @@ use lib.Dec.{leb}
 use lib.ListN.{length, length-append}
 use Rattle.paper.specs.Next.{if}
 use Rattle.paper.proofs.Relation.{both}
+use Rattle.meaning.specs.Trees.{Tree, believes, goal, not, and, or}
 use Rattle.meaning.specs.Card.{Bytes}
 use Rattle.meaning.proofs.Every.{both-true}
-use Rattle.notation.specs.Conditions.{Tree, believes, goal, not, and, or}
 use Rattle.notation.specs.Built.{size, own, node, nodesFrom}
 use Rattle.notation.specs.Reading.{atomsFit}
 use Rattle.notation.specs.Making.{added, addedTo, lastNode, withTree}

@@ -9,7 +9,8 @@ use native.Mathlib.Omega.{arith}
 use lib.Dec.{leb}
 use lib.ListN.{length, length-append}
 use Rattle.meaning.specs.Place.{twoBytes}
-use Rattle.notation.specs.Conditions.{Tree, treesOf}
+use Rattle.meaning.specs.Trees.{Tree}
+use Rattle.notation.specs.Conditions.{treesOf}
 use Rattle.notation.specs.Lines.{Do, Select, Said, conditions}
 use Rattle.notation.specs.Built.{sizes, allNodes, setOf, pool, specifications, selections, revisions}
 use Rattle.notation.specs.Values.{atoms-said, action-said, do-said, select-said, revise-said, begin-said}

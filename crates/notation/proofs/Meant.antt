@@ -15,12 +15,13 @@ use Rattle.paper.proofs.Relation.{both}
 use Rattle.runs.specs.Order.{numbers}
 use Rattle.meaning.specs.declared.Layout.{Layout}
 use Rattle.meaning.specs.declared.Answer.the-variants.{Done}
+use Rattle.meaning.specs.Trees.{Tree}
 use Rattle.meaning.specs.Card.{Bytes, byte, numberAt, span, part, layout, weights, plan, specificationAt, selectionAt, revisionAt, specificationOf, selectionOf, revisionOf, agentOf, agentFor, agent, initialPlan, start}
 use Rattle.meaning.specs.Card as Card
 use Rattle.meaning.specs.Place.{twoBytes}
 use Rattle.meaning.specs.Refusals.{all, every, containing, specificationGood, selectionGood, revisionGood, rulesGood, cardAnswer}
 use Rattle.meaning.proofs.Accepted.{accepted}
-use Rattle.notation.specs.Conditions.{Tree, Condition, treesOf}
+use Rattle.notation.specs.Conditions.{Condition, treesOf}
 use Rattle.notation.specs.Lines.{Said, conditions}
 use Rattle.notation.specs.Built.{sizes, setOf, pool, specifications, selections, revisions, built}
 use Rattle.notation.specs.Reading.{numbersFit, entriesFit}

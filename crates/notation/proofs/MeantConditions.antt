@@ -5,16 +5,16 @@ use mathlib.Core.List.{List, [], _∷_, _++_, map, map-append}
 use Prim.Native.Nat.{ℕ}
 use lib.Dec.{eqb}
 use lib.ListN.{length, getD, length-map, List·getD-map}
-use Rattle.paper.specs.Language.{Letter, 𝐁, 𝐆, Query, ⊤, atom, ¬′, _∧′_, _∨′_}
+use Rattle.paper.specs.Language.{Letter, 𝐁, 𝐆}
 use Rattle.paper.proofs.Relation.{false≢true}
 use Rattle.meaning.specs.declared.Layout.{Layout}
 use Rattle.meaning.specs.declared.Node.{Node}
 use Rattle.meaning.specs.Kinds.{NodeKind, True, Believes, HasGoal, Not, And, Or, Unknown, nodeKind}
-use Rattle.meaning.specs.Card.{Bytes, passOn, pass, nodes, queryOf, conditions, condition}
+use Rattle.meaning.specs.Trees.{Tree, true, believes, goal, not, and, or, treeOf, queryOf}
+use Rattle.meaning.specs.Card.{Bytes, passOn, pass, nodes, trees, treeAt}
 use Rattle.meaning.specs.Refusals.{containsOf, containing, other}
 use Rattle.meaning.proofs.AtomKinds.{or-none}
-use Rattle.notation.specs.Conditions.{Tree, true, believes, goal, not, and, or}
-use Rattle.notation.specs.Printing.{treeOf, trees, treeAt}
+use Rattle.meaning.proofs.Nodes.{query-at}
 use Rattle.notation.specs.Meant.{treeOfQuery, OneTree}
 use Rattle.notation.proofs.MadeCompleted.{makeTree}
 
@@ -38,32 +38,9 @@ module _ {X Y : Type 0} (make : ℕ → Node → (ℕ → X) → X) (beyond : X)
   passed : (ns : List Node) → pass make′ (f beyond) ns ≡ map f (pass make beyond ns)
   passed ns = passed-on [] ns
 
--- ---- the query of a tree
+-- ---- the atoms of a tree
 
--- a tree as a query of a letter
-abbrev queryFor : (L : Letter) → Tree → Query L
-queryFor L true = ⊤
-queryFor 𝐁 (believes p) = atom p
-queryFor 𝐆 (believes p) = ⊤
-queryFor 𝐁 (goal p) = ⊤
-queryFor 𝐆 (goal p) = atom p
-queryFor L (not t) = ¬′ (queryFor L t)
-queryFor L (and l r) = queryFor L l ∧′ queryFor L r
-queryFor L (or l r) = queryFor L l ∨′ queryFor L r
-
-query-of : (L : Letter) (k : NodeKind) (a b : ℕ) (tree : ℕ → Tree)
-    → queryOf L k a b (λ j. queryFor L (tree j)) ≡ queryFor L (treeOf k a b tree)
-query-of L True a b tree = refl
-query-of 𝐁 Believes a b tree = refl
-query-of 𝐆 Believes a b tree = refl
-query-of 𝐁 HasGoal a b tree = refl
-query-of 𝐆 HasGoal a b tree = refl
-query-of L Not a b tree = refl
-query-of L And a b tree = refl
-query-of L Or a b tree = refl
-query-of L Unknown a b tree = refl
-
--- whether an atom of a kind stands in a tree
+-- whether one of a kind stands in it
 abbrev has : ℕ → Tree → Bool
 has kind true = Bool.false
 has kind (believes p) = eqb kind 1
@@ -82,14 +59,6 @@ has-of kind Or a b tree = refl
 has-of kind Unknown a b tree = refl
 
 module _ (l : Layout) (b : Bytes) where
-  query-trees : (L : Letter) → conditions L l b ≡ map (queryFor L) (trees l b)
-  unfolding conditions trees
-  query-trees L = passed makeTree true (λ i n q. queryOf L (nodeKind (n .kind)) (n .a) (n .b) q) (queryFor L) (λ i n q. query-of L (nodeKind (n .kind)) (n .a) (n .b) q) (nodes l b)
-
-  -- the condition of a node is its tree, read as a query
-  query-at : (L : Letter) (n : ℕ) → condition (conditions L l b) n ≡ queryFor L (treeAt l b n)
-  query-at L n = rw (query-trees L) (List·getD-map (queryFor L) (trees l b) n true)
-
   has-trees : (kind : ℕ) → containing kind l b ≡ map (has kind) (trees l b)
   unfolding containing trees
   has-trees kind = passed makeTree true (λ i n q. containsOf kind (nodeKind (n .kind)) (n .a) (n .b) q) (has kind) (λ i n q. has-of kind (nodeKind (n .kind)) (n .a) (n .b) q) (nodes l b)
@@ -100,7 +69,7 @@ module _ (l : Layout) (b : Bytes) where
 -- ---- a tree without atoms of the other letter
 
 -- is written as it is read
-as-written : (L : Letter) (t : Tree) → has (other L) t ≡ Bool.false → treeOfQuery L (queryFor L t) ≡ t
+as-written : (L : Letter) (t : Tree) → has (other L) t ≡ Bool.false → treeOfQuery L (queryOf L t) ≡ t
 as-written L true e = refl
 as-written 𝐁 (believes p) e = refl
 as-written 𝐆 (believes p) e = absurd (false≢true (sym e))
@@ -114,4 +83,4 @@ as-written L (or l r) e =
 
 pub one-tree : OneTree
 one-tree L l b n free =
-    ap (treeOfQuery L) (query-at l b L n) ∙ as-written L (treeAt l b n) (sym (has-at l b (other L) n) ∙ free)
+    ap (treeOfQuery L) (query-at L l b n) ∙ as-written L (treeAt l b n) (sym (has-at l b (other L) n) ∙ free)

@@ -16,14 +16,14 @@ use Rattle.meaning.specs.declared.Span.{Span}
 use Rattle.meaning.specs.declared.SpecificationEntry.{SpecificationEntry}
 use Rattle.meaning.specs.declared.SelectionEntry.{SelectionEntry}
 use Rattle.meaning.specs.declared.RevisionEntry.{RevisionEntry}
-use Rattle.meaning.specs.Card.{Bytes, byte, numberAt, span, part, plan, condition, specificationOf, selectionOf, revisionOf}
+use Rattle.meaning.specs.Trees.{Tree}
+use Rattle.meaning.specs.Card.{Bytes, byte, numberAt, span, part, plan, condition, specificationOf, selectionOf, revisionOf, treeAt}
 use Rattle.meaning.specs.Card as Card
 use Rattle.meaning.specs.Refusals.{all, containing, other, conditionGood, specificationGood, selectionGood, revisionGood}
-use Rattle.notation.specs.Conditions.{Tree, treesOf}
+use Rattle.notation.specs.Conditions.{treesOf}
 use Rattle.notation.specs.Lines.{Do, Select, Revise, Said, conditions}
 use Rattle.notation.specs.Built.{size, sizes, own, setOf, pool, specifications, selections, revisions, built}
 use Rattle.notation.specs.Reading.{numbersFit, entriesFit}
-use Rattle.notation.specs.Printing.{treeAt}
 use Rattle.notation.specs.Meant.{treeOfQuery, Specifies, Selects, Revises, InTurn, no-more, then}
 use Rattle.notation.specs.Making.{setFits}
 use Rattle.notation.proofs.MadeLists.{each-true}

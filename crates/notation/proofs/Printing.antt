@@ -12,16 +12,18 @@ use Rattle.meaning.specs.declared.Refusal.{Refusal}
 use Rattle.meaning.specs.declared.Answer.the-variants.{Done}
 use Rattle.meaning.specs.declared.Layout.{Layout}
 use borrow.Author.Tests.{ne-eqb, le-leb, lt-ltb}
-use Rattle.meaning.specs.Card.{Bytes, layout}
+use Rattle.meaning.specs.Trees.{Tree, true, believes, goal, and, or}
+use Rattle.meaning.specs.Trees as Trees
+use Rattle.meaning.specs.Card.{Bytes, layout, treeAt}
 use Rattle.meaning.specs.Refusals.{Row, _given-when_, firstGiven, andThen}
 use Rattle.meaning.specs.Calls.{roomFor, leavesBy}
 use Rattle.meaning.proofs.Tables.{not-given}
 use Rattle.notation.specs.Words.{word, Digits, Number, digits}
 use Rattle.notation.specs.Words as Words
-use Rattle.notation.specs.Conditions.{Tree, true, believes, goal, and, or, Condition, plain, joined, Unit, T, B, G, AndList, units, AndMore, last-unit, next-unit, OrList, and-lists, OrMore, last-list, next-list}
+use Rattle.notation.specs.Conditions.{Condition, plain, joined, Unit, T, B, G, AndList, units, AndMore, last-unit, next-unit, OrList, and-lists, OrMore, last-list, next-list}
 use Rattle.notation.specs.Conditions as Conditions
 use Rattle.notation.specs.Built.{size}
-use Rattle.notation.specs.Printing.{decimal, textAs, depthAs, deeperIf, decimalIn, depthOf, treeAt, printTable, printed, printAnswer, printLeaves}
+use Rattle.notation.specs.Printing.{decimal, textAs, depthAs, deeperIf, decimalIn, depthOf, printTable, printed, printAnswer, printLeaves}
 use Rattle.notation.specs.Theorems.{brackets, PrintLaws, PrintsAny}
 use Rattle.notation.specs.Cases.{printCases, PrintCases}
 use Rattle.notation.proofs.Decimals.{number-decimal}
@@ -71,7 +73,7 @@ unfolding textAs depthAs
 reads true = of-unit T refl refl refl refl
 reads (believes n) = of-unit (B (number-decimal n)) refl refl refl refl
 reads (goal n) = of-unit (G (number-decimal n)) refl refl refl refl
-reads (Conditions.not t) = of-unit (Conditions.! (reads t .as-unit)) refl refl refl refl
+reads (Trees.not t) = of-unit (Conditions.! (reads t .as-unit)) refl refl refl refl
 reads (and l r) =
     let x = and-behind (reads l .as-and) (reads r .as-unit) in
     record { as-unit = Conditions.brackets (one-list x); as-and = x; as-or = one-list x }
@@ -131,7 +133,7 @@ unfolding textAs depthAs
 wants true = record { depth-and = omega arith; depth-unit = omega arith; depth-one = omega arith; text-and = omega arith; text-unit = omega arith; text-one = omega arith }
 wants (believes n) = record { depth-and = omega arith; depth-unit = omega arith; depth-one = omega arith; text-and = omega arith; text-unit = omega arith; text-one = omega arith }
 wants (goal n) = record { depth-and = omega arith; depth-unit = omega arith; depth-one = omega arith; text-and = omega arith; text-unit = omega arith; text-one = omega arith }
-wants (Conditions.not t) = record { depth-and = omega arith; depth-unit = omega arith; depth-one = omega arith; text-and = omega arith; text-unit = omega arith; text-one = omega arith }
+wants (Trees.not t) = record { depth-and = omega arith; depth-unit = omega arith; depth-one = omega arith; text-and = omega arith; text-unit = omega arith; text-one = omega arith }
 wants (and l r) =
     let e = one-bracket (textAs 1 l ++ (word "&" ++ textAs 2 r)) in
     record { depth-and = omega arith; depth-unit = omega arith; depth-one = omega arith; text-and = omega arith; text-unit = omega arith; text-one = omega arith }

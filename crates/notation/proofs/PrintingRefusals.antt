@@ -9,13 +9,13 @@ use lib.ListN.{length}
 use Rattle.meaning.specs.declared.Refusal.{Refusal}
 use Rattle.meaning.specs.declared.Answer.{Answer}
 use Rattle.meaning.specs.declared.Answer.the-variants.{Done, Refused}
-use Rattle.meaning.specs.Card.{Bytes, layout}
+use Rattle.meaning.specs.Trees.{Tree}
+use Rattle.meaning.specs.Card.{Bytes, layout, treeAt}
 use Rattle.meaning.specs.Refusals.{numberOf, answerNumber, firstGiven, andThen, cardAnswer}
 use Rattle.meaning.specs.Calls.{roomFor}
 use Rattle.meaning.proofs.Tables.{and-then-done}
-use Rattle.notation.specs.Conditions.{Tree}
 use Rattle.notation.specs.Built.{size}
-use Rattle.notation.specs.Printing.{treeAt, depthOf, printTable, printed, printAnswer}
+use Rattle.notation.specs.Printing.{depthOf, printTable, printed, printAnswer}
 use Rattle.notation.specs.Theorems.{KnownNode, PrintRefusalsLaw}
 use Rattle.notation.proofs.Laws.{card-below, same-number}
 

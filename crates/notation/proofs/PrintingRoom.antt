@@ -1,5 +1,5 @@
 -- How long a printed text is at most.
-use mathlib.Core.Path.{_≡_, refl, ap, ap₂}
+use mathlib.Core.Path.{_≡_, refl}
 use mathlib.Core.Bool.{Bool}
 use mathlib.Core.List.{[], _∷_, _++_}
 use Prim.Native.Nat.{ℕ, zero, suc, _+_, _*_, _/_, _%_, _≤_, _<_}
@@ -10,16 +10,16 @@ use native.Mathlib.Decide.{decLe}
 use lib.Dec.{ltb}
 use lib.ListN.{length, length-append}
 use Rattle.meaning.specs.declared.Layout.{Layout}
-use Rattle.meaning.specs.Kinds.{NodeKind, nodeKind}
-use Rattle.meaning.specs.Card.{Bytes, layout, nodeAt}
+use Rattle.meaning.specs.Kinds.{NodeKind}
+use Rattle.meaning.specs.Trees.{Tree, true, believes, goal, not, and, or, treeOf}
+use Rattle.meaning.specs.Card.{Bytes, layout, nodeAt, treeAt}
 use Rattle.meaning.specs.Refusals.{nodesGood}
 use Rattle.meaning.proofs.Accepted.{accepted, counts}
 use Rattle.meaning.proofs.NodeKinds.{is-true, is-belief, is-goal, is-not, is-and, is-or, Known, leaf, inner, known-kind}
-use Rattle.meaning.proofs.Nodes.{Rule, node-rule, made-of}
+use Rattle.meaning.proofs.Nodes.{Rule, node-rule, tree-at}
 use Rattle.notation.specs.Words.{word}
-use Rattle.notation.specs.Conditions.{Tree, true, believes, goal, not, and, or}
 use Rattle.notation.specs.Built.{size}
-use Rattle.notation.specs.Printing.{treeOf, trees, treeAt, decimal, bracketsIf, textAs, printed}
+use Rattle.notation.specs.Printing.{decimal, bracketsIf, textAs, printed}
 use Rattle.notation.specs.Theorems.{PrintRoom}
 use Rattle.notation.proofs.Decimals.{decimal-one, decimal-more}
 
@@ -82,15 +82,6 @@ long w (or l r) h = long-operator (ltb 0 w) or l r (code "|") (textAs 0 l) (text
 
 -- ---- the atoms of an accepted card
 
-tree-children : {k : ℕ} {κ : NodeKind} → Known k κ → (a b : ℕ) (q q′ : ℕ → Tree) → (3 ≤ k → q a ≡ q′ a) → (4 ≤ k → q b ≡ q′ b)
-    → treeOf κ a b q ≡ treeOf κ a b q′
-tree-children (leaf is-true) a b q q′ f s = refl
-tree-children (leaf is-belief) a b q q′ f s = refl
-tree-children (leaf is-goal) a b q q′ f s = refl
-tree-children (inner is-not) a b q q′ f s = ap not (f (omega arith))
-tree-children (inner is-and) a b q q′ f s = ap₂ and (f (omega arith)) (s (omega arith))
-tree-children (inner is-or) a b q q′ f s = ap₂ or (f (omega arith)) (s (omega arith))
-
 low-node : (n i : ℕ) {k : ℕ} {κ : NodeKind} → Known k κ → (a b : ℕ) (q : ℕ → Tree) → n ≤ 128 → Rule n i k a b
     → ((j : ℕ) → j < i → Low (q j)) → Low (treeOf κ a b q)
 low-node n i (leaf is-true) a b q h r below = tt
@@ -101,16 +92,11 @@ low-node n i (inner is-and) a b q h r below = (below a (r .first (omega arith)),
 low-node n i (inner is-or) a b q h r below = (below a (r .first (omega arith)), below b (r .second (omega arith)))
 
 module _ (l : Layout) (b : Bytes) (good : nodesGood l b ≡ Bool.true) (few : l .atoms ≤ 128) where
-  tree-at : (i : ℕ) → i < l .nodes .count
-      → treeAt l b i ≡ treeOf (nodeKind (nodeAt l b i .kind)) (nodeAt l b i .a) (nodeAt l b i .b) (treeAt l b)
-  unfolding trees
-  tree-at i h = made-of l b good i h (λ i. treeOf) true (λ i k κ. tree-children)
-
   low-below : (m i : ℕ) → i < m → i < l .nodes .count → Low (treeAt l b i)
   low-below zero i g h = absurd (not-suc-le-zero g)
   low-below (suc m) i g h =
       let r = node-rule l b good i h in
-      rw (tree-at i h)
+      rw (tree-at l b good i h)
       (low-node (l .atoms) i (known-kind (nodeAt l b i .kind) (r .kinds)) (nodeAt l b i .a) (nodeAt l b i .b) (treeAt l b) few r
       (λ j lower. low-below m j (omega arith) (omega arith)))
 

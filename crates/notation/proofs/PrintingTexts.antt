@@ -9,14 +9,15 @@ use lib.Dec.{leb}
 use lib.ListN.{length}
 use Rattle.paper.proofs.Relation.{both}
 use Rattle.meaning.specs.declared.Answer.the-variants.{Done}
-use Rattle.meaning.specs.Card.{Bytes, layout}
+use Rattle.meaning.specs.Trees.{Tree, true, believes, goal, not, and, or}
+use Rattle.meaning.specs.Card.{Bytes, layout, trees, treeAt}
 use Rattle.meaning.specs.Refusals.{all}
 use Rattle.meaning.proofs.Every.{both-true, all-at}
-use Rattle.notation.specs.Conditions.{Tree, true, believes, goal, not, and, or, Condition, OrList, treesOf}
+use Rattle.notation.specs.Conditions.{Condition, OrList, treesOf}
 use Rattle.notation.specs.Lines.{Do, Select, Revise, Said, Text, card, Lines, none, note, line, DoLine, does, SelectLine, selects, ReviseLine, revises, conditions}
 use Rattle.notation.specs.Built.{size, sizes, built}
 use Rattle.notation.specs.Reading.{numbersFit, entriesFit}
-use Rattle.notation.specs.Printing.{trees, treeAt, depthAs, depthOf, printed, printAnswer}
+use Rattle.notation.specs.Printing.{depthAs, depthOf, printed, printAnswer}
 use Rattle.notation.specs.Theorems.{TextPrints}
 use Rattle.notation.proofs.MadeLists.{all-both, three-true}
 use Rattle.notation.proofs.MadeFits.{entries-each}

@@ -8,10 +8,11 @@ use native.Mathlib.Omega.{arith}
 use borrow.Author.Tests.{le-leb}
 use lib.Dec.{eqb, leb, leb·zero, leb·suc-zero, leb·suc-suc}
 use lib.ListN.{length, drop}
+use Rattle.meaning.specs.Trees.{Tree, and, or}
+use Rattle.meaning.specs.Trees as Trees
 use Rattle.meaning.specs.Card.{Bytes}
 use Rattle.notation.specs.Words.{Number}
-use Rattle.notation.specs.Conditions.{Tree, Condition, plain, negated, bracketed, joined, and, or, Unit, T, B, G, !, brackets, AndList, units, AndMore, last-unit, next-unit, OrList, and-lists, last-list, next-list}
-use Rattle.notation.specs.Conditions as Conditions
+use Rattle.notation.specs.Conditions.{Condition, plain, negated, bracketed, joined, Unit, T, B, G, !, brackets, AndList, units, AndMore, last-unit, next-unit, OrList, and-lists, last-list, next-list}
 use Rattle.notation.proofs.Following.{Stops}
 use Rattle.notation.proofs.Deriving.{eqb-same}
 use Rattle.notation.specs.Values.{Read, nested, got, then, more, several, unitOf, andListOf, orListOf, numberValue, digitsRest}
@@ -94,25 +95,25 @@ record OrMoreReads (w : Bytes) (c e : Condition) : Type 0 where
 shallowest : (left : ℕ) (t : Tree) (v : Bytes) → got (plain t) v ≡ readOf left (plain t) v
 shallowest left t v = sym (if-yes (got (plain t) v) nested (leb·zero left))
 
-true-read : UnitReads (84 ∷ []) (plain Conditions.true)
+true-read : UnitReads (84 ∷ []) (plain Trees.true)
 unfolding unitOf
-true-read zero v s = shallowest zero Conditions.true v
-true-read (suc left) v s = shallowest (suc left) Conditions.true v
+true-read zero v s = shallowest zero Trees.true v
+true-read (suc left) v s = shallowest (suc left) Trees.true v
 
 module _ {u : Bytes} {n : ℕ} (h : Number u n) where
   number-got : (tree : ℕ → Tree) (left : ℕ) (v : Bytes) → Stops v → got (plain (tree (numberValue (u ++ v)))) (digitsRest (u ++ v)) ≡ readOf left (plain (tree n)) v
   number-got tree left v s =
       ap (λ k. got (plain (tree k)) (digitsRest (u ++ v))) (number-read v h s) ∙ ap (got (plain (tree n))) (number-left v h s) ∙ shallowest left (tree n) v
 
-  believes-read : UnitReads (66 ∷ u) (plain (Conditions.believes n))
+  believes-read : UnitReads (66 ∷ u) (plain (Trees.believes n))
   unfolding unitOf
-  believes-read zero v s = number-got Conditions.believes zero v s
-  believes-read (suc left) v s = number-got Conditions.believes (suc left) v s
+  believes-read zero v s = number-got Trees.believes zero v s
+  believes-read (suc left) v s = number-got Trees.believes (suc left) v s
 
-  goal-read : UnitReads (71 ∷ u) (plain (Conditions.goal n))
+  goal-read : UnitReads (71 ∷ u) (plain (Trees.goal n))
   unfolding unitOf
-  goal-read zero v s = number-got Conditions.goal zero v s
-  goal-read (suc left) v s = number-got Conditions.goal (suc left) v s
+  goal-read zero v s = number-got Trees.goal zero v s
+  goal-read (suc left) v s = number-got Trees.goal (suc left) v s
 
 -- "!" and "(", of a condition that nests n deep
 too-deep : (d : Condition) (v : Bytes) (n : ℕ) → d .depth ≡ suc n → _≡_ {A = Read Condition} nested (readOf zero d v)

@@ -4,9 +4,10 @@ use Prim.Native.Nat.{ℕ, _+_, _-_, _/_, _%_, _^_}
 use lib.ListN.{length, replicate}
 use Rattle.paper.specs.Atoms.{Atoms, _∪_}
 use Rattle.meaning.specs.Sizes.{edition1Set}
+use Rattle.meaning.specs.Trees.{Tree, true, believes, goal, not, and, or}
 use Rattle.meaning.specs.Card.{Bytes}
 use Rattle.meaning.specs.Place.{twoBytes}
-use Rattle.notation.specs.Conditions.{Tree, true, believes, goal, not, and, or, treesOf}
+use Rattle.notation.specs.Conditions.{treesOf}
 use Rattle.meaning.specs.Assembled.{assembled}
 use Rattle.notation.specs.Lines.{Do, Select, Revise, Said, conditions, plans}
 

@@ -7,13 +7,13 @@ use Prim.Native.String.{String}
 use lib.ListN.{replicate}
 use Rattle.meaning.specs.declared.Refusal.{Refusal}
 use Rattle.meaning.specs.declared.Answer.the-variants.{Done, Refused}
+use Rattle.meaning.specs.Trees.{Tree, true, believes, goal, not, and, or}
 use Rattle.meaning.specs.Card.{Bytes}
 use Rattle.meaning.specs.Assembled.{assembled}
 use Rattle.meaning.specs.Calls.{loads, runs}
 use Rattle.meaning.specs.Stripe.{set, specification, selection, revision}
 use Rattle.meaning.specs.Cases.{shownRun}
 use Rattle.notation.specs.Words.{word, LF}
-use Rattle.notation.specs.Conditions.{Tree, true, believes, goal, not, and, or}
 use Rattle.notation.specs.Built.{node}
 use Rattle.notation.specs.Reading.{Reads}
 use Rattle.notation.specs.Printing.{textOf}

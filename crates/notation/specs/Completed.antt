@@ -4,7 +4,7 @@ use mathlib.Core.List.{List, [], _∷_}
 use Prim.Native.Nat.{ℕ, suc}
 use Rattle.meaning.specs.declared.Node.{Node}
 use Rattle.meaning.specs.Kinds.{NodeKind, True, Believes, HasGoal, Not, And, Or, nodeKind}
-use Rattle.notation.specs.Conditions.{Tree, true, believes, goal, not, and, or}
+use Rattle.meaning.specs.Trees.{Tree, true, believes, goal, not, and, or}
 
 -- A node of a kind, with its a and b. 01, "The card, edition 1": "Node, 4 bytes: kind, a, b, 0."
 abbrev pub IsNode : Node → NodeKind → ℕ → ℕ → Type 0

@@ -1,16 +1,9 @@
 -- docs/TEXT.md: the grammar of a condition, with the tree that it stands for and how deep brackets and `!` nest in it.
 use mathlib.Core.List.{List, [], _++_, map}
 use Prim.Native.Nat.{ℕ, suc, max}
+use Rattle.meaning.specs.Trees.{Tree, true, believes, goal, not, and, or}
 use Rattle.meaning.specs.Card.{Bytes}
 use Rattle.notation.specs.Words.{word, Number}
-
--- 01, "A configuration and its transitions", Conditions: "true; "believes p" …; "has goal p" …; not; and; or", with an atom of any
--- number.
-pub data Tree : Type 0 where
-  true : Tree
-  believes goal : ℕ → Tree
-  not : Tree → Tree
-  and or : Tree → Tree → Tree
 
 -- A condition as it is written: its tree, and 02, Wish 2: "brackets and `!` together may nest 32 deep": how deep they do.
 pub record Condition : Type 0 where

@@ -7,10 +7,10 @@ use lib.Dec.{leb}
 use lib.ListN.{length, replicate}
 use Rattle.paper.specs.Next.{if}
 use Rattle.meaning.specs.Sizes.{edition1Set, headerBytes, specificationBytes}
+use Rattle.meaning.specs.Trees.{Tree, true, believes, goal, not, and, or}
 use Rattle.meaning.specs.Card.{Bytes}
 use Rattle.meaning.specs.Place.{twoBytes}
 use Rattle.meaning.specs.Refusals.{all}
-use Rattle.notation.specs.Conditions.{Tree, true, believes, goal, not, and, or}
 use Rattle.notation.specs.Lines.{Do, Select, Revise, Begin, Said}
 use Rattle.notation.specs.Built.{node, setOf}
 use Rattle.notation.specs.Values.{Item, atoms-said, action-said, do-said, select-said, revise-said, begin-said}

@@ -11,13 +11,12 @@ use Rattle.paper.specs.Transitions.{struckBy}
 use Rattle.runs.specs.Order.{State}
 use Rattle.meaning.specs.declared.Answer.the-variants.{Done}
 use Rattle.meaning.specs.declared.Layout.{Layout}
-use Rattle.meaning.specs.Card.{Bytes, layout, conditions, condition, weights, agent, initialBeliefs, initialGoals, start}
+use Rattle.meaning.specs.Trees.{Tree, true, believes, goal, not, and, or}
+use Rattle.meaning.specs.Card.{Bytes, layout, conditions, condition, weights, agent, initialBeliefs, initialGoals, start, treeAt}
 use Rattle.meaning.specs.Refusals.{containing, other}
-use Rattle.notation.specs.Conditions.{Tree, true, believes, goal, not, and, or}
 use Rattle.notation.specs.Lines.{Do, Select, Revise, Begin, Said, Text}
 use Rattle.notation.specs.Built.{setOf}
 use Rattle.notation.specs.Reading.{Reads}
-use Rattle.notation.specs.Printing.{treeAt}
 
 -- 01, "A configuration and its transitions": "Conditions (004, Definitions 3 and 8)": the tree that a belief query or a goal query
 -- is written as.

@@ -1,44 +1,22 @@
 -- What printing a condition answers (02, Wish 2; docs/TEXT.md, "The printer"), and what the lent buffer then holds.
+use mathlib.Core.Path.{_≡_}
 use mathlib.Core.Bool.{Bool, not}
 use mathlib.Core.List.{List, [], _∷_, _++_}
 use Prim.Native.Nat.{ℕ, zero, suc, max, _+_, _/_, _%_}
 use Prim.Native.Char.{code}
 use lib.Dec.{leb, ltb}
-use lib.ListN.{getD}
 use Rattle.meaning.specs.declared.Refusal.{Refusal}
 use Rattle.meaning.specs.declared.Answer.{Answer}
 use Rattle.meaning.specs.declared.Layout.{Layout}
-use Rattle.meaning.specs.Kinds.{NodeKind, True, Believes, HasGoal, Not, And, Or, Unknown, nodeKind}
-use Rattle.meaning.specs.Card.{Bytes, layout, nodes, pass}
+use Rattle.meaning.specs.Trees.{Tree, true, believes, goal, and, or}
+use Rattle.meaning.specs.Trees as Trees
+use Rattle.meaning.specs.Card.{Bytes, layout, treeAt}
 use Rattle.meaning.specs.Refusals.{Row, _given-when_, firstGiven, andThen, cardAnswer}
 use Rattle.meaning.specs.Calls.{roomFor, countBy, leavesBy}
 use Rattle.notation.specs.Words.{word}
-use Rattle.notation.specs.Conditions.{Tree, true, believes, goal, and, or}
-use Rattle.notation.specs.Conditions as Conditions
 use Rattle.notation.specs.Built.{size}
 
--- ---- the tree of a node
-
--- 01, "The card, edition 1": "Kind 0 true …; 1 believes a; 2 has goal a …; 3 not a …; 4 a and b; 5 a or b.", by the trees of the
--- lower nodes. What is no such node is "true" (docs/DECISIONS.md, "An unknown node or kind in the definitions").
-abbrev pub treeOf : NodeKind → ℕ → ℕ → (ℕ → Tree) → Tree
-treeOf True a b tree = true
-treeOf Believes a b tree = believes a
-treeOf HasGoal a b tree = goal a
-treeOf Not a b tree = Conditions.not (tree a)
-treeOf And a b tree = and (tree a) (tree b)
-treeOf Or a b tree = or (tree a) (tree b)
-treeOf Unknown a b tree = true
-
--- 02, Wish 2: "the same tree": what each node stands for, in one pass.
-unfoldable pub trees : Layout → Bytes → List Tree
-trees l b = pass (λ i n tree. treeOf (nodeKind (n .kind)) (n .a) (n .b) tree) true (nodes l b)
-
--- The tree of a node, by its number.
-abbrev pub treeAt : Layout → Bytes → ℕ → Tree
-treeAt l b n = getD (trees l b) n true
-
--- ---- its text
+-- ---- the text of a tree
 
 -- docs/TEXT.md: "Numbers have no zeros in front.": a number of at most so many digits.
 unfoldable pub decimalIn : ℕ → ℕ → Bytes
@@ -62,7 +40,7 @@ unfoldable pub textAs : ℕ → Tree → Bytes
 textAs wanted true = word "T"
 textAs wanted (believes n) = word "B" ++ decimal n
 textAs wanted (goal n) = word "G" ++ decimal n
-textAs wanted (Conditions.not t) = word "!" ++ textAs 2 t
+textAs wanted (Trees.not t) = word "!" ++ textAs 2 t
 textAs wanted (and l r) = bracketsIf (ltb 1 wanted) (textAs 1 l ++ (word "&" ++ textAs 2 r))
 textAs wanted (or l r) = bracketsIf (ltb 0 wanted) (textAs 0 l ++ (word "|" ++ textAs 1 r))
 
@@ -82,7 +60,7 @@ unfoldable pub depthAs : ℕ → Tree → ℕ
 depthAs wanted true = 0
 depthAs wanted (believes n) = 0
 depthAs wanted (goal n) = 0
-depthAs wanted (Conditions.not t) = suc (depthAs 2 t)
+depthAs wanted (Trees.not t) = suc (depthAs 2 t)
 depthAs wanted (and l r) = deeperIf (ltb 1 wanted) (max (depthAs 1 l) (depthAs 2 r))
 depthAs wanted (or l r) = deeperIf (ltb 0 wanted) (max (depthAs 0 l) (depthAs 1 r))
 
@@ -114,3 +92,10 @@ printCount b n out = countBy (printAnswer b n out) (printed b n)
 
 unfoldable pub printLeaves : Bytes → ℕ → Bytes → Bytes
 printLeaves b n out = leavesBy (printAnswer b n out) (printed b n) out
+
+-- 02, Wish 2: "a printer writes any condition": node n of the card b, into the lent buffer out; the answer, the count, and what
+-- the buffer then holds.
+pub record Prints (b : Bytes) (n : ℕ) (out : Bytes) (a : Answer) (count : ℕ) (left : Bytes) : Type 0 where
+  pub answer : a ≡ printAnswer b n out
+  pub counted : count ≡ printCount b n out
+  pub leaves : left ≡ printLeaves b n out

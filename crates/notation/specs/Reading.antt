@@ -8,10 +8,11 @@ use lib.ListN.{length, take}
 use Rattle.meaning.specs.declared.Refusal.{Refusal}
 use Rattle.meaning.specs.declared.Answer.{Answer}
 use Rattle.meaning.specs.declared.Answer.the-variants.{Done, Refused}
+use Rattle.meaning.specs.Trees.{Tree, true, believes, goal, and, or}
+use Rattle.meaning.specs.Trees as Trees
 use Rattle.meaning.specs.Card.{Bytes}
 use Rattle.meaning.specs.Refusals.{Row, _given-when_, firstGiven, andThen, all, cardAnswer}
 use Rattle.meaning.specs.Calls.{over, roomFor}
-use Rattle.notation.specs.Conditions.{Tree, true, believes, goal, and, or}
 use Rattle.notation.specs.Conditions as Conditions
 use Rattle.notation.specs.Lines.{Said, Text, conditions, plans, sets}
 use Rattle.notation.specs.Built.{pool, sizes, built}
@@ -45,7 +46,7 @@ abbrev pub atomsFit : Tree → Bool
 atomsFit true = Bool.true
 atomsFit (believes n) = leb n 255
 atomsFit (goal n) = leb n 255
-atomsFit (Conditions.not t) = atomsFit t
+atomsFit (Trees.not t) = atomsFit t
 atomsFit (and l r) = atomsFit l && atomsFit r
 atomsFit (or l r) = atomsFit l && atomsFit r
 

@@ -11,16 +11,17 @@ use lib.ListN.{length, take, drop}
 use Rattle.meaning.specs.declared.Refusal.{Refusal}
 use Rattle.meaning.specs.declared.Answer.{Answer}
 use Rattle.meaning.specs.declared.Answer.the-variants.{Done, Refused}
-use Rattle.meaning.specs.Card.{Bytes, layout, nodeAt}
+use Rattle.meaning.specs.Trees.{Tree}
+use Rattle.meaning.specs.Card.{Bytes, layout, nodeAt, treeAt}
 use Rattle.meaning.specs.Refusals.{numberOf, Row, firstGiven, cardTable, cardAnswer}
 use Rattle.meaning.specs.Calls.{over}
 use Rattle.meaning.specs.Theorems.{rowNumbers}
-use Rattle.notation.specs.Conditions.{Tree, Condition, OrList, treesOf}
+use Rattle.notation.specs.Conditions.{Condition, OrList, treesOf}
 use Rattle.notation.specs.Lines.{Said, Text, conditions}
 use Rattle.notation.specs.Built.{size, own, sizes, built}
 use Rattle.notation.specs.Completed.{AllCompleted}
 use Rattle.notation.specs.Reading.{Derived, WrongAt, shallow, numbersFit, entriesFit, Reads}
-use Rattle.notation.specs.Printing.{treeAt, textOf, depthOf, deeperIf, printed, printAnswer, printLeaves}
+use Rattle.notation.specs.Printing.{textOf, depthOf, deeperIf, printed, printAnswer, printLeaves}
 
 -- ---- the grammar
 

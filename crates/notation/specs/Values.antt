@@ -7,9 +7,10 @@ use Prim.Native.Char.{code}
 use lib.Dec.{eqb}
 use lib.ListN.{length, drop}
 use Rattle.paper.specs.Next.{if}
+use Rattle.meaning.specs.Trees.{Tree, true, believes, goal, and, or}
 use Rattle.meaning.specs.Card.{Bytes}
 use Rattle.notation.specs.Words.{LF}
-use Rattle.notation.specs.Conditions.{Tree, true, believes, goal, and, or, Condition, plain, negated, bracketed, joined}
+use Rattle.notation.specs.Conditions.{Condition, plain, negated, bracketed, joined}
 use Rattle.notation.specs.Lines.{Do, Select, Revise, Begin}
 use Rattle.notation.specs.Scanning.{digit}
 

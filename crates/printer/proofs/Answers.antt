@@ -12,7 +12,8 @@ use Rattle.meaning.specs.declared.Answer.{Answer}
 use Rattle.meaning.specs.declared.Answer.the-variants.{Done, Refused}
 use Rattle.meaning.specs.declared.Layout.{Layout}
 use Rattle.meaning.specs.declared.Checked.{Checked}
-use Rattle.meaning.specs.Card.{Bytes, layout}
+use Rattle.meaning.specs.Trees.{Tree}
+use Rattle.meaning.specs.Card.{Bytes, layout, treeAt}
 use Rattle.meaning.specs.Refusals.{Row, _given-when_, firstGiven, andThen}
 use Rattle.meaning.specs.Calls.{over, roomFor, checks, countBy, leavesBy}
 use Rattle.meaning.proofs.Tables.{given, not-given, and-then-done}
@@ -20,9 +21,8 @@ use Rattle.meaning.proofs.Calls.{good-judged, refused-judged}
 use Rattle.card.specs.Rows.{rowAnswer, rowsFrom}
 use Rattle.card.specs.GoodCard.{GoodCard}
 use Rattle.card.proofs.Rows.{row-done, no-row}
-use Rattle.notation.specs.Conditions.{Tree}
 use Rattle.notation.specs.Built.{size}
-use Rattle.notation.specs.Printing.{treeAt, depthOf, printTable, printed, printAnswer, printCount, printLeaves}
+use Rattle.notation.specs.Printing.{depthOf, printTable, printed, printAnswer, printCount, printLeaves, Prints}
 use Rattle.printer.specs.Measures.{Right}
 use Rattle.printer.specs.Answers.{nodeText, nodeAnswer, NodePrinted}
 use Rattle.printer.proofs.Writing.{short}
@@ -153,15 +153,11 @@ module _ (l : Layout) (b : Bytes) (n : ℕ) (out : Bytes) where
 -- ---- any card
 
 module _ (b : Bytes) (n : ℕ) (out : Bytes) where
-  -- what an answer, a count and a lent buffer are to be
-  abbrev Printed : Answer → ℕ → Bytes → Type 0
-  Printed a m out′ = ((a ≡ printAnswer b n out) × (m ≡ printCount b n out)) × (out′ ≡ printLeaves b n out)
-
-  refused : (r : Refusal) (a : Answer) → a ≡ Refused r → printAnswer b n out ≡ Refused r → Printed a 0 out
+  refused : (r : Refusal) (a : Answer) → a ≡ Refused r → printAnswer b n out ≡ Refused r → Prints b n out a 0 out
   unfolding printCount printLeaves
-  refused r a so e = ((so ∙ sym e, ap (λ a. countBy a (printed b n)) (sym e)), ap (λ a. leavesBy a (printed b n) out) (sym e))
+  refused r a so e = record { answer = so ∙ sym e; counted = ap (λ a. countBy a (printed b n)) (sym e); leaves = ap (λ a. leavesBy a (printed b n) out) (sym e) }
 
-  pub card-refused : (r : Refusal) (a : Answer) → checks b ≡ Checked.Refused r → a ≡ Refused r → Printed a 0 out
+  pub card-refused : (r : Refusal) (a : Answer) → checks b ≡ Checked.Refused r → a ≡ Refused r → Prints b n out a 0 out
   unfolding printAnswer
   card-refused r a e so =
       refused r a so (ap (λ a. andThen a (andThen (firstGiven (printTable (layout b) b) n) (roomFor (printed b n) out))) (refused-judged b r e))
@@ -184,16 +180,16 @@ module _ (b : Bytes) (n : ℕ) (out : Bytes) where
       by-row : printAnswer b n out ≡ andThen v (nodeAnswer l b n out)
       by-row = answer-is ∙ ap (λ a. andThen a (nodeAnswer l b n out)) (sym row)
 
-      pub no-such-node : (r : Refusal) → v ≡ Refused r → Printed v 0 out
+      pub no-such-node : (r : Refusal) → v ≡ Refused r → Prints b n out v 0 out
       no-such-node r so = refused r v so (by-row ∙ ap (λ a. andThen a (nodeAnswer l b n out)) so)
 
       module _ (so : v ≡ Done) where
         pub such-node : n < l .nodes .count
         such-node = ltb-true n (l .nodes .count) (row-done (ltb n (l .nodes .count)) Refusal.Rule (sym row ∙ so))
 
-        pub node-printed : (a : Answer) (m : ℕ) (out′ : Bytes) → NodePrinted l b n out a m out′ → Printed a m out′
+        pub node-printed : (a : Answer) (m : ℕ) (out′ : Bytes) → NodePrinted l b n out a m out′ → Prints b n out a m out′
         unfolding printCount printLeaves
         node-printed a m out′ p =
             let f : nodeAnswer l b n out ≡ printAnswer b n out = sym (by-row ∙ ap (λ a. andThen a (nodeAnswer l b n out)) so) in
             let g : nodeText l b n ≡ printed b n = sym text-is in
-            ((p .answer ∙ f, p .count ∙ (λ i. countBy (f i) (g i))), p .leaves ∙ (λ i. leavesBy (f i) (g i) out))
+            record { answer = p .answer ∙ f; counted = p .count ∙ (λ i. countBy (f i) (g i)); leaves = p .leaves ∙ (λ i. leavesBy (f i) (g i) out) }

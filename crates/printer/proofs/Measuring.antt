@@ -8,15 +8,16 @@ use lib.ListN.{length, getD, set, replicate, length-set, length-replicate}
 use Rattle.meaning.specs.declared.Layout.{Layout}
 use Rattle.meaning.specs.declared.Node.{Node}
 use Rattle.meaning.specs.Kinds.{nodeKind}
-use Rattle.meaning.specs.Card.{Bytes, nodeAt}
+use Rattle.meaning.specs.Trees.{treeOf}
+use Rattle.meaning.specs.Card.{Bytes, nodeAt, treeAt}
 use Rattle.meaning.specs.Refusals.{nodesGood}
 use Rattle.meaning.proofs.NodeKinds.{Known, known-kind}
-use Rattle.meaning.proofs.Nodes.{node-rule}
+use Rattle.meaning.proofs.Nodes.{node-rule, tree-at}
 use Rattle.sets.proofs.Loops.{below-turn}
 use Rattle.notation.specs.Built.{size}
-use Rattle.notation.specs.Printing.{textAs, depthAs, textOf, depthOf, treeOf, treeAt}
+use Rattle.notation.specs.Printing.{textAs, depthAs, textOf, depthOf}
 use Rattle.printer.specs.Measures.{around, sizeBy, depthBy, lengthBy, Right, MeasuredTo}
-use Rattle.printer.proofs.Trees.{some-node, tree-at, depth-around, length-around, size-capped, depth-capped, length-capped}
+use Rattle.printer.proofs.Trees.{some-node, depth-around, length-around, size-capped, depth-capped, length-capped}
 
 pub measured-none : (l : Layout) (b : Bytes) (sizes depths lengths : List ℕ) → sizes ≡ replicate 256 0 → depths ≡ replicate 256 0 → lengths ≡ replicate 256 0 → MeasuredTo l b sizes depths lengths 0
 measured-none l b sizes depths lengths e f g =

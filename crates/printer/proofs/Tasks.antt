@@ -10,17 +10,18 @@ use lib.ListN.{length, length-append}
 use Rattle.meaning.specs.declared.Layout.{Layout}
 use Rattle.meaning.specs.declared.Node.{Node}
 use Rattle.meaning.specs.Kinds.{NodeKind, True, Believes, HasGoal, Not, And, Or, Unknown, nodeKind}
-use Rattle.meaning.specs.Card.{Bytes, nodeAt}
+use Rattle.meaning.specs.Trees.{treeOf}
+use Rattle.meaning.specs.Card.{Bytes, nodeAt, treeAt}
 use Rattle.meaning.proofs.NodeKinds.{is-true, is-belief, is-goal, is-not, is-and, is-or, Known, leaf, inner, known-kind}
-use Rattle.meaning.proofs.Nodes.{Rule, node-rule}
+use Rattle.meaning.proofs.Nodes.{Rule, node-rule, tree-at}
 use Rattle.card.specs.GoodCard.{GoodCard}
 use Rattle.notation.specs.Built.{size}
-use Rattle.notation.specs.Printing.{decimal, bracketsIf, textAs, treeOf, treeAt, depthAs}
+use Rattle.notation.specs.Printing.{decimal, bracketsIf, textAs, depthAs}
 use Rattle.notation.proofs.Decimals.{decimal-one, decimal-more}
 use Rattle.printer.specs.Measures.{pairs, lower}
 use Rattle.printer.proofs.Measures.{one-digit, more-digits, few-digits, some-digit}
 use Rattle.printer.specs.Tasks.{taskOf, textOfKind, taskText, workOfKind, work, GoodTask, texts, works, AllGood, none, more, Splits, nodeParts, numberParts, heightOfKind, height, heights}
-use Rattle.printer.proofs.Trees.{some-node, tree-at, depth-around, text-around}
+use Rattle.printer.proofs.Trees.{some-node, depth-around, text-around}
 
 -- ---- one task
 

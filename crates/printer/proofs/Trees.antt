@@ -1,47 +1,31 @@
 -- The tree of a node, by the trees of its children, and the measures of its text.
-use mathlib.Core.Path.{_≡_, refl, ap, ap₂, _∙_}
+use mathlib.Core.Path.{_≡_, refl, ap, _∙_}
 use mathlib.Core.Bool.{Bool, true}
 use mathlib.Core.List.{_++_}
-use Prim.Native.Nat.{ℕ, min, _+_, _*_, _≤_, _<_}
+use Prim.Native.Nat.{ℕ, min, _+_, _*_, _≤_}
 use native.Mathlib.Omega.{arith}
 use lib.Dec.{ltb}
 use lib.ListN.{length, length-append}
-use Rattle.meaning.specs.declared.Layout.{Layout}
-use Rattle.meaning.specs.Kinds.{NodeKind, True, Believes, HasGoal, Not, And, Or, Unknown, nodeKind}
-use Rattle.meaning.specs.Card.{Bytes, nodeAt}
-use Rattle.meaning.specs.Refusals.{nodesGood}
+use Rattle.meaning.specs.Kinds.{NodeKind, True, Believes, HasGoal, Not, And, Or, Unknown}
+use Rattle.meaning.specs.Trees.{Tree, believes, goal, and, or, treeOf}
+use Rattle.meaning.specs.Trees as Trees
+use Rattle.meaning.specs.Card.{Bytes}
 use Rattle.meaning.proofs.NodeKinds.{is-true, is-belief, is-goal, is-not, is-and, is-or, Known, leaf, inner}
-use Rattle.meaning.proofs.Nodes.{made-of}
 use Rattle.notation.specs.Words.{word}
-use Rattle.notation.specs.Conditions.{Tree, believes, goal, and, or}
-use Rattle.notation.specs.Conditions as Conditions
 use Rattle.notation.specs.Built.{size}
-use Rattle.notation.specs.Printing.{bracketsIf, textAs, deeperIf, depthAs, treeOf, trees, treeAt}
+use Rattle.notation.specs.Printing.{bracketsIf, textAs, deeperIf, depthAs}
 use Rattle.printer.specs.Measures.{lower, pairs, around, sizeBy, depthBy, lengthBy}
 
 -- ---- the tree of a node
 
 pub some-node : (t : Tree) → 1 ≤ size t
 unfolding size
-some-node Conditions.true = omega arith
+some-node Trees.true = omega arith
 some-node (believes n) = omega arith
 some-node (goal n) = omega arith
-some-node (Conditions.not t) = omega arith
+some-node (Trees.not t) = omega arith
 some-node (and l r) = omega arith
 some-node (or l r) = omega arith
-
-tree-children : {k : ℕ} {κ : NodeKind} → Known k κ → (a b : ℕ) (q q′ : ℕ → Tree) → (3 ≤ k → q a ≡ q′ a) → (4 ≤ k → q b ≡ q′ b) → treeOf κ a b q ≡ treeOf κ a b q′
-tree-children (leaf is-true) a b q q′ f s = refl
-tree-children (leaf is-belief) a b q q′ f s = refl
-tree-children (leaf is-goal) a b q q′ f s = refl
-tree-children (inner is-not) a b q q′ f s = ap Conditions.not (f (omega arith))
-tree-children (inner is-and) a b q q′ f s = ap₂ and (f (omega arith)) (s (omega arith))
-tree-children (inner is-or) a b q q′ f s = ap₂ or (f (omega arith)) (s (omega arith))
-
-module _ (l : Layout) (b : Bytes) (good : nodesGood l b ≡ true) (i : ℕ) (h : i < l .nodes .count) where
-  pub tree-at : treeAt l b i ≡ treeOf (nodeKind (nodeAt l b i .kind)) (nodeAt l b i .a) (nodeAt l b i .b) (treeAt l b)
-  unfolding trees
-  tree-at = made-of l b good i h (λ i. treeOf) Conditions.true (λ i k κ. tree-children)
 
 -- ---- what brackets add, where a node's text is lower than what is wanted
 

@@ -11,19 +11,19 @@ use lib.ListN.{length, getD, set, drop, length-append, length-set, length-drop}
 use lib.Seq.{drop-cons, paste, paste-zero, paste-suc, take-length}
 use Rattle.meaning.specs.declared.Layout.{Layout}
 use Rattle.meaning.specs.Kinds.{NodeKind, And, Or}
-use Rattle.meaning.specs.Card.{Bytes, nodeAt}
+use Rattle.meaning.specs.Trees.{Tree, treeOf}
+use Rattle.meaning.specs.Card.{Bytes, nodeAt, treeAt}
 use Rattle.meaning.specs.Calls.{over}
 use Rattle.meaning.proofs.NodeKinds.{is-true, is-belief, is-goal, is-not, is-and, is-or, Known, leaf, inner, known-kind}
-use Rattle.meaning.proofs.Nodes.{node-rule}
+use Rattle.meaning.proofs.Nodes.{node-rule, tree-at}
 use Rattle.card.specs.GoodCard.{GoodCard}
 use Rattle.notation.specs.Words.{word}
-use Rattle.notation.specs.Conditions.{Tree}
 use Rattle.notation.specs.Built.{size}
-use Rattle.notation.specs.Printing.{textAs, textOf, depthOf, treeOf, treeAt}
+use Rattle.notation.specs.Printing.{textAs, textOf, depthOf}
 use Rattle.printer.specs.Measures.{pairs}
 use Rattle.printer.specs.Tasks.{taskOf, taskText, heightOfKind, height, heights, GoodTask, texts, works, AllGood, none, more, Splits, tasks}
 use Rattle.printer.proofs.Measures.{few-digits, some-digit}
-use Rattle.printer.proofs.Trees.{tree-at, length-around}
+use Rattle.printer.proofs.Trees.{length-around}
 use Rattle.printer.proofs.Tasks.{text-byte, work-byte, text-task, good-node, height-task}
 use Rattle.printer.proofs.Stacks.{length-tasks, tasks-top}
 

@@ -3,11 +3,11 @@ use mathlib.Core.Path.{_≡_}
 use Prim.Native.Nat.{ℕ}
 use Rattle.meaning.specs.declared.Answer.{Answer}
 use Rattle.meaning.specs.declared.Layout.{Layout}
-use Rattle.meaning.specs.Card.{Bytes}
+use Rattle.meaning.specs.Card.{Bytes, treeAt}
 use Rattle.meaning.specs.Refusals.{andThen}
 use Rattle.meaning.specs.Calls.{roomFor, countBy, leavesBy}
 use Rattle.card.specs.Rows.{rowsFrom}
-use Rattle.notation.specs.Printing.{textOf, treeAt, printTable}
+use Rattle.notation.specs.Printing.{textOf, printTable}
 
 -- the text of a node
 abbrev pub nodeText : Layout → Bytes → ℕ → Bytes

@@ -7,10 +7,10 @@ use lib.Dec.{ltb}
 use lib.ListN.{length, getD}
 use Rattle.meaning.specs.declared.Layout.{Layout}
 use Rattle.meaning.specs.Kinds.{NodeKind, True, Believes, HasGoal, Not, And, Or, Unknown}
-use Rattle.meaning.specs.Card.{Bytes}
-use Rattle.notation.specs.Conditions.{Tree}
+use Rattle.meaning.specs.Trees.{Tree}
+use Rattle.meaning.specs.Card.{Bytes, treeAt}
 use Rattle.notation.specs.Built.{size}
-use Rattle.notation.specs.Printing.{decimal, textOf, depthOf, treeAt}
+use Rattle.notation.specs.Printing.{decimal, textOf, depthOf}
 
 -- "with brackets only where it must have them": whether a node of a kind is lower than what is wanted, 0 an or-list, 1 an and-list
 -- or 2 a unit.

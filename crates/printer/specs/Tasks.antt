@@ -7,9 +7,9 @@ use lib.Dec.{ltb}
 use lib.ListN.{length, getD}
 use Rattle.meaning.specs.declared.Layout.{Layout}
 use Rattle.meaning.specs.Kinds.{NodeKind, True, Believes, HasGoal, Not, And, Or, Unknown}
-use Rattle.meaning.specs.Card.{Bytes}
+use Rattle.meaning.specs.Card.{Bytes, treeAt}
 use Rattle.notation.specs.Built.{size}
-use Rattle.notation.specs.Printing.{decimal, textAs, depthAs, treeAt}
+use Rattle.notation.specs.Printing.{decimal, textAs, depthAs}
 use Rattle.printer.specs.declared.write.Parts.{Parts}
 
 -- A task is one number: 256 times its kind, and a byte, a node's number or a number to be written.

@@ -6,7 +6,7 @@ ghost use Rattle.meaning.specs.declared.Refusal.{Refusal};
 ghost use Rattle.meaning.specs.Refusals.{andThen};
 ghost use Rattle.card.specs.GoodCard.{GoodCard};
 ghost use Rattle.card.specs.Rows.{rowAnswer};
-ghost use Rattle.notation.specs.Printing.{printAnswer, printCount, printLeaves};
+ghost use Rattle.notation.specs.Printing.{Prints};
 ghost use Rattle.printer.specs.Answers.{NodePrinted};
 use crate::measure::measure;
 use crate::write::write_text;
@@ -61,9 +61,7 @@ fn print_node(card: &[u8], l: Layout, node: usize, out: &mut [u8]) -> WrittenInP
 
 // The text of a card's node in a lent buffer; how many bytes it has. A refusal writes nothing.
 pub fn print(card: &[u8], node: usize, out: &mut [u8]) -> WrittenInPlace
-    ensures { λ r. ⌜ (r .answer ≡ printAnswer (now (card .entry)) node (now (out .entry)))
-        × (r .count ≡ printCount (now (card .entry)) node (now (out .entry))) ⌝ }
-    ensures { λ r. ⌜ now (out .exit) ≡ printLeaves (now (card .entry)) node (now (out .entry)) ⌝ }
+    ensures { λ r. ⌜ Prints (now (card .entry)) node (now (out .entry)) (r .answer) (r .count) (now (out .exit)) ⌝ }
 {
     let checked = check(card);
     let Checked::Good(l) = checked else {

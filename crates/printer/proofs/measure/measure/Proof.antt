@@ -1,6 +1,5 @@
 use Rattle.printer.specs.Measures.{MeasuredTo}
 use Rattle.printer.proofs.Measuring.{measured-none, measured-turn}
-use Rattle.notation.specs.Printing.{treeAt}
 use Rattle.printer.proofs.Trees.{some-node}
 use mathlib.Core.Path.{_≡_, subst}
 use Prim.Native.Nat.{_-_, _≤_, _<_}
@@ -9,6 +8,7 @@ use borrow.Author.Needs.{needs}
 use denote.Ref.{now}
 use Rattle.printer.proofs.measure.measure.Statement.{statement}
 use Rattle.printer.proofs.measure.measure.Tie as tie
+use Rattle.meaning.specs.Card.{treeAt}
 
 abbrev Inv-loop : tie.InvT-loop
 Inv-loop card l node sizes₀ depths₀ lengths₀ i₀ sizes depths lengths i = (i ≤ node) × (node < 256) × MeasuredTo l card sizes depths lengths i

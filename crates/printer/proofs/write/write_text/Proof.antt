@@ -1,4 +1,5 @@
-use Rattle.notation.specs.Printing.{treeAt, textOf}
+use Rattle.meaning.specs.Card.{treeAt}
+use Rattle.notation.specs.Printing.{textOf}
 use Rattle.printer.specs.Tasks.{works, tasks}
 use Rattle.printer.proofs.Writing.{WritingOn, short, writing-start, writing-end, writing-top, writing-good, byte-fits, writing-byte, byte-less, split-fits, writing-split, split-less}
 use mathlib.Core.Path.{_≡_, refl, ap, _∙_}
