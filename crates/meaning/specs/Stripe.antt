@@ -75,6 +75,7 @@ stripe-P10 = stripeWith 2 true-node 2 (revision 2 2 1 3 2) its-pool
 unfoldable pub stripe-P13 : Bytes
 stripe-P13 = stripeWith 1 (3 ∷ 0 ∷ 0 ∷ 0 ∷ []) 2 (revision 2 2 1 3 2) its-pool
 
--- One with two open choices on a plan of weave: revision 1 is "0, node 3, becomes 2 0", as 01, "The stripe card" would write it.
+-- One with two open choices on a plan of weave: revision 1's head is 0 and its condition node 3; its body is 2 0, as ever. Serves
+-- NextCases.
 unfoldable pub stripe-two : Bytes
 stripe-two = stripeWith 1 true-node 2 (revision 3 4 1 3 2) its-pool
