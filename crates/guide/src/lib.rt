@@ -3,7 +3,7 @@
 ghost use mathlib.Core.Path.{_≡_};
 ghost use Prim.Native.Nat.{_+_, _≤_};
 ghost use Rattle.paper.specs.Theorems.{AreBytes};
-ghost use Rattle.demands.specs.Contracts.{Checks, Loads, Grades, Lists, Takes, Runs, Saves, Restores, Shaped};
+ghost use Rattle.demands.specs.Contracts.{Checks, Loads, Grades, Lists, Takes, Runs, Nexts, Saves, Restores, Shaped};
 ghost use Rattle.deliberation.specs.Theorems.{Deliberates};
 ghost use Rattle.door.specs.InPlace.{replyWith, ranWith};
 ghost use Rattle.deliberate.specs.InPlace.{deliberatedWith};
@@ -16,6 +16,7 @@ use door::in_place::ReplyInPlace;
 use meaning::Checked;
 use meaning::Configuration;
 use meaning::Graded;
+use meaning::Next;
 use meaning::Plan;
 use meaning::Ran;
 use meaning::Reply;
@@ -127,6 +128,21 @@ pub fn run(card: &[u8], c: Configuration, budget: u16) -> Ran
     let mut plan = c.plan;
     let r = moves::run::run(card, m, &mut plan, budget);
     ran_with(r, plan)
+}
+
+// The guide's own next move, which is not made: its code, or that it rests or is full.
+pub fn next(card: &[u8], c: Configuration) -> Next
+    ensures { λ r. ⌜ Nexts (now (card .entry)) c r ⌝ }
+{
+    let m = c.mind;
+    let r = moves::next::next(card, m, &c.plan);
+    let a = r.answer;
+    let k = r.coming;
+    Next {
+        answer: a,
+        coming: k,
+        configuration: c,
+    }
 }
 
 // What a deliberation answered in place, with the plan and the numbers that remain.
