@@ -3,7 +3,7 @@ use mathlib.Core.Path.{_≡_, refl, ap, sym, subst}
 use mathlib.Core.Bool.{Bool, true}
 use mathlib.Core.List.{List, [], _∷_, _++_}
 use mathlib.Core.Option.{Option, none, some}
-use Prim.Native.Nat.{ℕ, zero, suc, _<_}
+use Prim.Native.Nat.{ℕ, zero, suc, _≤_, _<_}
 use native.Mathlib.Omega.{arith}
 use lib.ListN.{length}
 use Rattle.paper.specs.Language.{𝐁, Query, Agent}
@@ -62,7 +62,7 @@ module _ (A : Agent) (βs : List (Query 𝐁)) (es : List Node) (b n : ℕ) (ns 
 
 -- ---- what a move comes to
 
-module _ (gs : List Bool) (l : Layout) (p : Bytes) (good : programGood gs l p ≡ true) (A : Agent) (βs : List (Query 𝐁)) (j : ℕ) (known : j < entryCount p) where
+module _ (gs : List Bool) (l : Layout) (p : Bytes) (good : programGood gs l p ≡ true) (A : Agent) (βs : List (Query 𝐁)) (j : ℕ) (known : j ≤ entryCount p) where
   -- what the first move of a program comes to, and of the numbers that stand for it, n and those behind it
   pub data Comes (P : Prog) (n : ℕ) (behind : List ℕ) (s : State) : MoveResult → Type 0 where
     no-move-there : NoTransition A P (s .mental) → Comes P n behind s stuck
@@ -165,7 +165,7 @@ ends-exactly (is-full {P = P} h x) =
 
 -- ---- the run
 
-module _ (gs : List Bool) (l : Layout) (p : Bytes) (good : programGood gs l p ≡ true) (A : Agent) (βs : List (Query 𝐁)) (k : ℕ) (known : k < entryCount p) where
+module _ (gs : List Bool) (l : Layout) (p : Bytes) (good : programGood gs l p ≡ true) (A : Agent) (βs : List (Query 𝐁)) (k : ℕ) (known : k ≤ entryCount p) where
   pub record Walked (b : ℕ) (R : Rest) (ns : List ℕ) (s : State) (o : Outcome) : Type 0 where
     pub labels : List Label
     pub rest : Rest

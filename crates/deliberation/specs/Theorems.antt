@@ -286,9 +286,10 @@ pub record Tells (b p : Bytes) (ns : List ℕ) (c : Configuration) (budget : ℕ
   pub remains : rest ≈ standFor b p (numbersIn (r .remaining))
   -- 02, Wish 6: "a sequence is one number until a move is made in it": they are what these moves leave of the numbers given
   pub numbered : FollowedNumbers (agent b) (moveAt (layout b) b p) ns (stateOf c) labels (numbersIn (r .remaining)) (stateOf (r .configuration))
-  -- there is room for the numbers, and each is one of the program's
+  -- there is room for the numbers, each is one of the program's, and they may be gone on from
   pub room : r .remaining .length ≤ 128
   pub known : (n : ℕ) → List·Memᴰ n (numbersIn (r .remaining)) → n < entryCount p
+  pub accepted : numbersGood (entryCount p) (numbersIn (r .remaining)) ≡ true
   -- the moves that are not idle are a chain of 004's Definitions 9 to 11
   pub chain : Chain (agent b) (stateOf c .mental) (notIdle labels) (stateOf (r .configuration) .mental)
 
@@ -296,11 +297,6 @@ pub record Tells (b p : Bytes) (ns : List ℕ) (c : Configuration) (budget : ℕ
 abbrev pub TellsLaw : Type 0
 TellsLaw = (b p : Bytes) (ns : List ℕ) (c : Configuration) (budget : ℕ) (lent : Bytes) → goOnAnswer b p ns c ≡ Done → (r : Deliberated)
     → GoesOn b p ns c budget lent r → Tells b p ns c budget r
-
--- What a done call answers, its numbers and its configuration, is accepted by the next.
-abbrev pub AcceptedNumbers : Type 0
-AcceptedNumbers = (b p : Bytes) (ns : List ℕ) (c : Configuration) (budget : ℕ) (lent : Bytes) (r : Deliberated) → GoesOn b p ns c budget lent r
-    → r .answer ≡ Done → goOnAnswer b p (numbersIn (r .remaining)) (r .configuration) ≡ Done
 
 -- 02, Wish 6: "Demand 3 holds for transitions that are not idle.": under a card that is graded bounded, from a plan that weighs W,
 -- at most 1,024.
