@@ -6,7 +6,7 @@ use mathlib.Core.List.{List, [], _∷_, _++_, List·Memᴰ}
 use mathlib.Core.Option.{Option, none, some}
 use Prim.Native.Nat.{ℕ, _+_, _*_, _-_, _≤_, _<_}
 use lib.ListN.{length, take}
-use Rattle.paper.specs.Language.{𝐁, Agent, Config}
+use Rattle.paper.specs.Language.{𝐁, Query, Agent, Config}
 use Rattle.paper.specs.Transitions.{Choice, Step}
 use Rattle.runs.specs.Limits.{longestPlan, heaviestPlan}
 use Rattle.runs.specs.declared.Verdict.{Verdict}
@@ -16,6 +16,7 @@ use Rattle.runs.specs.Run.{Chain}
 use Rattle.runs.specs.Weight.{weigh, verdict, selections}
 use Rattle.meaning.specs.declared.Refusal.{Refusal}
 use Rattle.meaning.specs.declared.Answer.the-variants.{Done, Refused}
+use Rattle.meaning.specs.declared.Node.{Node}
 use Rattle.meaning.specs.declared.Configuration.{Configuration}
 use Rattle.meaning.specs.Card.{Bytes, layout, condition, conditions, agent, weight, initialPlan}
 use Rattle.meaning.specs.Configurations.{stateOf}
@@ -29,7 +30,7 @@ use Rattle.deliberation.specs.MetaTransitions.{Label, idle, taking, Meta
 use Rattle.deliberation.specs.Kinds.{EntryKind, Execute, Apply, Select, WhilePlan, WhileBelief, Then, Or, entryKind}
 use Rattle.deliberation.specs.FirstMove.{Move, firstMove}
 use Rattle.deliberation.specs.Entries.{entryOf, entryCount, entriesOf, programGood, numbersGood, goOnAnswer, whole, deliberateAnswer, program, standing, moveAt}
-use Rattle.deliberation.specs.Deliberate.{goesOn}
+use Rattle.deliberation.specs.Deliberate.{Outcome, deliberate, goesOn}
 
 -- ---- the first move
 
@@ -238,6 +239,16 @@ pub record EndsExactly (A : Agent) (budget n : ℕ) (R : Rest) (s : State) (e : 
   pub stuck : (e ≡ DeliberationEnding.Stuck) ↔ ((n < budget) × ((P : Prog) × ((R ≡ still P) × NoTransition A P (s .mental))))
   -- "full": with budget left, the first move of what remains leaves too long a plan
   pub full : (e ≡ DeliberationEnding.Full) ↔ ((n < budget) × ((P : Prog) × ((R ≡ still P) × Overflows A s P)))
+
+-- The same outcome, counted on from n.
+abbrev pub counted : ℕ → Outcome → Outcome
+counted n o = record { state = o .state; count = n + o .count; ending = o .ending; remaining = o .remaining }
+
+-- A deliberation with j and one with k, at least 1, from what then remains are one with both budgets. (With no budget it says spent
+-- wherever it stands.)
+abbrev pub StopLaw : Type 0
+StopLaw = (A : Agent) (βs : List (Query 𝐁)) (es : List Node) (j k : ℕ) (ns : List ℕ) (s : State) → 1 ≤ k
+    → deliberate A βs es (j + k) ns s ≡ (let o = deliberate A βs es j ns s in counted (o .count) (deliberate A βs es k (o .remaining) (o .state)))
 
 -- 02, Wish 6: "the last one the whole": the program that a program's bytes stand for under a card.
 abbrev pub wholeOf : Bytes → Bytes → Prog
