@@ -3,7 +3,7 @@
 use mathlib.Core.Path.{_≡_, refl, ap, _∙_, sym, subst}
 use mathlib.Core.Bool.{Bool, true, false, not}
 use mathlib.Core.List.{List, [], _∷_, _++_, List·Memᴰ}
-use Prim.Native.Nat.{ℕ, _-_, _≤_, _<_}
+use Prim.Native.Nat.{ℕ, _-_, _≤_}
 use native.Mathlib.Omega.{arith}
 use lib.ListN.{length, replicate, length-take}
 use lib.Seq.{take-at}
@@ -24,7 +24,6 @@ use Rattle.meaning.specs.Refusals.{numberOf, answerNumber, Row, _given-when_, f
 use Rattle.meaning.proofs.Tables.{done≢refused, given, not-given}
 use Rattle.meaning.proofs.Accepted.{card-laws}
 use Rattle.meaning.proofs.Configurations.{good, configuration-laws}
-use Rattle.deliberation.specs.declared.DeliberationEnding.{DeliberationEnding}
 use Rattle.deliberation.specs.declared.Deliberated.{Deliberated}
 use Rattle.deliberation.specs.Programs.{Rest}
 use Rattle.deliberation.specs.MetaTransitions.{Computation, notIdle}

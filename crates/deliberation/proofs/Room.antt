@@ -36,14 +36,15 @@ pub stacked-append : {j k : ℕ} {ns rs : List ℕ} → Stacked j ns → j + len
 stacked-append nothing h t = t
 stacked-append {rs = rs} (put n ns l s) h t = put n (ns ++ rs) (rw (length-append ns rs) (omega arith)) (stacked-append s h t)
 
--- stacked numbers are those that are good
-pub stacked-good : {k : ℕ} {ns : List ℕ} → Stacked k ns → numbersGood k ns ≡ true
-stacked-good nothing = refl
-stacked-good {k} (put n ns h s) = both-true (ltb (n + length ns) k) (numbersGood k ns) (lt-ltb (n + length ns) k h) (stacked-good s)
-
+-- good numbers are stacked
 pub good-stacked : (k : ℕ) (ns : List ℕ) → numbersGood k ns ≡ true → Stacked k ns
 good-stacked k [] e = nothing
 good-stacked k (n ∷ ns) e = let (h, t) = both (ltb (n + length ns) k) _ e in put n ns (ltb-true (n + length ns) k h) (good-stacked k ns t)
+
+-- and stacked numbers are good
+pub stacked-good : {k : ℕ} {ns : List ℕ} → Stacked k ns → numbersGood k ns ≡ true
+stacked-good nothing = refl
+stacked-good {k} (put n ns h s) = both-true (ltb (n + length ns) k) (numbersGood k ns) (lt-ltb (n + length ns) k h) (stacked-good s)
 
 -- ---- what remains of an entry
 
