@@ -252,9 +252,9 @@ module _ (b p : Bytes) (ns : List ℕ) (c : Configuration) (budget : ℕ) (lent 
   told = goesOn b p ns c budget lent
 
   -- the answer is that of the checks
-  pub answered : (a : Answer) → goOnAnswer b p ns c ≡ a → told .answer ≡ a
-  answered Done e = ap (λ (r : Deliberated). r .answer) (goes-on-done b p ns c budget lent e)
-  answered (Refused q) e = ap (λ (r : Deliberated). r .answer) (goes-on-refused b p ns c budget lent q e)
+  pub said : (a : Answer) → goOnAnswer b p ns c ≡ a → told .answer ≡ a
+  said Done e = ap (λ (r : Deliberated). r .answer) (goes-on-done b p ns c budget lent e)
+  said (Refused q) e = ap (λ (r : Deliberated). r .answer) (goes-on-refused b p ns c budget lent q e)
 
   handed-back : (q : Refusal) → told .answer ≡ Refused q
       → (told .configuration ≡ c) × ((told .count ≡ 0) × ((told .remaining .length ≡ 0) × (told .remaining .numbers ≡ lent)))
@@ -262,13 +262,13 @@ module _ (b p : Bytes) (ns : List ℕ) (c : Configuration) (budget : ℕ) (lent 
     where
       go : (a : Answer) → goOnAnswer b p ns c ≡ a
           → (told .configuration ≡ c) × ((told .count ≡ 0) × ((told .remaining .length ≡ 0) × (told .remaining .numbers ≡ lent)))
-      go Done h = absurd (done≢refused (sym (answered Done h) ∙ e))
+      go Done h = absurd (done≢refused (sym (said Done h) ∙ e))
       go (Refused r) h = rw (goes-on-refused b p ns c budget lent r h) (refl, (refl, (refl, refl)))
 
 pub refusal-law : RefusalLaw
 unfolding answerNumber numberOf
 refusal-law b p ns c budget lent r q =
-    let say = answered b p ns c budget lent in
+    let say = said b p ns c budget lent in
     rw q
     (record {
       by-card = λ x e. say (Refused x) (card-refused b p ns c x e);
