@@ -10,16 +10,14 @@ use Rattle.meaning.specs.declared.Answer.the-variants.{Done, Refused}
 use Rattle.meaning.specs.declared.Configuration.{Configuration}
 use Rattle.meaning.specs.Card.{Bytes, layout, agent, conditions}
 use Rattle.meaning.specs.Configurations.{stateOf}
-use Rattle.meaning.specs.Calls.{takes}
 use Rattle.meaning.proofs.Calls.{configuration-good}
 use Rattle.meaning.proofs.Tables.{done≢refused}
 use Rattle.demands.specs.Contracts.{Shaped}
-use Rattle.demands.specs.Demands.{OnAccepted}
-use Rattle.demands.specs.TurnedScreen.{Turn, held, TurnDone, sum}
+use Rattle.demands.specs.TurnedScreen.{held, TurnDone, sum}
 use Rattle.demands.proofs.Known.{known-agent}
 use Rattle.demands.proofs.Saving.{Kept, kept}
 use Rattle.demands.proofs.Keeping.{adds-sixteen, kept-after, kept-shaped}
-use Rattle.demands.proofs.Turning.{same-held, turned-screen}
+use Rattle.demands.proofs.Turning.{turn-done, same-held}
 use Rattle.deliberation.specs.declared.Deliberated.{Deliberated}
 use Rattle.deliberation.specs.Entries.{entriesOf, goOnAnswer, whole}
 use Rattle.deliberation.specs.Deliberate.{Outcome, deliberate, deliberated, refused, goesOn}
@@ -29,12 +27,6 @@ use Rattle.deliberation.proofs.Call.{outcome, goes-on-done, goes-on-refused, pa
 use Rattle.every_call.specs.TurnedDeliberation.{TurnedCalls, last-call, call-turned, EachCall, AsOneCall, TurnedTogether, TurnedDeliberation}
 use Rattle.every_call.specs.TurnedDeliberation as Turned
 use Rattle.every_call.proofs.Deliberating.{go-on-stands, go-on-again, accepted-numbers}
-
--- ---- a turn
-
--- at an accepted configuration it is done: what the turned screen says of it beside a chosen move
-turn-done : (b : Bytes) (c : Configuration) (t : Turn b c) → Shaped c → OnAccepted b c → TurnDone c t
-turn-done b c t shaped on = turned-screen .chosen-move b c shaped t 0 (takes b (held t) 0) refl (takes b c 0) refl .0 on
 
 -- ---- a call
 
@@ -170,7 +162,7 @@ module _ (b p : Bytes) where
       let again = kept-accepted b p ns c j lent r w on in (
         d,
         (
-          turn-done b (r .configuration) t reached (go-on-again b p ns c j lent r w d),
+          turn-done b (r .configuration) t (go-on-again b p ns c j lent r w d) reached,
           each-done (subst Shaped same reached) (subst (λ x. goOnAnswer b p (Turned.kept ns r) x ≡ Done) same again) rest,
         ),
       )

@@ -1,6 +1,6 @@
 -- What the documents say of every public call: a record for each sentence, with what is said of the eight calls of document 01,
--- and the same of go on, name, text and print, as far as it concerns each (proved in proofs/). What is said of go on is said of
--- deliberate, which is the case that the numbers given are the whole: `Deliberates`.
+-- and the same of next, go on, name, text and print, as far as it concerns each (proved in proofs/). What is said of go on is said
+-- of deliberate, which is the case that the numbers given are the whole: `Deliberates`.
 use mathlib.Core.Path.{_≡_}
 use mathlib.Core.Bool.{true, false}
 use mathlib.Core.List.{List, [], _∷_, _++_, List·Memᴰ}
@@ -10,9 +10,12 @@ use Rattle.meaning.specs.declared.Refusal.{Refusal}
 use Rattle.meaning.specs.declared.Answer.{Answer}
 use Rattle.meaning.specs.declared.Answer.the-variants.{Done, Refused}
 use Rattle.meaning.specs.declared.Configuration.{Configuration}
+use Rattle.meaning.specs.declared.Coming.{Coming}
+use Rattle.meaning.specs.declared.Next.{Next}
 use Rattle.meaning.specs.Card.{Bytes, layout}
-use Rattle.meaning.specs.Refusals.{answerNumber, firstGiven, cardAnswer}
+use Rattle.meaning.specs.Refusals.{answerNumber, firstGiven, cardAnswer, configurationAnswer}
 use Rattle.meaning.specs.Calls.{roomFor}
+use Rattle.demands.specs.Contracts.{Nexts}
 use Rattle.demands.specs.Demands.{doneOrCard, Demand1, Determined, OnAccepted}
 use Rattle.demands.specs.TestOrder.{TestOrder}
 use Rattle.demands.specs.AcceptedAgain.{AcceptedAgain}
@@ -34,6 +37,8 @@ use Rattle.names.specs.Naming.{Question, refusedName, Names}
 -- proved with its code.
 pub record EveryCall : Type 0 where
   pub eight : Demand1
+  -- 01, "Numbers the guide may answer": "the card first with 1 to 9, then … a configuration with 13"
+  pub next-listed : (b : Bytes) (c : Configuration) (r : Next) → Nexts b c r → List·Memᴰ (answerNumber (r .answer)) (doneOrCard ++ (13 ∷ []))
   -- 02, Wish 6: "19 …, after 9 and before 13."
   pub go-on-listed : (b p : Bytes) (ns : List ℕ) (c : Configuration) (budget : ℕ) (lent : Bytes) (r : Deliberated)
       → GoesOn b p ns c budget lent r → List·Memᴰ (answerNumber (r .answer)) (doneOrCard ++ (19 ∷ 13 ∷ []))
@@ -47,6 +52,9 @@ pub record EveryCall : Type 0 where
   -- 02, Wish 2: "refuses: 7 no such node, 18, 25 over 256 nodes, 12."
   pub print-listed : (b : Bytes) (n : ℕ) (out left : Bytes) (a : Answer) (count : ℕ) → Prints b n out a count left
       → List·Memᴰ (answerNumber a) (doneOrCard ++ (18 ∷ 25 ∷ 12 ∷ []))
+  -- 00, demand 1: "A refusal hands back the configuration it was given"; and no move is told
+  pub next-hands-back : (b : Bytes) (c : Configuration) (r : Next) → Nexts b c r → (q : Refusal) → r .answer ≡ Refused q
+      → (r .configuration ≡ c) × (r .coming ≡ Coming.Rest)
   -- 00, demand 1: "A refusal hands back the configuration it was given"; 01, "Numbers the guide may answer": "Any count in a
   -- refusal is 0."; 02, Wish 6: "none when refused"; 00, demand 1: "and writes to no lent buffer": the bytes that are lent for the
   -- numbers are as they were.
@@ -66,6 +74,8 @@ pub record EveryCall : Type 0 where
 -- 4, 8, 9 or a configuration with 13; then the rest."
 pub record EveryOrder : Type 0 where
   pub eight : TestOrder
+  -- 01, "Numbers the guide may answer": "the card first with 1 to 9, then … a configuration with 13": and no other
+  pub next : (b : Bytes) (c : Configuration) (r : Next) → Nexts b c r → r .answer ≡ configurationAnswer b c
   -- 02, Wish 6: "19 a program breaking these rules or naming an unknown rule or node, after 9 and before 13."
   pub go-on : RefusalLaw
   -- 01, "Numbers the guide may answer": "the card first with 1 to 9", of the two others that are given one
@@ -103,6 +113,7 @@ pub record EveryOrder : Type 0 where
 -- every byte and number in lent buffers afterwards; equality of any two conforming answers is proved".
 pub record EveryAnswer : Type 0 where
   pub eight : Determined
+  pub next : (b : Bytes) (c : Configuration) (r r′ : Next) → Nexts b c r → Nexts b c r′ → r ≡ r′
   pub go-on : DeterminedLaw
   pub name : (b : Bytes) (q : Question) (r r′ : Named) → Names b q r → Names b q r′ → r ≡ r′
   pub text : ReadDetermined
@@ -118,6 +129,7 @@ AcceptedNumbers = (b p : Bytes) (ns : List ℕ) (c : Configuration) (budget : �
 -- call after it answers 13; and the card that a text stands for is accepted.
 pub record EveryDone : Type 0 where
   pub eight : AcceptedAgain
+  pub next : (b : Bytes) (c : Configuration) (r : Next) → Nexts b c r → r .answer ≡ Done → OnAccepted b (r .configuration)
   pub go-on : (b p : Bytes) (ns : List ℕ) (c : Configuration) (budget : ℕ) (lent : Bytes) (r : Deliberated)
       → GoesOn b p ns c budget lent r → r .answer ≡ Done → OnAccepted b (r .configuration)
   -- with the numbers that remain: go on accepts both, so that it does not answer 19 either
@@ -129,5 +141,6 @@ pub record EveryDone : Type 0 where
 -- where one is.
 pub record EveryGoal : Type 0 where
   pub eight : Struck
+  pub next : (b : Bytes) (c : Configuration) (r : Next) → Nexts b c r → Unbelieved c → Unbelieved (r .configuration)
   pub go-on : (b p : Bytes) (ns : List ℕ) (c : Configuration) (budget : ℕ) (lent : Bytes) (r : Deliberated)
       → GoesOn b p ns c budget lent r → Unbelieved c → Unbelieved (r .configuration)
