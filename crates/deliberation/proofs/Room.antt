@@ -1,5 +1,5 @@
 -- Never more than 128 numbers remain: each number, with those that stand behind it, is below the number of entries.
-use mathlib.Core.Path.{_≡_, refl, _∙_, sym, subst}
+use mathlib.Core.Path.{_≡_, refl, ap, _∙_, sym, subst}
 use mathlib.Core.Logic.{⊎-elim}
 use mathlib.Core.Bool.{Bool, true, false}
 use mathlib.Core.List.{List, [], _∷_, _++_, List·Memᴰ, List·Memᴰ·not-nil, List·Memᴰ·cases-cons}
@@ -19,7 +19,7 @@ use Rattle.deliberation.specs.Programs.{notEmptyPlan, holds, 𝒲}
 use Rattle.deliberation.specs.Kinds.{EntryKind}
 use Rattle.deliberation.specs.FirstMove.{Move, byChoice, lowestAction, ifEnabled, idles, followedBy, leftElseRight}
 use Rattle.deliberation.specs.Entries.{entryCount, entriesOf, programGood, numbersGood, moveOf, firstMoveOf}
-use Rattle.deliberation.specs.Theorems.{EntryLaws, executes, applies, selects, while-plan, while-belief, does-both, does-one}
+use Rattle.deliberation.specs.Theorems.{NumbersExactly, EntryLaws, executes, applies, selects, while-plan, while-belief, does-both, does-one}
 use Rattle.deliberation.specs.Stacked.{Stacked, nothing, put}
 use Rattle.deliberation.proofs.Moves.{takes-some, idles-holds, idles-fails, followed-some, either-left}
 use Rattle.deliberation.proofs.Good.{from-lower, entry-rule, move-at}
@@ -45,6 +45,20 @@ good-stacked k (n ∷ ns) e = let (h, t) = both (ltb (n + length ns) k) _ e in p
 pub stacked-good : {k : ℕ} {ns : List ℕ} → Stacked k ns → numbersGood k ns ≡ true
 stacked-good nothing = refl
 stacked-good {k} (put n ns h s) = both-true (ltb (n + length ns) k) (numbersGood k ns) (lt-ltb (n + length ns) k h) (stacked-good s)
+
+good-behind : (k : ℕ) (before : List ℕ) (n : ℕ) (behind : List ℕ) → numbersGood k (before ++ (n ∷ behind)) ≡ true → n + length behind < k
+good-behind k [] n behind e = ltb-true (n + length behind) k (both (ltb (n + length behind) k) _ e .0)
+good-behind k (m ∷ before) n behind e = good-behind k before n behind (both (ltb (m + length (before ++ (n ∷ behind))) k) _ e .1)
+
+behind-good : (k : ℕ) (ns : List ℕ) → ((before : List ℕ) (n : ℕ) (behind : List ℕ) → ns ≡ before ++ (n ∷ behind) → n + length behind < k)
+    → numbersGood k ns ≡ true
+behind-good k [] f = refl
+behind-good k (n ∷ ns) f =
+    both-true (ltb (n + length ns) k) (numbersGood k ns) (lt-ltb (n + length ns) k (f [] n ns refl))
+    (behind-good k ns (λ before m behind e. f (n ∷ before) m behind (ap (λ ms. n ∷ ms) e)))
+
+pub numbers-exactly : NumbersExactly
+numbers-exactly k ns = (λ good before n behind e. good-behind k before n behind (subst (λ ms. numbersGood k ms ≡ true) e good), behind-good k ns)
 
 -- ---- what remains of an entry
 

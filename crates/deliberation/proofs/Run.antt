@@ -22,7 +22,7 @@ use Rattle.deliberation.specs.FirstMove.{Move, firstMove}
 use Rattle.deliberation.specs.Entries.{entryCount, entriesOf, programGood, standing, firstMoveOf}
 use Rattle.deliberation.specs.Deliberate.{MoveResult, stuck, on, leads, moveResult, Outcome, ended, oneMore, deliberate, deliberationEndingNumber}
 use Rattle.deliberation.specs.Deliberate as Deliberate
-use Rattle.deliberation.specs.Theorems.{NoTransition, parts, partsOf, Goes, stays, goes, Followed, no-move, one-move, FollowedNumbers, as-they-are, next-moves, Overflows, EndsExactly, counted, StopLaw}
+use Rattle.deliberation.specs.Theorems.{NoTransition, parts, partsOf, Goes, stays, goes, Followed, no-move, one-move, FollowedNumbers, as-they-are, next-moves, Overflows, EndsExactly, counted, DeliberationStops}
 use Rattle.deliberation.specs.Stacked.{Stacked, put}
 use Rattle.deliberation.proofs.Room.{move-within}
 use Rattle.deliberation.proofs.First.{is-one, none-exactly}
@@ -262,5 +262,5 @@ module _ (A : Agent) (βs : List (Query 𝐁)) (es : List Node) where
           ap (λ m. go-on m (n ∷ ns) s) both-budgets ∙ run-on A βs es (j + suc k) n ns s ns′ s′ e ∙ ap oneMore (ih ns′ s′ (omega arith))
           ∙ one-more (o .count) (go-on (suc k) (o .remaining) (o .state)) ∙ sym (ap (after-it (suc k)) (run-on A βs es j n ns s ns′ s′ e))
 
-pub stop-law : StopLaw
-stop-law = stops
+pub deliberation-stops : DeliberationStops
+deliberation-stops = stops

@@ -246,8 +246,8 @@ counted n o = record { state = o .state; count = n + o .count; ending = o .endin
 
 -- A deliberation with j and one with k, at least 1, from what then remains are one with both budgets. (With no budget it says spent
 -- wherever it stands.)
-abbrev pub StopLaw : Type 0
-StopLaw = (A : Agent) (βs : List (Query 𝐁)) (es : List Node) (j k : ℕ) (ns : List ℕ) (s : State) → 1 ≤ k
+abbrev pub DeliberationStops : Type 0
+DeliberationStops = (A : Agent) (βs : List (Query 𝐁)) (es : List Node) (j k : ℕ) (ns : List ℕ) (s : State) → 1 ≤ k
     → deliberate A βs es (j + k) ns s ≡ (let o = deliberate A βs es j ns s in counted (o .count) (deliberate A βs es k (o .remaining) (o .state)))
 
 -- 02, Wish 6: "the last one the whole": the program that a program's bytes stand for under a card.
@@ -267,6 +267,11 @@ GoesOn b p ns c budget lent r = r ≡ goesOn b p ns c budget lent
 -- What the contract of `deliberate` says: all that is proved of `go on` is proved of it, from the whole.
 abbrev pub Deliberates : Bytes → Bytes → Configuration → ℕ → Bytes → Deliberated → Type 0
 Deliberates b p c budget lent r = GoesOn b p (whole p) c budget lent r
+
+-- The numbers that may be gone on from, by each of them and those behind it: they come to less than there are entries.
+abbrev pub NumbersExactly : Type 0
+NumbersExactly = (entries : ℕ) (ns : List ℕ)
+    → (numbersGood entries ns ≡ true) ↔ ((before : List ℕ) (n : ℕ) (behind : List ℕ) → ns ≡ before ++ (n ∷ behind) → n + length behind < entries)
 
 -- 02, Wish 6: "the last one the whole": `deliberate` is `go on` from the last entry's number.
 pub record WholeLaws (b p : Bytes) : Type 0 where

@@ -22,7 +22,7 @@ use Rattle.deliberation.specs.declared.Deliberated.{Deliberated}
 use Rattle.deliberation.specs.Entries.{entriesOf, goOnAnswer, whole}
 use Rattle.deliberation.specs.Deliberate.{Outcome, deliberate, deliberated, refused, goesOn}
 use Rattle.deliberation.specs.Theorems.{numbersIn, counted, GoesOn}
-use Rattle.deliberation.proofs.Run.{stop-law}
+use Rattle.deliberation.proofs.Run.{deliberation-stops}
 use Rattle.deliberation.proofs.Call.{outcome, goes-on-done, goes-on-refused, passed, numbers-back, done-keeps}
 use Rattle.every_call.specs.TurnedDeliberation.{TurnedCalls, last-call, call-turned, EachCall, AsOneCall, TurnedTogether, TurnedDeliberation}
 use Rattle.every_call.specs.TurnedDeliberation as Turned
@@ -95,7 +95,7 @@ module _ (b p : Bytes) (ns : List ℕ) (c : Configuration) (j k : ℕ) (least : 
   stopped-done on =
       joined o next first second one (is-done b p ns c j lent first w on) (second-done on)
       (is-done b p ns c (j + k) lent″ one v on
-      ∙ ap (λ (x : Outcome). deliberated x) (stop-law (agent b) (conditions 𝐁 (layout b) b) (entriesOf p) j k ns (stateOf c) least))
+      ∙ ap (λ (x : Outcome). deliberated x) (deliberation-stops (agent b) (conditions 𝐁 (layout b) b) (entriesOf p) j k ns (stateOf c) least))
 
   stopped-refused : (q : Refusal) → goOnAnswer b p ns c ≡ Refused q → AsOneCall second (first .count + second .count) one
   stopped-refused q e =
