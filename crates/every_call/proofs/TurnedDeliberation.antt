@@ -24,7 +24,7 @@ use Rattle.deliberation.specs.Deliberate.{Outcome, deliberate, deliberated, ref
 use Rattle.deliberation.specs.Theorems.{numbersIn, counted, GoesOn}
 use Rattle.deliberation.proofs.Run.{deliberation-stops}
 use Rattle.deliberation.proofs.Call.{outcome, goes-on-done, goes-on-refused, passed, numbers-back, done-keeps}
-use Rattle.every_call.specs.TurnedDeliberation.{TurnedCalls, last-call, call-turned, EachCall, AsOneCall, TurnedTogether, TurnedDeliberation}
+use Rattle.every_call.specs.TurnedDeliberation.{TurnedCalls, last-call, call-turned, call-then, EachCall, AsOneCall, TurnedTogether, TurnedDeliberation}
 use Rattle.every_call.specs.TurnedDeliberation as Turned
 use Rattle.every_call.proofs.Deliberating.{go-on-stands, go-on-again, accepted-numbers}
 
@@ -151,6 +151,11 @@ module _ (b p : Bytes) where
       let second = goesOn b p ms (held t) (k + sum ks) lent in
       one-before r last second one n (as-one (subst Shaped (sym same) reached) rest lent second refl)
       (stopped b p ns c j (k + sum ks) (omega arith) lent′ lent lent r second one w (ap (λ x. goesOn b p ms x (k + sum ks) lent) same) v)
+  as-one shaped (call-then {ns} {ks} {c} {j} {k} {n} {last} lent′ r w least rest) lent one v =
+      let ms = Turned.kept ns r in
+      let second = goesOn b p ms (r .configuration) (k + sum ks) lent in
+      one-before r last second one n (as-one (call-shaped b p ns c j lent′ r w shaped) rest lent second refl)
+      (stopped b p ns c j (k + sum ks) (omega arith) lent′ lent lent r second one w refl v)
 
   each-done : {ns ks : List ℕ} {c : Configuration} {j n : ℕ} {last : Deliberated} → Shaped c → goOnAnswer b p ns c ≡ Done
       → (calls : TurnedCalls b p ns c j ks last n) → EachCall (λ lent r. r .answer ≡ Done) TurnDone calls
@@ -166,6 +171,8 @@ module _ (b p : Bytes) where
           each-done (subst Shaped same reached) (subst (λ x. goOnAnswer b p (Turned.kept ns r) x ≡ Done) same again) rest,
         ),
       )
+  each-done shaped on (call-then {ns} {c = c} {j = j} lent r w least rest) =
+      (done-answer b p ns c j lent r w on, each-done (call-shaped b p ns c j lent r w shaped) (kept-accepted b p ns c j lent r w on) rest)
 
   each-refused : {ns ks : List ℕ} {c : Configuration} {j n : ℕ} {last : Deliberated} (ns₀ : List ℕ) (c₀ : Configuration) (q : Refusal) → Shaped c₀
       → goOnAnswer b p ns₀ c₀ ≡ Refused q → ns ≡ ns₀ → c ≡ c₀ → (calls : TurnedCalls b p ns c j ks last n)
@@ -178,6 +185,9 @@ module _ (b p : Bytes) where
       let same = same-held b (r .configuration) t (subst Shaped (sym back) shaped) in
       let left : Turned.kept ns r ≡ ns₀ = ap (Turned.kept ns) there ∙ f in
       (there, (same, each-refused ns₀ c₀ q shaped e left (same ∙ back) rest))
+  each-refused ns₀ c₀ q shaped e f g (call-then {ns} {c = c} {j = j} lent r w least rest) =
+      let there : r ≡ refused q c₀ lent = w ∙ ap (λ ms. goesOn b p ms c j lent) f ∙ ap (λ x. goesOn b p ns₀ x j lent) g ∙ goes-on-refused b p ns₀ c₀ j lent q e in
+      (there, each-refused ns₀ c₀ q shaped e (ap (Turned.kept ns) there ∙ f) (ap (λ (x : Deliberated). x .configuration) there) rest)
 
 any-turns : (b p : Bytes) (ns : List ℕ) (c : Configuration) → Shaped c → (j : ℕ) (ks : List ℕ) (last : Deliberated) (n : ℕ)
     → (calls : TurnedCalls b p ns c j ks last n) (lent : Bytes) (one : Deliberated) → GoesOn b p ns c (j + sum ks) lent one

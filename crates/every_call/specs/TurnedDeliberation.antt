@@ -18,16 +18,20 @@ use Rattle.deliberation.specs.Theorems.{numbersIn, GoesOn, Deliberates}
 abbrev pub kept : List ℕ → Deliberated → List ℕ
 kept ns r = elim (r .answer) [ Done ↦ numbersIn (r .remaining) | Refused q ↦ ns ]
 
--- Deliberate with budget j, save, restore under the same card, go on with budget k, with any number of turns: from the numbers of a
--- program and a configuration, with the first budget and those after it; the answer of the last call, and all counts together. Each
--- call is lent bytes of its own for what remains.
+-- Deliberate with budget j, save, restore under the same card, go on with budget k, with any number of calls and turns: from the
+-- numbers of a program and a configuration, with the first budget and those after it; the answer of the last call, and all counts
+-- together. Each call is lent bytes of its own for what remains.
 pub data TurnedCalls (b p : Bytes) : List ℕ → Configuration → ℕ → List ℕ → Deliberated → ℕ → Type 0 where
-  -- the last call: no turn after it
+  -- the last call
   last-call : {ns : List ℕ} {c : Configuration} {j : ℕ} (lent : Bytes) (r : Deliberated) → GoesOn b p ns c j lent r
       → TurnedCalls b p ns c j [] r (r .count)
   -- 02, Wish 7: "save, restore under the same card, …, where k is at least 1", and what follows
   call-turned : {ns ks : List ℕ} {c : Configuration} {j k n : ℕ} {last : Deliberated} (lent : Bytes) (r : Deliberated)
       → GoesOn b p ns c j lent r → (t : Turn b (r .configuration)) → 1 ≤ k → TurnedCalls b p (kept ns r) (held t) k ks last n
+      → TurnedCalls b p ns c j (k ∷ ks) last (r .count + n)
+  -- a call after which no turn comes
+  call-then : {ns ks : List ℕ} {c : Configuration} {j k n : ℕ} {last : Deliberated} (lent : Bytes) (r : Deliberated)
+      → GoesOn b p ns c j lent r → 1 ≤ k → TurnedCalls b p (kept ns r) (r .configuration) k ks last n
       → TurnedCalls b p ns c j (k ∷ ks) last (r .count + n)
 
 -- What holds of each call, with the bytes that it is lent, and of each turn.
@@ -35,6 +39,7 @@ abbrev pub EachCall : {b p : Bytes} {ns ks : List ℕ} {c : Configuration} {j n 
     → (Bytes → Deliberated → Type 0) → ((c : Configuration) → Turn b c → Type 0) → TurnedCalls b p ns c j ks last n → Type 0
 EachCall call turn (last-call lent r w) = call lent r
 EachCall call turn (call-turned lent r w t least rest) = call lent r × (turn (r .configuration) t × EachCall call turn rest)
+EachCall call turn (call-then lent r w least rest) = call lent r × EachCall call turn rest
 
 -- 02, Wish 7: "Configuration and ending equal those of one run with j + k, and the counts add up to its count.", of deliberations.
 pub record AsOneCall (last : Deliberated) (counts : ℕ) (one : Deliberated) : Type 0 where
@@ -65,7 +70,7 @@ pub record TurnedDeliberation : Type 0 where
       → (second : Deliberated) (w′ : GoesOn b p (kept (whole p) first) (held t) k lent′ second)
       → (one : Deliberated) → Deliberates b p c (j + k) lent″ one
       → TurnedTogether (call-turned lent first w t least (last-call lent′ second w′)) lent″ one
-  -- the same from any numbers, with any number of turns
+  -- the same from any numbers, with any number of calls and turns
   pub any-turns : (b p : Bytes) (ns : List ℕ) (c : Configuration) → Shaped c → (j : ℕ) (ks : List ℕ) (last : Deliberated) (n : ℕ)
       → (calls : TurnedCalls b p ns c j ks last n) (lent : Bytes) (one : Deliberated) → GoesOn b p ns c (j + sum ks) lent one
       → TurnedTogether calls lent one
