@@ -33,7 +33,7 @@ hold() { # WANTED CALL BYTES
     printf '%-10s %6d bytes of stack: %s%s\n' "$2" "$3" "${said:-nothing is said}" "$fault"
 }
 
-for call in check load grade list take run save restore deliberate print name; do
+for call in check load grade list next take run save restore deliberate go_on print name; do
     hold ok "$call" 2048
 done
 hold ok text "$text"

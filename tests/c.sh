@@ -1,8 +1,8 @@
 #!/bin/sh
 # The library as C sees it: include/rigtemple.h as C and as C++, its words for the answers, the
-# eight calls with a turned screen, the two over text, deliberation, names, and the drill over the
-# header against the oracle, byte for byte: on the stored requests of crates/drill, and on requests
-# by seed. The last line is 'N passed, M failed'.
+# eight calls with a turned screen, what comes next, the two over text, deliberation and going on,
+# names, and the drill over the header against the oracle, byte for byte: on the stored requests of
+# crates/drill, and on requests by seed. The last line is 'N passed, M failed'.
 #
 #   tests/c.sh [--engine] [--seed N] [--cards N] [--texts N] [--programs N] [--names N]
 #              [--largest BYTES]
@@ -89,9 +89,9 @@ same_words() {
 "$tests/build_c.sh" "$work/answer_words" "$tests/answer_words.c"
 expect "the words of the answers are docs/API.md's" same_words
 
-# The eight calls, with the screen turned in the middle of a run, the two over text, deliberation,
-# and names.
-for program in eight_calls text_calls deliberate_calls name_calls; do
+# The eight calls, with the screen turned in the middle of a run, what comes next, the two over text,
+# deliberation and going on, and names.
+for program in eight_calls next_calls text_calls deliberate_calls name_calls; do
     "$tests/build_c.sh" "$work/$program" "$tests/$program.c" "$tests/cards.c" "$tests/programs.c" \
         "$tests/sheets.c" "$archive"
     "$tests/run_c.sh" "$work/$program" >"$work/$program.out" || true

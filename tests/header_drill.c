@@ -20,14 +20,17 @@
  *                                       remaining program: m numbers (1)
  *  12 name     length (2), bytes of the shed's sheet, length (2), bytes of the master's, action (2)
  *                                       number (2), sheet (1), start (2), length (2)
+ *  21 go on    length (2), bytes of program, m (2), m numbers (1), image, budget (2)
+ *                                       as 11
+ *  22 next     image                    number (2), ending (1), code (2)
  *
  * An image: beliefs (16), goals (16), plan length (2), phase (1), finished count (2), m (2), m
  * bytes of the plan's array; the rest of it is zero. In an answer m is the least that serves. The
  * node of a take is with 16 the one that settled the condition, else 0; the place of a text with 17
  * that of the first wrong byte, else 0; the sheet of a name is 0 the master's or 1 the shed's: the
- * one that it lies in, or with 20 the one that is refused. What a refused grading says beside its
- * number is written as 0. A request that breaks these rules ends the program, and so does what a
- * call leaves wrong and no answer shows.
+ * one that it lies in, or with 20 the one that is refused. What a refused grading and a refused
+ * "next" say beside their number is written as 0. A request that breaks these rules ends the
+ * program, and so does what a call leaves wrong and no answer shows.
  *
  * All that a call may write is lent filled with EE hex, with bytes of the same around it. They are
  * looked at after each call: one that is written ends the program.
@@ -39,8 +42,10 @@
 #include "../include/rigtemple.h"
 
 enum { CARD, CHECK, LOAD, GRADE, LIST, TAKE, RUN, SAVE, RESTORE, TEXT, PRINT, DELIBERATE, NAME };
+enum { GO_ON = 21, NEXT };
 enum { LIST_LIMIT = 1024, SAVE_LIMIT = 2048, PLACE_LIMIT = 4096, LENT = 0xEE };
 enum { TEXT_LIMIT = 65536, CARD_ROOM_LIMIT = 24200, PRINT_LIMIT = 2048, PROGRAM_LIMIT = 1024 };
+enum { NUMBERS_LIMIT = 512 };
 
 static uint8_t card[65535];
 static size_t card_len;
@@ -294,29 +299,89 @@ static void answer_print(void)
     put_bytes(text, room);
 }
 
-/* What lies behind the numbers that remain is not in the answer: a byte that is not 0 ends the
- * program. */
+/* A configuration that is only read: one that is written ends the program. A refused `next` says
+ * rest and no code, and its ending is written as 0. */
+static void answer_next(void)
+{
+    struct rigtemple_configuration *c = get_image(), before;
+    uint8_t *coming = lend(1);
+    uint16_t *choice = lend(2);
+    memcpy(&before, c, sizeof before);
+    uint16_t number = rigtemple_next(card, card_len, c, coming, choice);
+    int done = number == RIGTEMPLE_ANSWER_DONE;
+    if (memcmp(c, &before, sizeof before) != 0)
+        end(3);
+    if (!done && *coming != RIGTEMPLE_NEXT_REST)
+        end(3);
+    put_number(number);
+    put_byte(done ? *coming : 0);
+    put_number(*choice);
+}
+
+/* What a deliberation may write beside the configuration. */
+struct left {
+    uint16_t *count;
+    uint8_t *ending, *remaining, *length;
+};
+
+static struct left lend_left(void)
+{
+    struct left l;
+    l.count = lend(2);
+    l.ending = lend(1);
+    l.remaining = lend(RIGTEMPLE_MOST_REMAINING);
+    l.length = lend(1);
+    return l;
+}
+
+/* What lies behind the numbers that remain is not in the answer: it is 0 if the call is done, and
+ * as it was lent if it is refused, when none remain; else the program ends. */
+static void put_left(uint16_t number, const struct rigtemple_configuration *c, const struct left *l)
+{
+    int done = number == RIGTEMPLE_ANSWER_DONE;
+    if (*l->length > (done ? RIGTEMPLE_MOST_REMAINING : 0))
+        end(3);
+    for (size_t i = *l->length; i < RIGTEMPLE_MOST_REMAINING; i++)
+        if (l->remaining[i] != (done ? 0 : LENT))
+            end(3);
+    put_number(number);
+    put_image(c);
+    put_number(*l->count);
+    put_byte(*l->ending);
+    put_number(*l->length);
+    put_bytes(l->remaining, *l->length);
+}
+
 static void answer_deliberate(void)
 {
     uint8_t program[PROGRAM_LIMIT];
     size_t program_len = get_number(PROGRAM_LIMIT);
     get_bytes(program, program_len);
     struct rigtemple_configuration *c = get_image();
-    uint16_t *count = lend(2);
-    uint8_t *ending = lend(1), *remaining = lend(RIGTEMPLE_MOST_REMAINING);
-    uint8_t *remaining_length = lend(1);
-    put_number(rigtemple_deliberate(card, card_len, program, program_len, c, get_number(65535),
-                                    count, ending, remaining, remaining_length));
-    if (*remaining_length > RIGTEMPLE_MOST_REMAINING)
+    struct left l = lend_left();
+    uint16_t number =
+        rigtemple_deliberate(card, card_len, program, program_len, c, get_number(65535), l.count,
+                             l.ending, l.remaining, l.length);
+    put_left(number, c, &l);
+}
+
+/* Numbers that are written end the program. */
+static void answer_go_on(void)
+{
+    uint8_t program[PROGRAM_LIMIT], numbers[NUMBERS_LIMIT], before[NUMBERS_LIMIT];
+    size_t program_len = get_number(PROGRAM_LIMIT);
+    get_bytes(program, program_len);
+    size_t numbers_len = get_number(NUMBERS_LIMIT);
+    get_bytes(numbers, numbers_len);
+    memcpy(before, numbers, numbers_len);
+    struct rigtemple_configuration *c = get_image();
+    struct left l = lend_left();
+    uint16_t number =
+        rigtemple_go_on(card, card_len, program, program_len, numbers, numbers_len, c,
+                        get_number(65535), l.count, l.ending, l.remaining, l.length);
+    if (memcmp(numbers, before, numbers_len) != 0)
         end(3);
-    for (size_t i = *remaining_length; i < RIGTEMPLE_MOST_REMAINING; i++)
-        if (remaining[i] != 0)
-            end(3);
-    put_image(c);
-    put_number(*count);
-    put_byte(*ending);
-    put_number(*remaining_length);
-    put_bytes(remaining, *remaining_length);
+    put_left(number, c, &l);
 }
 
 /* The start is where the name lies behind its sheet's first byte. A name that does not lie in its
@@ -389,6 +454,12 @@ static void answer(uint8_t request)
         break;
     case NAME:
         answer_name();
+        break;
+    case GO_ON:
+        answer_go_on();
+        break;
+    case NEXT:
+        answer_next();
         break;
     default:
         end(1);

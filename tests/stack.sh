@@ -31,4 +31,4 @@ while read -r call bytes; do
     printf '%-10s %6d bytes of stack%s\n' "$call" "$bytes" "$fault"
 done <"$work/stack.out"
 printf '%d passed, %d failed\n' "$passed" "$failed"
-[ "$passed" -eq 12 ]
+[ "$passed" -eq 14 ]
