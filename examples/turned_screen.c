@@ -188,7 +188,8 @@ static int restore(const uint8_t *kept, size_t kept_len, struct weaving *w)
         place += w->program_len + w->numbers_len;
     }
     if (place > kept_len || w->program_len > RIGTEMPLE_MOST_PROGRAM_BYTES ||
-        w->numbers_len > RIGTEMPLE_MOST_REMAINING) {
+        w->numbers_len > RIGTEMPLE_MOST_REMAINING ||
+        (w->moves != 0 && RIGTEMPLE_KIND_OF(w->last) > RIGTEMPLE_KIND_REVISION)) {
         fprintf(stderr, "what was kept is cut off, or is no such file\n");
         return 1;
     }

@@ -1,0 +1,351 @@
+#!/usr/bin/env python3
+"""The weaver beside an example that is killed again and again, at random moments:
+
+    python3 tests/kill.py [--kills N] [--seed N] NAME=COMMAND...
+
+A COMMAND is an example of examples/, which says in its head what it shows, reads and keeps; it is given a card, the file to keep in and,
+every second time, a program. It is killed N times (500) and more without a program and N times with one, while the weaver works from what it shows:
+she makes the move that is shown as the next if she has not made it yet, and says that it is made, now and then twice. Behind a restart she
+reads on the screen whether her last touch counts. What has to hold, of each screen that is shown: the moves are those of one run by oracle/,
+none counts as done that she has not made, and none that counted is lost; so none is skipped and none is made twice. At the end the kept
+place is that of one run. In the last weavings the examples take turns with one file. The last line is 'N passed, M failed'.
+"""
+
+import os
+import random
+import re
+import select
+import shlex
+import shutil
+import struct
+import subprocess
+import sys
+import tempfile
+import time
+from typing import NamedTuple
+
+ROOT = os.path.dirname(os.path.dirname(os.path.abspath(__file__)))
+sys.path.insert(0, os.path.join(ROOT, "oracle"))
+
+import deliberation  # noqa: E402
+import guide  # noqa: E402
+import text  # noqa: E402
+
+KINDS = ("select", "act", "revise")
+SCREEN = re.compile(r"bands finished: (\d+)\n(?:open:.*\n)?last: (.*)\n(next|end): (.*)\n")
+NO_CHOICE = 65535
+HEAD = "<IIHHH"
+
+# A row of sixty picks, all alike, and a last one.
+ROW = """atoms 1
+action 1
+action 1
+do 0 if T add del
+do 1 if T add 0 del
+select if T goal G0 plan %s 1
+begin beliefs goals 0 plan
+""" % " ".join(60 * "0")
+# Select, then while there is a plan: revise or else act.
+BY_ROW = bytes((0, 0, 0, 0, 3, 0, 0, 0, 2, 0, 0, 0, 5, 2, 1, 0))
+BY_GROWING = bytes((0, 0, 0, 0, 1, 0, 0, 0, 6, 1, 0, 0, 3, 0, 2, 0, 2, 0, 0, 0, 5, 4, 3, 0))
+
+
+# One after the other: the short ones first.
+CYCLE = (0, 1, 0, 2)
+
+
+class Fault(Exception):
+    """What must not be."""
+
+
+class Weaving(NamedTuple):
+    """What one run makes of a card: its moves, its ending, and the place at its end."""
+
+    name: str
+    card: bytes
+    program: bytes
+    moves: list
+    ending: str
+    place: bytes
+    finished: int
+
+
+def own_moves(card, c):
+    """The guide's own moves, as kind and number, and the ending."""
+    moves = []
+    while True:
+        choice = guide.guides_choice(card, c)
+        after = None if choice is None else guide.after(card, c, *choice)
+        if after is None:
+            return moves, c, "rest" if choice is None else "full"
+        moves.append(choice)
+        c = after
+
+
+def program_moves(card, program, c):
+    """A program's moves but the idle ones, and the ending."""
+    entries = deliberation.entries_of(program)
+    remaining, moves = [len(entries) - 1], []
+    while remaining:
+        move = deliberation.first_moves(entries, card, c)[remaining[-1]]
+        if move is None:
+            return moves, c, "stuck"
+        if move.transition is not None:
+            after = guide.after(card, c, *move.transition)
+            if after is None:
+                return moves, c, "full"
+            moves.append(move.transition)
+            c = after
+        remaining.pop()
+        deliberation.put_back(remaining, move.left)
+    return moves, c, "finished"
+
+
+def weaving(name, card, program=b""):
+    """What one run makes of a card; the calls of the oracle for a whole run leave the same configuration."""
+    _, accepted = guide.judge(card)
+    _, first = guide.load(card)
+    if program:
+        moves, c, ending = program_moves(accepted, program, first)
+        whole = deliberation.deliberate(card, program, first, 65535)[1]
+    else:
+        moves, c, ending = own_moves(accepted, first)
+        whole = guide.run(card, first, 65535)[1]
+    if whole != c:
+        raise SystemExit("kill.py: the oracle's run of %s is another" % name)
+    return Weaving(name, card, program, moves, ending, guide.save(card, c, 1068)[1], c.finished)
+
+
+def read(*names):
+    with open(os.path.join(ROOT, *names), "rb") as file:
+        return file.read()
+
+
+def weavings():
+    """The weavings without a program, and those with one."""
+    stripe, teaching = read("cards", "stripe.card"), read("cards", "teaching.program")
+    row = text.read(ROW.encode(), 24128)[-1]
+    growing = text.read(read("cards", "growing.text"), 24128)[-1]
+    own = [weaving("stripe", stripe), weaving("row", row), weaving("growing", growing)]
+    by_program = [weaving("stripe", stripe, teaching), weaving("row", row, BY_ROW), weaving("growing", growing, BY_GROWING)]
+    return [own[at] for at in CYCLE], [by_program[at] for at in CYCLE]
+
+
+class Weaver:
+    """She has made so many moves with her hands, said so of as many or one less, and read that so many count."""
+
+    def __init__(self, weaving, met):
+        self.weaving, self.met = weaving, met
+        self.made = self.said = self.counted = 0
+        self.restarted = self.ended = False
+
+    def check(self, screen):
+        """How many moves a screen tells as done, if it is one that may be shown."""
+        finished, last, what, coming = screen
+        moves = self.weaving.moves
+        lines = ["%d %s %d" % (at + 1, KINDS[kind], number) for at, (kind, number) in enumerate(moves)]
+        done = 0 if last == "none" else int(last.split()[0])
+        shown = "last: %s, %s: %s" % (last, what, coming)
+        if done > self.made:
+            raise Fault("a move that was not made counts as done: %s" % shown)
+        if done < self.counted or done < self.said - 1:
+            raise Fault("a move that counted is lost: %s" % shown)
+        if last != (["none"] + lines)[done]:
+            raise Fault("another move was the last one: %s" % shown)
+        if (what, coming) != ([("next", line) for line in lines] + [("end", self.weaving.ending)])[done]:
+            raise Fault("another move comes next: %s" % shown)
+        if what == "end" and int(finished) != self.weaving.finished:
+            raise Fault("%s bands are finished at the end" % finished)
+        return done
+
+    def sees(self, screen):
+        """She reads a screen; the number of the move that comes next, 0 at the end."""
+        done = self.check(screen)
+        if self.restarted:
+            lost, unseen = self.said > done, done > self.counted
+            self.met["lost" if lost else "unseen" if unseen else "between"] += 1
+        self.restarted, self.counted, self.ended = False, done, screen[2] == "end"
+        return 0 if self.ended else done + 1
+
+
+class Pace:
+    """How long an example takes to its first screen, and from one to the next: what was seen of late."""
+
+    def __init__(self):
+        self.first, self.each = 0.1, 0.02
+
+    def moment(self, random, first):
+        """A moment to die at, from now on: before the first screen, or in the time of some moves."""
+        return random.uniform(0, 1.1 * self.first) if first else random.uniform(0, 4 * self.each)
+
+    def saw(self, first, seconds):
+        if first:
+            self.first += (seconds - self.first) / 8
+        else:
+            self.each += (seconds - self.each) / 8
+
+
+class Life:
+    """An example from its start to its death."""
+
+    def __init__(self, command, room):
+        self.errors = open(os.path.join(room, "errors"), "w+b")
+        self.process = subprocess.Popen(command, stdin=subprocess.PIPE, stdout=subprocess.PIPE, stderr=self.errors, bufsize=0)
+        self.held = ""
+
+    def screens(self, seconds):
+        """The screens that are shown in a time, at once where there are some; None where it ended, or [] where the time is over."""
+        fd = self.process.stdout.fileno()
+        if not select.select([fd], [], [], max(0, seconds))[0]:
+            return []
+        more = os.read(fd, 65536).decode()
+        self.held += more
+        found = list(SCREEN.finditer(self.held))
+        if found:
+            self.held = self.held[found[-1].end():]
+        return [match.groups() for match in found] or (None if not more else self.screens(seconds))
+
+    def say(self, number, twice):
+        try:
+            self.process.stdin.write(b"%d\n" % number * (2 if twice else 1))
+        except BrokenPipeError:
+            pass
+
+    def die(self, weaver):
+        """Kills it; what it showed before that is looked at, and the weaver does nothing more. Whether it was killed in time."""
+        self.process.kill()
+        status = self.process.wait()
+        for screen in self.screens(0) or ():
+            weaver.check(screen)
+        self.close()
+        return status == -9
+
+    def end(self):
+        """Waits until it has ended by itself, as it should at a card's end."""
+        self.process.stdin.close()
+        status = self.process.wait(20)
+        self.errors.seek(0)
+        told = self.errors.read().decode()
+        self.close()
+        if status != 0 or told:
+            raise Fault("it ended with %d: %s" % (status, told.strip()))
+
+    def close(self):
+        for file in (self.process.stdin, self.process.stdout, self.errors):
+            file.close()
+
+
+def weave_one(life, weaver, number, random, dies):
+    """She makes a move, if it is not made yet, and says so; where the tablet dies before that, it may be half made."""
+    if not dies or random.random() < 0.5:
+        weaver.made = max(weaver.made, number)
+    if not dies:
+        weaver.said = number
+        life.say(number, random.random() < 0.1)
+
+
+def live(life, weaver, random, pace):
+    """One life of an example, to its death, which comes at a random moment, or to the card's end; whether it was killed."""
+    early, at = random.random() < 0.2, time.monotonic()
+    dies = at + (pace.moment(random, True) if early else 20)
+    first, answered = True, 0
+    while True:
+        screens = life.screens(dies - time.monotonic())
+        if screens == []:
+            if first and not early:
+                raise Fault("nothing is shown")
+            return life.die(weaver)
+        now = time.monotonic()
+        if screens is None:
+            life.end()
+            if not weaver.ended:
+                raise Fault("it ended before the card")
+            return False
+        pace.saw(first, now - at)
+        if first and not early:
+            dies = now + pace.moment(random, False)
+        first, at = False, now
+        for screen in screens:
+            number = weaver.sees(screen)
+            if number > answered:
+                answered = number
+                weave_one(life, weaver, number, random, random.random() < 0.1)
+
+
+def kept_well(file, weaving):
+    """At the end one file is kept, and its place is that of one run."""
+    with open(file, "rb") as held:
+        kept = held.read()
+    _, moves, last, program, numbers = struct.unpack_from(HEAD, kept)
+    place = kept[struct.calcsize(HEAD) + program + numbers:]
+    kind, number = weaving.moves[-1]
+    if (moves, last) != (len(weaving.moves), 256 * kind + number) or place != weaving.place:
+        raise Fault("what is kept at the end is not that of one run")
+
+
+def weave(examples, weaving, random, paces, met):
+    """A weaving to its end; how many deaths there were."""
+    room = tempfile.mkdtemp()
+    files = [os.path.join(room, name) for name in ("card", "kept", "program")]
+    for name, held in ((files[0], weaving.card), (files[2], weaving.program)):
+        with open(name, "wb") as file:
+            file.write(held)
+    weaver, died = Weaver(weaving, met), 0
+    try:
+        while not weaver.ended:
+            name, command = random.choice(examples)
+            life = Life(command + files[:3 if weaving.program else 2], room)
+            died += live(life, weaver, random, paces[name])
+            weaver.restarted = True
+        if weaver.made != len(weaving.moves):
+            raise Fault("%d moves were made of %d" % (weaver.made, len(weaving.moves)))
+        kept_well(files[1], weaving)
+    except Fault as fault:
+        raise Fault("%s, behind %d deaths and %d moves: %s" % (weaving.name, died, weaver.made, fault)) from None
+    finally:
+        shutil.rmtree(room)
+    return died
+
+
+def killed(what, examples, weavings, kills, seed, paces):
+    """Kills examples so many times, in one weaving after the other; whether all held."""
+    chosen, died, count, met = random.Random("%s %s" % (seed, what)), 0, 0, dict(lost=0, unseen=0, between=0)
+    began = time.monotonic()
+    try:
+        while died < kills:
+            died += weave(examples, weavings[count % len(weavings)], chosen, paces, met)
+            count += 1
+    except Fault as fault:
+        print("failed: %s: %s" % (what, fault))
+        return 0
+    took = time.monotonic() - began
+    print(
+        "%s: %d kills in %d weavings, %.0f s; the touch before was lost in %d, kept and not shown in %d, shown in %d"
+        % (what, died, count, took, met["lost"], met["unseen"], met["between"])
+    )
+    return died
+
+
+def main():
+    words, kills, seed = sys.argv[1:], 500, "1"
+    while words[:1] in (["--kills"], ["--seed"]) and len(words) > 1:
+        option, value, *words = words
+        if not value.isdigit():
+            raise SystemExit("kill.py: %s takes a number" % option)
+        kills, seed = (int(value), seed) if option == "--kills" else (kills, value)
+    if not words or any("=" not in word for word in words):
+        raise SystemExit(__doc__)
+    examples = [(name, shlex.split(command)) for name, _, command in (word.partition("=") for word in words)]
+    paces, passed, failed = {name: Pace() for name, _ in examples}, 0, 0
+    for told, these in zip(("without a program", "with a program"), weavings()):
+        groups = [(name, [(name, command)]) for name, command in examples]
+        for name, group in groups + ([("all in turn", examples)] if len(examples) > 1 else []):
+            held = killed("%s, %s" % (name, told), group, these, kills, seed, paces)
+            passed, failed = passed + held, failed + (held == 0)
+            sys.stdout.flush()
+    print("%d passed, %d failed" % (passed, failed))
+    return failed != 0
+
+
+if __name__ == "__main__":
+    sys.exit(main())
