@@ -33,10 +33,13 @@
  * program, and so does what a call leaves wrong and no answer shows.
  *
  * All that a call may write is lent filled with EE hex, with bytes of the same around it. They are
- * looked at after each call: one that is written ends the program.
+ * looked at after each call: one that is written ends the program. What a call may only read ends
+ * where a guard begins that cannot be read, so that reading past it faults; the card and what is
+ * beside it have to be the same afterwards.
  */
 #include <stdlib.h>
 #include <string.h>
+#include <sys/mman.h>
 #include <unistd.h>
 
 #include "../include/rigtemple.h"
@@ -46,9 +49,6 @@ enum { GO_ON = 21, NEXT };
 enum { LIST_LIMIT = 1024, SAVE_LIMIT = 2048, PLACE_LIMIT = 4096, LENT = 0xEE };
 enum { TEXT_LIMIT = 65536, CARD_ROOM_LIMIT = 24200, PRINT_LIMIT = 2048, PROGRAM_LIMIT = 1024 };
 enum { NUMBERS_LIMIT = 512 };
-
-static uint8_t card[65535];
-static size_t card_len;
 
 /* ---- standard input and output ---- */
 
@@ -134,6 +134,45 @@ static void put_number(uint16_t value)
 {
     put_byte((uint8_t)value);
     put_byte((uint8_t)(value >> 8));
+}
+
+/* ---- what a call may only read ---- */
+
+/* The card, and what else is given with it: where each part ends, a guard begins. */
+enum { THE_CARD, FIRST, SECOND, READ_PARTS, ROOM = 1 << 17 };
+static uint8_t *guard[READ_PARTS], before[READ_PARTS][65536];
+static size_t given[READ_PARTS];
+static uint8_t *card;
+static size_t card_len;
+
+/* Lays the guards, each behind room for what is given. */
+static void lay_guards(void)
+{
+    for (unsigned part = 0; part < READ_PARTS; part++) {
+        uint8_t *at = mmap(NULL, 2 * ROOM, PROT_READ | PROT_WRITE, MAP_PRIVATE | MAP_ANONYMOUS, -1,
+                           0);
+        if (at == MAP_FAILED || mprotect(at + ROOM, ROOM, PROT_NONE) != 0)
+            end(2);
+        guard[part] = at + ROOM;
+    }
+    card = guard[THE_CARD];
+}
+
+/* So many bytes of the input, for a part. */
+static uint8_t *get_part(unsigned part, size_t count)
+{
+    given[part] = count;
+    get_bytes(before[part], count);
+    return memcpy(guard[part] - count, before[part], count);
+}
+
+/* Looks whether a call has changed what it may only read. */
+static void look_at_parts(void)
+{
+    for (unsigned part = 0; part < READ_PARTS; part++)
+        if (memcmp(guard[part] - given[part], before[part], given[part]) != 0)
+            end(3);
+    given[FIRST] = given[SECOND] = 0;
 }
 
 /* ---- lending ---- */
@@ -265,9 +304,8 @@ static void answer_save(void)
 
 static void answer_restore(void)
 {
-    uint8_t place[PLACE_LIMIT];
     size_t place_len = get_number(PLACE_LIMIT);
-    get_bytes(place, place_len);
+    const uint8_t *place = get_part(FIRST, place_len);
     struct rigtemple_configuration *c = lend(sizeof *c);
     put_number(rigtemple_restore(card, card_len, place, place_len, c));
     put_image(c);
@@ -275,9 +313,8 @@ static void answer_restore(void)
 
 static void answer_text(void)
 {
-    static uint8_t text[TEXT_LIMIT];
     size_t text_len = get_length(TEXT_LIMIT);
-    get_bytes(text, text_len);
+    const uint8_t *text = get_part(FIRST, text_len);
     size_t room = get_number(CARD_ROOM_LIMIT), *place = lend(sizeof *place);
     uint8_t *made = lend(room);
     uint16_t *count = lend(2);
@@ -299,19 +336,16 @@ static void answer_print(void)
     put_bytes(text, room);
 }
 
-/* A configuration that is only read: one that is written ends the program. A refused `next` says
- * rest and no code, and its ending is written as 0. */
+/* A configuration that is written ends the program, and so does a refusal that tells a move. */
 static void answer_next(void)
 {
-    struct rigtemple_configuration *c = get_image(), before;
+    struct rigtemple_configuration *c = get_image(), as_given;
     uint8_t *coming = lend(1);
     uint16_t *choice = lend(2);
-    memcpy(&before, c, sizeof before);
+    memcpy(&as_given, c, sizeof as_given);
     uint16_t number = rigtemple_next(card, card_len, c, coming, choice);
     int done = number == RIGTEMPLE_ANSWER_DONE;
-    if (memcmp(c, &before, sizeof before) != 0)
-        end(3);
-    if (!done && *coming != RIGTEMPLE_NEXT_REST)
+    if (memcmp(c, &as_given, sizeof as_given) != 0 || (!done && *coming != RIGTEMPLE_NEXT_REST))
         end(3);
     put_number(number);
     put_byte(done ? *coming : 0);
@@ -354,9 +388,8 @@ static void put_left(uint16_t number, const struct rigtemple_configuration *c, c
 
 static void answer_deliberate(void)
 {
-    uint8_t program[PROGRAM_LIMIT];
     size_t program_len = get_number(PROGRAM_LIMIT);
-    get_bytes(program, program_len);
+    const uint8_t *program = get_part(FIRST, program_len);
     struct rigtemple_configuration *c = get_image();
     struct left l = lend_left();
     uint16_t number =
@@ -365,22 +398,17 @@ static void answer_deliberate(void)
     put_left(number, c, &l);
 }
 
-/* Numbers that are written end the program. */
 static void answer_go_on(void)
 {
-    uint8_t program[PROGRAM_LIMIT], numbers[NUMBERS_LIMIT], before[NUMBERS_LIMIT];
     size_t program_len = get_number(PROGRAM_LIMIT);
-    get_bytes(program, program_len);
+    const uint8_t *program = get_part(FIRST, program_len);
     size_t numbers_len = get_number(NUMBERS_LIMIT);
-    get_bytes(numbers, numbers_len);
-    memcpy(before, numbers, numbers_len);
+    const uint8_t *numbers = get_part(SECOND, numbers_len);
     struct rigtemple_configuration *c = get_image();
     struct left l = lend_left();
     uint16_t number =
         rigtemple_go_on(card, card_len, program, program_len, numbers, numbers_len, c,
                         get_number(65535), l.count, l.ending, l.remaining, l.length);
-    if (memcmp(numbers, before, numbers_len) != 0)
-        end(3);
     put_left(number, c, &l);
 }
 
@@ -388,14 +416,12 @@ static void answer_go_on(void)
  * sheet, and what a refusal hands back beside an empty part of the master's, end the program. */
 static void answer_name(void)
 {
-    static uint8_t shed[RIGTEMPLE_MOST_SHEET_BYTES], master[RIGTEMPLE_MOST_SHEET_BYTES];
-    const uint8_t *name = card, *held = master;
     uint16_t *bytes = lend(2);
     uint8_t *sheet = lend(1);
-    size_t shed_len = get_number(sizeof shed);
-    get_bytes(shed, shed_len);
-    size_t master_len = get_number(sizeof master), held_len = master_len;
-    get_bytes(master, master_len);
+    size_t shed_len = get_number(RIGTEMPLE_MOST_SHEET_BYTES);
+    const uint8_t *shed = get_part(FIRST, shed_len);
+    size_t master_len = get_number(RIGTEMPLE_MOST_SHEET_BYTES), held_len = master_len;
+    const uint8_t *master = get_part(SECOND, master_len), *held = master, *name = card;
     uint16_t number = rigtemple_name(card, card_len, shed, shed_len, master, master_len,
                                      get_number(65535), &name, bytes, sheet);
     if (number == RIGTEMPLE_ANSWER_DONE && *sheet == RIGTEMPLE_SHEET_SHED) {
@@ -416,8 +442,8 @@ static void answer(uint8_t request)
 {
     switch (request) {
     case CARD:
-        card_len = get_number(sizeof card);
-        get_bytes(card, card_len);
+        card_len = get_number(65535);
+        card = get_part(THE_CARD, card_len);
         break;
     case CHECK:
         put_number(rigtemple_check(card, card_len));
@@ -469,8 +495,10 @@ static void answer(uint8_t request)
 int main(void)
 {
     memset(arena, LENT, sizeof arena);
+    lay_guards();
     while (more()) {
         answer(get_byte());
+        look_at_parts();
         take_back();
     }
     end(0);

@@ -169,6 +169,11 @@ build_arm arm_overrun -Wl,--wrap=rigtemple_list_parts "$tests/header_drill.c" "$
 overrun() { ended=0; run_arm arm_overrun <"$root/crates/drill/stdin" || ended=$?; [ "$ended" -eq 3 ]; }
 expect 'a guard byte that is written is seen' overrun
 
+# Reading one number more than are given faults there (signal 11).
+build_arm arm_overread -Wl,--wrap=rigtemple_go_on_parts "$tests/header_drill.c" "$tests/overread.c"
+overread() { ended=0; run_arm arm_overread <"$root/crates/drill/stdin" || ended=$?; [ "$ended" -eq 139 ]; }
+expect 'a byte that is read past the numbers is seen' overread
+
 # ---- WebAssembly
 
 page_drill() { node "$tests/page_drill.mjs" "$folder" "$@"; }

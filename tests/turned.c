@@ -7,8 +7,8 @@
  * all moves are those of one run that was never turned; what rigtemple_next tells before it is what
  * the move was; after each turn a chosen move, open or closed, is answered as without the turn. A
  * deliberation is cut after every move, and after other numbers of moves, and gone on with after a
- * turn by rigtemple_go_on, from the remaining numbers that were kept. Where the card, the program or
- * the configuration is refused, every call is refused alike.
+ * turn by rigtemple_go_on, from the remaining numbers that were kept. Where the card, the program
+ * or the configuration is refused, every call is refused alike.
  *
  *   turned            prints how many there were of each, and then 'N passed, M failed'
  *   turned phase      a caller that forgets the phase at each turn, and so has to fail
