@@ -5,7 +5,7 @@
 # crates/drill, and on requests by seed. The last line is 'N passed, M failed'.
 #
 #   tests/c.sh [--engine] [--seed N] [--cards N] [--texts N] [--programs N] [--names N]
-#              [--largest BYTES]
+#              [--cuts N] [--next N] [--largest BYTES]
 #
 # --engine puts the C engine of bench/ in the library's place, and so holds that one against the
 # oracle the same way.
@@ -19,6 +19,8 @@ cards=400
 texts=400
 programs=400
 names=400
+cuts=400
+next=400
 largest=24128
 while [ $# -gt 0 ]; do
     case $1 in
@@ -28,9 +30,11 @@ while [ $# -gt 0 ]; do
     --texts) texts=${2:?--texts takes a number}; shift ;;
     --programs) programs=${2:?--programs takes a number}; shift ;;
     --names) names=${2:?--names takes a number}; shift ;;
+    --cuts) cuts=${2:?--cuts takes a number}; shift ;;
+    --next) next=${2:?--next takes a number}; shift ;;
     --largest) largest=${2:?--largest takes a number}; shift ;;
     *) die "usage: c.sh [--engine] [--seed N] [--cards N] [--texts N] [--programs N]" \
-        "[--names N] [--largest BYTES]" ;;
+        "[--names N] [--cuts N] [--next N] [--largest BYTES]" ;;
     esac
     shift
 done
@@ -132,10 +136,10 @@ python3 -B "$root/oracle/stored.py" --check >"$work/stored.out" ||
     die "the stored requests are others"
 held 'the stored requests' "$work/stored.out" "$stored/stdin" "$stored/stdout"
 python3 -B "$root/oracle/cases.py" --seed "$seed" --cards "$cards" --texts "$texts" \
-    --programs "$programs" --names "$names" --largest "$largest" --requests "$work/requests" \
-    --answers "$work/answers" >"$work/cases.out"
-held "seed $seed, $cards cards, $texts texts, $programs cases of programs, $names of names" \
-    "$work/cases.out" "$work/requests" "$work/answers"
+    --programs "$programs" --names "$names" --cuts "$cuts" --next "$next" --largest "$largest" \
+    --requests "$work/requests" --answers "$work/answers" >"$work/cases.out"
+fresh="$cards cards, $texts texts, $programs cases of programs, $names of names, $cuts cuts"
+held "seed $seed, $fresh, $next next moves" "$work/cases.out" "$work/requests" "$work/answers"
 
 printf '%s passed, %s failed\n' "$passed" "$failed"
 [ "$failed" -eq 0 ]

@@ -6,10 +6,11 @@
 # call is measured, and what a page and an app for Android do is tried as far as it can be here. The
 # last line is 'N passed, M failed'.
 #
-#   tests/tablets.sh [--seed N] [--cases N] [--texts N] [--programs N] [--names N] [--emulated]
+#   tests/tablets.sh [--seed N] [--cases N] [--texts N] [--programs N] [--names N] [--cuts N]
+#                    [--next N] [--emulated]
 #
-# --cases, --texts, --programs and --names are those of tests/compare.py. --emulated takes Debian's
-# compiler and emulator for 64-bit Arm on an Arm machine too. Beside the kit and Python 3 it needs
+# --cases, --texts, --programs, --names, --cuts and --next are those of tests/compare.py. --emulated
+# takes Debian's compiler and emulator for 64-bit Arm on an Arm machine too. Beside the kit and Python 3 it needs
 # Debian's packages nodejs and, on an Arm machine, gcc, elsewhere gcc-aarch64-linux-gnu,
 # libc6-dev-arm64-cross and qemu-user. Where there are tsc (node-typescript) and cmake, the types and
 # a build by CMake are tried too.
@@ -22,6 +23,8 @@ cases=2000
 texts=50
 programs=50
 names=50
+cuts=200
+next=200
 emulated=
 while [ $# -gt 0 ]; do
     case $1 in
@@ -30,9 +33,11 @@ while [ $# -gt 0 ]; do
     --texts) texts=${2:?--texts takes a number}; shift ;;
     --programs) programs=${2:?--programs takes a number}; shift ;;
     --names) names=${2:?--names takes a number}; shift ;;
+    --cuts) cuts=${2:?--cuts takes a number}; shift ;;
+    --next) next=${2:?--next takes a number}; shift ;;
     --emulated) emulated=yes ;;
     *) die "usage: tablets.sh [--seed N] [--cases N] [--texts N] [--programs N] [--names N]" \
-        "[--emulated]" ;;
+        "[--cuts N] [--next N] [--emulated]" ;;
     esac
     shift
 done
@@ -256,6 +261,7 @@ expect 'stack and room in a page' within page
 
 count "seed $seed, fresh requests through both" python3 -B "$tests/compare.py" --seed "$seed" \
     --cases "$cases" --texts "$texts" --programs "$programs" --names "$names" \
+    --cuts "$cuts" --next "$next" \
     --drill "${arm_run:+$arm_run }'$room/arm_drill'" --drill "node '$tests/page_drill.mjs' '$folder'"
 grep ' requests about ' "$room/said" || :
 
