@@ -8,7 +8,8 @@ every second time, a program. It is killed N times (500) and more without a prog
 she makes the move that is shown as the next if she has not made it yet, and says that it is made, now and then twice. Behind a restart she
 reads on the screen whether her last touch counts. What has to hold, of each screen that is shown: the moves are those of one run by oracle/,
 none counts as done that she has not made, and none that counted is lost; so none is skipped and none is made twice. At the end the kept
-place is that of one run. In the last weavings the examples take turns with one file. The last line is 'N passed, M failed'.
+place is that of one run. In the last weavings the examples take turns with one file. Before all that, what no example goes on from: another
+card's file, and damaged ones. The last line is 'N passed, M failed'.
 """
 
 import os
@@ -326,6 +327,59 @@ def killed(what, examples, weavings, kills, seed, paces):
     return died
 
 
+def damages(kept):
+    """Damaged files, by what is wrong with them."""
+    program, numbers = struct.unpack_from("<HH", kept, 10)
+    number = struct.calcsize(HEAD) + program
+    place = number + numbers
+    yield "an empty one", b""
+    yield "a head that is cut off", kept[:13]
+    yield "a program that is cut off", kept[:20]
+    yield "a place that is cut off", kept[:-1]
+    yield "one byte more", kept + b"\0"
+    yield "another fingerprint", bytes([kept[0] ^ 1]) + kept[1:]
+    yield "a last move that is none", kept[:8] + b"\0\3" + kept[10:]
+    yield "more numbers than there are", kept[:12] + b"\xff\xff" + kept[14:]
+    yield "an entry of an unknown kind", kept[:14] + b"\7" + kept[15:]
+    yield "a number that is no entry", kept[:number] + bytes([program // 4]) + kept[number + 1:]
+    yield "a place with phase 3", kept[:place + 8] + b"\3" + kept[place + 9:]
+
+
+def refuses(name, command, room):
+    """What an example does not go on from is told, nothing is shown of it, and the file stays; how many of these there are."""
+    card, other, program = (os.path.join(ROOT, "cards", file) for file in ("stripe.card", "maximal.card", "teaching.program"))
+    file, count = os.path.join(room, "kept"), 0
+
+    def run(card, lines):
+        return subprocess.run(command + [card, file, program], input=lines, capture_output=True)
+
+    begun = run(card, b"1\n2\n")
+    kept = read(file)
+    for what, held, card in [("another card's", kept, other)] + [(what, held, card) for what, held in damages(kept)]:
+        with open(file, "wb") as out:
+            out.write(held)
+        ended = run(card, b"3\n4\n")
+        if begun.returncode or not ended.returncode or ended.stdout or not ended.stderr or read(file) != held:
+            raise Fault("%s: %s is gone on with: %s" % (name, what, ended))
+        count += 1
+    os.unlink(file)
+    return count
+
+
+def refused(examples):
+    """The refusals of each example; how many held, and how many did not."""
+    passed = failed = 0
+    room = tempfile.mkdtemp()
+    for name, command in examples:
+        try:
+            passed += refuses(name, command, room)
+        except Fault as fault:
+            print("failed: %s" % fault)
+            failed += 1
+    shutil.rmtree(room)
+    return passed, failed
+
+
 def main():
     words, kills, seed = sys.argv[1:], 500, "1"
     while words[:1] in (["--kills"], ["--seed"]) and len(words) > 1:
@@ -336,7 +390,8 @@ def main():
     if not words or any("=" not in word for word in words):
         raise SystemExit(__doc__)
     examples = [(name, shlex.split(command)) for name, _, command in (word.partition("=") for word in words)]
-    paces, passed, failed = {name: Pace() for name, _ in examples}, 0, 0
+    paces = {name: Pace() for name, _ in examples}
+    passed, failed = refused(examples)
     for told, these in zip(("without a program", "with a program"), weavings()):
         groups = [(name, [(name, command)]) for name, command in examples]
         for name, group in groups + ([("all in turn", examples)] if len(examples) > 1 else []):

@@ -26,6 +26,7 @@ while [ $# -gt 0 ]; do
 done
 
 command -v python3 >/dev/null || die "python3 is missing"
+python=$(python3 -c 'import sys; print(sys.executable)') # itself, and no script that looks for it
 root=$(cd "$(dirname "$0")/.." && pwd)
 tests=$root/tests
 room=$(mktemp -d)
@@ -95,7 +96,7 @@ fi
 if [ -n "$linked" ]; then
     cc -shared -Wl,--whole-archive "$linked/librigtemple.a" -Wl,--no-whole-archive \
         -o "$room/librigtemple.so"
-    set -- "$@" "Python=python3 -B '$root/examples/by_ctypes.py' '$room/librigtemple.so'"
+    set -- "$@" "Python='$python' -B '$root/examples/by_ctypes.py' '$room/librigtemple.so'"
 else
     printf 'Python is not tried: there is no C compiler\n'
 fi
@@ -105,6 +106,21 @@ if [ -z "$engine" ] && command -v node >/dev/null; then
 else
     printf 'JavaScript is not tried: there is no node, or the engine is\n'
 fi
+
+# What an example shows, reads and keeps is said in the same words in all four.
+words_of() { # EXAMPLE
+    sed -n '/It shows the last move done/,/Without a file the card begins/p' "$root/examples/$1" |
+        sed 's|^ \* \{0,1\}||; s|^//! \{0,1\}||'
+}
+words_of turned_screen.c >"$room/words"
+for example in by_ctypes.py by_node.mjs rust/examples/turned_screen.rs; do
+    if [ -s "$room/words" ] && words_of "$example" | cmp -s - "$room/words"; then
+        passed=$((passed + 1))
+    else
+        failed=$((failed + 1))
+        printf 'failed: %s says in other words what it shows, reads and keeps\n' "$example"
+    fi
+done
 
 # ---- the weaver
 

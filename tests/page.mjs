@@ -87,17 +87,70 @@ function shown(text, after) {
   return `data:text/javascript,${encodeURIComponent(code + after)}`;
 }
 
-await test("as docs/API.md and HOW-TO-LINK.txt show it", () => served(async (at) => {
-  const own = globalThis.fetch;
-  globalThis.fetch = (name) => own(at + name);
+/* What a browser has for the page of docs/API.md: two elements, and a database that outlives the page. `dies` says whether it does so
+ * before a step is on the disk; every other request is answered later, as in a browser. */
+function browser(at) {
+  const [held, its] = [new Map(), { shown: {}, made: {}, dies: () => false }];
+  const later = (request, event) => (setTimeout(() => request[event]?.()), request);
+  const store = () => ({ get: (key) => later({ result: structuredClone(held.get(key)) }, "onsuccess") });
+  const step = (_, mode, options) => {
+    if (mode === undefined) return { objectStore: store };
+    assert.deepEqual([mode, options], ["readwrite", { durability: "strict" }]);
+    const begun = {};
+    const put = (value, key) => its.dies() || (held.set(key, structuredClone(value)), later(begun, "oncomplete"));
+    return Object.assign(begun, { objectStore: () => ({ put }) });
+  };
+  const made = new Set();
+  const database = { createObjectStore: (name) => made.add(name), transaction: step };
+  const open = () => {
+    const opening = { result: database };
+    setTimeout(() => (made.size === 0 && opening.onupgradeneeded(), opening.onsuccess()));
+    return opening;
+  };
+  const fetched = globalThis.fetch;
+  return { held, its, globals: { indexedDB: { open }, document: { getElementById: (id) => its[id] }, fetch: (name) => fetched(at + name) } };
+}
+
+/* Does something with other globals. */
+async function having(globals, body) {
+  const own = Object.fromEntries(Object.keys(globals).map((name) => [name, globalThis[name]]));
   try {
-    const { place } = await import(shown(words(root, "docs", "API.md"), "\nexport { place };"));
-    assert.equal(place.length, 45);
+    Object.assign(globalThis, globals);
+    await body();
+  } finally {
+    Object.assign(globalThis, own);
+  }
+}
+
+let opened = 0;
+const reopen = (after = "") => import(shown(words(root, "docs", "API.md"), `\n// ${++opened}\n${after}`));
+
+await test("as docs/API.md and HOW-TO-LINK.txt show it", () => served(async (at) => {
+  const { held, its, globals } = browser(at);
+  await having(globals, async () => {
+    const seen = ["none", 0, 512, 257, 513, 258, 256].map((last, n, all) => `last ${n}: ${last}, next ${n < 6 ? `${n + 1}: ${all[n + 1]}` : "rest"}`);
+    for (let n = 0; n < 6; n++) {
+      await reopen();
+      assert.equal(its.shown.textContent, seen[n]);
+      its.dies = () => true;
+      its.made.onclick();
+      await new Promise((done) => setTimeout(done, 5));
+      assert.equal(its.shown.textContent, seen[n]);
+      its.dies = () => false;
+      await reopen();
+      assert.equal(its.shown.textContent, seen[n]);
+      const touch = its.made.onclick;
+      await touch();
+      assert.deepEqual([its.shown.textContent, touch === its.made.onclick], [seen[n + 1], false]);
+    }
+    assert.equal(its.made.onclick, null);
+    const one = guide.run(stripe, guide.load(stripe).configuration, 1000).configuration;
+    assert.deepEqual(held.get("weaving").place, guide.save(stripe, one).place);
+    held.get("weaving").fingerprint ^= 1;
+    await assert.rejects(reopen(), /of another card/);
     const { answer, name } = await import(shown(words(folder, "HOW-TO-LINK.txt"), "\nexport { answer, name };"));
     assert.deepEqual([answer, name], [0, "done"]);
-  } finally {
-    globalThis.fetch = own;
-  }
+  });
 }));
 
 // ---- docs/API.md: from a card to a saved place and back
