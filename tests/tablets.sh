@@ -10,10 +10,10 @@
 #                    [--next N] [--emulated]
 #
 # --cases, --texts, --programs, --names, --cuts and --next are those of tests/compare.py. --emulated
-# takes Debian's compiler and emulator for 64-bit Arm on an Arm machine too. Beside the kit and Python 3 it needs
-# Debian's packages nodejs and, on an Arm machine, gcc, elsewhere gcc-aarch64-linux-gnu,
-# libc6-dev-arm64-cross and qemu-user. Where there are tsc (node-typescript) and cmake, the types and
-# a build by CMake are tried too.
+# takes Debian's compiler and emulator for 64-bit Arm on an Arm machine too. Beside the kit and
+# Python 3 it needs Debian's packages nodejs and, on an Arm machine, gcc, elsewhere
+# gcc-aarch64-linux-gnu, libc6-dev-arm64-cross and qemu-user. Where there are tsc (node-typescript)
+# and cmake, the types and a build by CMake are tried too.
 set -eu
 
 die() { printf 'tablets.sh: %s\n' "$*" >&2; exit 2; }
