@@ -4,25 +4,25 @@
     python3 by_ctypes.py LIBRIGTEMPLE.SO CARD KEPT [PROGRAM]
     python3 by_ctypes.py LIBRIGTEMPLE.SO CARD --names MASTER [SHED]
 
-The same app is written in C, Rust, Python and JavaScript, and each goes on from what another kept.
+The same app is written in C, Rust, Python and JavaScript, and each goes on from another's file.
 
 It shows the last move done and, behind it, what comes next: `last: none` or `last: 1 select 0`,
 and `next: 2 revise 0` or, if that is all, `end: ` and rest, full, finished, stuck or idle. By
 itself the guide tells what comes next, with PROGRAM the shed's own deliberation.
 It reads a line with the number of the move that the weaver has made: that is when it is taken,
 kept, and the one after it shown. Another line, such as a second touch of one screen, changes
-nothing. The end of the input is the turn of the screen: the next one goes on from the file KEPT.
+nothing. The end of the input is the turn of the screen: it goes on then from the file KEPT.
 It keeps one file, replaced in one step; numbers have their low byte first:
     4 bytes    the card's fingerprint: another card's place is not gone on with
     4          how many moves are done: two moves in a row may be alike
     2          the code of the last one, 65535 where none is done
-    2, 2       how many bytes the program has, 0 where there is none, and how many numbers remain
+    2, 2       how many bytes the program has, 0 for no program, and how many numbers remain
     those      the program, the numbers
     the rest   the place
 What is refused of it is told and left as it is. Without a file the card begins.
 
-The second command prints the name of each action: of the shed's sheet, or of the master's where the shed has none. A refusal ends the program
-with status 1. HOW-TO-LINK.txt of the library's folder makes the shared object from the archive.
+The second command prints the name of each action: of the shed's sheet, or of the master's where the shed has none. A refusal ends the
+program with status 1. HOW-TO-LINK.txt of the library's folder makes the shared object from the archive.
 
 The symbols of the library are the fourteen functions `rigtemple_..._parts`, over the parts of a configuration: what rigtemple.h calls
 `rigtemple_load` and so on is made of them in the header. Declare all their types: an undeclared length would be passed as 32 bits.
@@ -126,12 +126,18 @@ class Guide:
         self("take", *c.lent(), choice, byref(node))
         return self.saved(c)
 
-    def go_on(self, program, numbers, place):
-        """How one move of a program ends, in a word, what remains then, and the place."""
+    def deliberate(self, program, place, budget):
+        """Moves by a program: how it ends, in a word, what remains then, and the place."""
+        return self.deliberated("deliberate", (program, len(program)), place, budget)
+
+    def go_on(self, program, numbers, place, budget):
+        """The same from the numbers that remained."""
+        return self.deliberated("go_on", (program, len(program), numbers, len(numbers)), place, budget)
+
+    def deliberated(self, call, given, place, budget):
         c = self.restored(place)
         moves, ending, remaining, count = c_uint16(), c_uint8(), (c_uint8 * 128)(), c_uint8()
-        given = program, len(program), numbers, len(numbers), *c.lent(), 1
-        self("go_on", *given, byref(moves), byref(ending), remaining, byref(count))
+        self(call, *given, *c.lent(), budget, byref(moves), byref(ending), remaining, byref(count))
         return DELIBERATION_ENDINGS[ending.value], bytes(remaining[: count.value]), self.saved(c)
 
 
@@ -188,19 +194,20 @@ def restored(guide, kept):
     if len(kept) < start + program + numbers or (moves and last >= 768):
         raise SystemExit("what was kept is cut off, or is no such file")
     held = kept[start:]
-    w = Weaving(moves, last, held[:program], held[program : program + numbers], held[program + numbers :])
-    guide.restored(w.place)
-    return w
+    place = held[program + numbers :]
+    guide.restored(place)
+    return Weaving(moves, last, held[:program], held[program : program + numbers], place)
 
 
-def begin(guide, name, program=b""):
+def begin(guide, name, program):
     """The weaving to go on with: the kept one, or the card's first where none was kept, of whose program the last entry remains, which
     is the whole. That is kept before anything is shown, so that a folder that cannot be written is told before anything is woven."""
     if os.path.exists(name):
         return restored(guide, read(name))
-    w = Weaving(0, NO_CHOICE, program, bytes([len(program) // 4 - 1]) if program else b"", guide.load())
-    if program:
-        guide.go_on(program, w.numbers, w.place)
+    w = Weaving(0, NO_CHOICE, b"", b"", guide.load())
+    if program is not None:
+        w.program = program
+        _, w.numbers, _ = guide.deliberate(program, w.place, 0)
     w.keep(guide, name)
     return w
 
@@ -213,19 +220,19 @@ def made(guide, before, after):
                 return choice
         except Refused:
             continue  # its plan would get too long
-    raise SystemExit("no choice leaves what the program's move does")
+    raise AssertionError("a program makes moves of the card")
 
 
 def coming(guide, w):
-    """What comes next: its code, or None and how the weaving ends. Nothing of it changes. A program's move is made on a copy, which comes with
-    it; its code is that of a choice that leaves the same. One that changes nothing, as an idle one does, is passed and not shown, so many
-    in a row."""
+    """What comes next: its code, or None and how the weaving ends. Nothing of it changes. A program's move is made on a copy, which comes
+    with it; its code is that of a choice that leaves the same. One that changes nothing, as an idle one does, is passed and not shown, so
+    many in a row."""
     if not w.program:
         word, choice = guide.next(w.place)
         return (choice, None) if word == "move" else (None, word)
     numbers = w.numbers
     for _ in range(MOST_IDLE):
-        ending, numbers, place = guide.go_on(w.program, numbers, w.place)
+        ending, numbers, place = guide.go_on(w.program, numbers, w.place, 1)
         if ending != "spent":
             return None, ending
         if place != w.place:
@@ -245,9 +252,9 @@ def show(guide, w, choice, end):
     print("next: %s" % line_of(w.moves + 1, choice) if choice is not None else "end: %s" % end, flush=True)
 
 
-def weave(guide, name, program=b""):
-    """Guides to the card's end or the turn of the screen. Beside the lines stands what becomes of the move that is shown as the next, number
-    n, if the tablet dies there."""
+def weave(guide, name, program=None):
+    """Guides to the card's end or the turn of the screen. Beside the lines stands what becomes of the move that is shown as the next,
+    number n, if the tablet dies there."""
     w = begin(guide, name, program)
     while True:
         # Dies here: n is not shown yet. What is kept is done up to n - 1, and n is shown then.

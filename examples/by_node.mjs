@@ -3,19 +3,19 @@
  *
  * FOLDER is the one that ./tablets makes. A page does the same with what it has for a file and a screen: docs/API.md, "On a tablet".
  *
- * The same app is written in C, Rust, Python and JavaScript, and each goes on from what another kept.
+ * The same app is written in C, Rust, Python and JavaScript, and each goes on from another's file.
  *
  * It shows the last move done and, behind it, what comes next: `last: none` or `last: 1 select 0`,
  * and `next: 2 revise 0` or, if that is all, `end: ` and rest, full, finished, stuck or idle. By
  * itself the guide tells what comes next, with PROGRAM the shed's own deliberation.
  * It reads a line with the number of the move that the weaver has made: that is when it is taken,
  * kept, and the one after it shown. Another line, such as a second touch of one screen, changes
- * nothing. The end of the input is the turn of the screen: the next one goes on from the file KEPT.
+ * nothing. The end of the input is the turn of the screen: it goes on then from the file KEPT.
  * It keeps one file, replaced in one step; numbers have their low byte first:
  *     4 bytes    the card's fingerprint: another card's place is not gone on with
  *     4          how many moves are done: two moves in a row may be alike
  *     2          the code of the last one, 65535 where none is done
- *     2, 2       how many bytes the program has, 0 where there is none, and how many numbers remain
+ *     2, 2       how many bytes the program has, 0 for no program, and how many numbers remain
  *     those      the program, the numbers
  *     the rest   the place
  * What is refused of it is told and left as it is. Without a file the card begins.

@@ -1,19 +1,19 @@
 /*
  * A weaving guide in a terminal, which loses no pick: turned_screen CARD KEPT [PROGRAM]
  *
- * The same app is written in C, Rust, Python and JavaScript, and each goes on from what another kept.
+ * The same app is written in C, Rust, Python and JavaScript, and each goes on from another's file.
  *
  * It shows the last move done and, behind it, what comes next: `last: none` or `last: 1 select 0`,
  * and `next: 2 revise 0` or, if that is all, `end: ` and rest, full, finished, stuck or idle. By
  * itself the guide tells what comes next, with PROGRAM the shed's own deliberation.
  * It reads a line with the number of the move that the weaver has made: that is when it is taken,
  * kept, and the one after it shown. Another line, such as a second touch of one screen, changes
- * nothing. The end of the input is the turn of the screen: the next one goes on from the file KEPT.
+ * nothing. The end of the input is the turn of the screen: it goes on then from the file KEPT.
  * It keeps one file, replaced in one step; numbers have their low byte first:
  *     4 bytes    the card's fingerprint: another card's place is not gone on with
  *     4          how many moves are done: two moves in a row may be alike
  *     2          the code of the last one, 65535 where none is done
- *     2, 2       how many bytes the program has, 0 where there is none, and how many numbers remain
+ *     2, 2       how many bytes the program has, 0 for no program, and how many numbers remain
  *     those      the program, the numbers
  *     the rest   the place
  * What is refused of it is told and left as it is. Without a file the card begins.
@@ -251,7 +251,8 @@ static int same(const struct rigtemple_configuration *a, const struct rigtemple_
            a->phase == b->phase && a->finished == b->finished;
 }
 
-/* The code of the move that a program made: the first of the list that leaves the same. */
+/* The code of the move that a program made: the first of the list that leaves the same. There is
+ * one, for a program makes moves of the card. */
 static uint16_t made(const struct rigtemple_configuration *before,
                      const struct rigtemple_configuration *after)
 {
@@ -292,7 +293,8 @@ static int next_of_program(const struct weaving *w, struct weaving *copy, uint16
     *end = NULL;
     for (i = 0; i < MOST_IDLE; i++) {
         answer = rigtemple_go_on(card, card_len, copy->program, copy->program_len, copy->numbers,
-                                 copy->numbers_len, &copy->c, 1, &moves, &ending, remaining, &count);
+                                 copy->numbers_len, &copy->c, 1, &moves, &ending, remaining,
+                                 &count);
         if (answer != RIGTEMPLE_ANSWER_DONE)
             return refused("what remains of the program", answer);
         *end = ends[ending];
@@ -352,12 +354,14 @@ static long said(const char *line, uint32_t number, uint16_t choice)
     unsigned long first = strtoul(line, &end, 10), code = choice;
     if (end == line || first != number)
         return -1;
-    if (*end == ' ')
+    if (end[0] == ' ' && end[1] != '\n')
         code = strtoul(end + 1, &end, 10);
-    return *end == '\n' ? (long)(code < RIGTEMPLE_NO_CHOICE ? code : RIGTEMPLE_NO_CHOICE) : -1;
+    if (*end != '\n')
+        return -1;
+    return (long)(code < RIGTEMPLE_NO_CHOICE ? code : RIGTEMPLE_NO_CHOICE);
 }
 
-/* Takes a move in the stead of a program's; of one that is closed it tells why, and by which node. */
+/* Takes a move; of one that is closed it tells why, and which node settled its condition. */
 static int take(struct weaving *w, uint16_t choice)
 {
     uint16_t node, answer = rigtemple_take(card, card_len, &w->c, choice, &node);
@@ -386,7 +390,7 @@ static int guide(const char *name, struct weaving *w)
                                      : next_of_program(w, &after, &choice, &end);
         if (status == 0)
             status = show(w, choice, end);
-        /* Dies here, while the weaver makes n: the same screen is shown again, n - 1 as the last. */
+        /* Dies here, while the weaver makes n: the same screen is shown again, last n - 1. */
         if (status != 0 || end != NULL || fgets(line, sizeof line, stdin) == NULL)
             return status;
         /* Dies from here on, n made and said to be: her touch is lost. The same screen is shown

@@ -5,7 +5,8 @@
 #   tests/all.sh [--seed N] [--cases N]
 #
 # --seed chooses the fresh cases (1), --cases how many go through the drill (20,000). Programs and library are proved and linked
-# first where they are missing or old. tests/definitions.py, tests/compare.py, tests/c.sh and tests/kill.sh take larger numbers by themselves.
+# first where they are missing or old. tests/definitions.py, tests/compare.py, tests/c.sh and tests/kill.sh take larger numbers by
+# themselves.
 set -eu
 
 die() { printf 'all.sh: %s\n' "$*" >&2; exit 2; }

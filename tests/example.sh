@@ -82,7 +82,7 @@ touches() {
     expect 'a second touch changes nothing' 0 'last: 1 select 0' '1\n1\n' "$stripe" "$kept"
     holds 'the same is the next' test "$(grep -c '^next: 2 ' "$room/said")" -eq 2
     holds 'nothing behind it is' test "$(grep -c '^next: 3 ' "$room/said")" -eq 0
-    for line in '' 0 3 two -2 2x 4294967298; do
+    for line in '' 0 3 two -2 2x '2 x' 4294967298; do
         expect "the line '$line' changes nothing" 0 'next: 2 revise 0' "$line\n" "$stripe" "$kept"
         holds 'the same is the last' test "$(grep -c '^last: 1 ' "$room/said")" -eq 2
     done

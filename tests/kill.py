@@ -3,13 +3,13 @@
 
     python3 tests/kill.py [--kills N] [--seed N] NAME=COMMAND...
 
-A COMMAND is an example of examples/, which says in its head what it shows, reads and keeps; it is given a card, the file to keep in and,
-every second time, a program. It is killed N times (500) and more without a program and N times with one, while the weaver works from what it shows:
-she makes the move that is shown as the next if she has not made it yet, and says that it is made, now and then twice. Behind a restart she
-reads on the screen whether her last touch counts. What has to hold, of each screen that is shown: the moves are those of one run by oracle/,
+A COMMAND is an example of examples/, which says in its head what it shows, reads and keeps; it is given a card and the file to keep in,
+and then a program too. It is killed N times (500) or more without a program and as often with one, while the weaver works from what it
+shows: she makes the move that is shown as the next, if she has not made it yet, and says that it is made, now and then twice. After a
+restart she reads on the screen whether her last touch counts. What has to hold of each screen: the moves are those of one run by oracle/,
 none counts as done that she has not made, and none that counted is lost; so none is skipped and none is made twice. At the end the kept
-place is that of one run. In the last weavings the examples take turns with one file. Before all that, what no example goes on from: another
-card's file, and damaged ones. The last line is 'N passed, M failed'.
+place is that of one run. In the last weavings the examples take turns with one file. Before all that, what no example goes on from:
+another card's file, and damaged ones. The last line is 'N passed, M failed'.
 """
 
 import os
@@ -149,7 +149,7 @@ class Weaver:
         shown = "last: %s, %s: %s" % (last, what, coming)
         if done > self.made:
             raise Fault("a move that was not made counts as done: %s" % shown)
-        if done < self.counted or done < self.said - 1:
+        if done < self.counted:
             raise Fault("a move that counted is lost: %s" % shown)
         if last != (["none"] + lines)[done]:
             raise Fault("another move was the last one: %s" % shown)
@@ -297,6 +297,7 @@ def weave(examples, weaving, random, paces, met):
             name, command = random.choice(examples)
             life = Life(command + files[:3 if weaving.program else 2], room)
             died += live(life, weaver, random, paces[name])
+            met["beside"] += os.path.exists(files[1] + ".beside")
             weaver.restarted = True
         if weaver.made != len(weaving.moves):
             raise Fault("%d moves were made of %d" % (weaver.made, len(weaving.moves)))
@@ -310,7 +311,7 @@ def weave(examples, weaving, random, paces, met):
 
 def killed(what, examples, weavings, kills, seed, paces):
     """Kills examples so many times, in one weaving after the other; whether all held."""
-    chosen, died, count, met = random.Random("%s %s" % (seed, what)), 0, 0, dict(lost=0, unseen=0, between=0)
+    chosen, died, count, met = random.Random("%s %s" % (seed, what)), 0, 0, dict(lost=0, unseen=0, between=0, beside=0)
     began = time.monotonic()
     try:
         while died < kills:
@@ -321,8 +322,8 @@ def killed(what, examples, weavings, kills, seed, paces):
         return 0
     took = time.monotonic() - began
     print(
-        "%s: %d kills in %d weavings, %.0f s; the touch before was lost in %d, kept and not shown in %d, shown in %d"
-        % (what, died, count, took, met["lost"], met["unseen"], met["between"])
+        "%s: %d kills in %d weavings, %.0f s; the touch before was lost in %d, kept and not shown in %d, shown in %d; %d left a file beside"
+        % (what, died, count, took, met["lost"], met["unseen"], met["between"], met["beside"])
     )
     return died
 
@@ -347,15 +348,15 @@ def damages(kept):
 
 def refuses(name, command, room):
     """What an example does not go on from is told, nothing is shown of it, and the file stays; how many of these there are."""
-    card, other, program = (os.path.join(ROOT, "cards", file) for file in ("stripe.card", "maximal.card", "teaching.program"))
+    own, other, program = (os.path.join(ROOT, "cards", file) for file in ("stripe.card", "maximal.card", "teaching.program"))
     file, count = os.path.join(room, "kept"), 0
 
     def run(card, lines):
         return subprocess.run(command + [card, file, program], input=lines, capture_output=True)
 
-    begun = run(card, b"1\n2\n")
+    begun = run(own, b"1\n2\n")
     kept = read(file)
-    for what, held, card in [("another card's", kept, other)] + [(what, held, card) for what, held in damages(kept)]:
+    for what, held, card in [("another card's", kept, other)] + [(what, held, own) for what, held in damages(kept)]:
         with open(file, "wb") as out:
             out.write(held)
         ended = run(card, b"3\n4\n")
@@ -363,6 +364,14 @@ def refuses(name, command, room):
             raise Fault("%s: %s is gone on with: %s" % (name, what, ended))
         count += 1
     os.unlink(file)
+    for held in (b"", b"\0\0\0", b"\7\0\0\0"):
+        program = os.path.join(room, "program")
+        with open(program, "wb") as out:
+            out.write(held)
+        ended = subprocess.run(command + [own, file, program], input=b"1\n", capture_output=True)
+        if not ended.returncode or ended.stdout or os.path.exists(file):
+            raise Fault("%s: %s is no program: %s" % (name, held, ended))
+        count += 1
     return count
 
 

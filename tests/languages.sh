@@ -92,7 +92,7 @@ refused() {
 }
 refused_program() {
     ! python "$root/cards/stripe.card" "$room/none" "$root/cards/stripe.card" &&
-        grep -q 'go_on is refused with 19' "$room/said"
+        grep -q 'deliberate is refused with 19' "$room/said"
 }
 if [ -n "$linked" ]; then
     expect 'Python guides through the stripe card' woven rest

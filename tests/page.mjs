@@ -87,7 +87,7 @@ function shown(text, after) {
   return `data:text/javascript,${encodeURIComponent(code + after)}`;
 }
 
-/* What a browser has for the page of docs/API.md: two elements, and a database that outlives the page. `dies` says whether it does so
+/* What a browser has for the page of docs/API.md: two elements, and a database that outlives the page. `dies` says whether it does
  * before a step is on the disk; every other request is answered later, as in a browser. */
 function browser(at) {
   const [held, its] = [new Map(), { shown: {}, made: {}, dies: () => false }];
@@ -108,7 +108,8 @@ function browser(at) {
     return opening;
   };
   const fetched = globalThis.fetch;
-  return { held, its, globals: { indexedDB: { open }, document: { getElementById: (id) => its[id] }, fetch: (name) => fetched(at + name) } };
+  const document = { getElementById: (id) => its[id] };
+  return { held, its, globals: { indexedDB: { open }, document, fetch: (name) => fetched(at + name) } };
 }
 
 /* Does something with other globals. */
@@ -128,7 +129,8 @@ const reopen = (after = "") => import(shown(words(root, "docs", "API.md"), `\n//
 await test("as docs/API.md and HOW-TO-LINK.txt show it", () => served(async (at) => {
   const { held, its, globals } = browser(at);
   await having(globals, async () => {
-    const seen = ["none", 0, 512, 257, 513, 258, 256].map((last, n, all) => `last ${n}: ${last}, next ${n < 6 ? `${n + 1}: ${all[n + 1]}` : "rest"}`);
+    const told = ["none", 0, 512, 257, 513, 258, 256];
+    const seen = told.map((last, n) => `last ${n}: ${last}, next ${n < 6 ? `${n + 1}: ${told[n + 1]}` : "rest"}`);
     for (let n = 0; n < 6; n++) {
       await reopen();
       assert.equal(its.shown.textContent, seen[n]);

@@ -1,7 +1,7 @@
 /*
- * What an app's screen calls of the guide, between the place that it has kept and what it shows: the
- * rule is in rigtemple.h, and turned_screen.c is a whole app. Each function is given a kept place and
- * leaves it as it is, so that nothing is lost if the tablet dies in one.
+ * What an app's screen calls of the guide, between the place that it has kept and what it shows:
+ * the rule is in rigtemple.h, and turned_screen.c is a whole app. Each function is given a kept
+ * place and leaves it as it is, so that nothing is lost if the tablet dies in one.
  */
 #include <rigtemple.h>
 
@@ -47,10 +47,10 @@ int app_next(const uint8_t *card, size_t card_len, const uint8_t *place, size_t 
     return coming == RIGTEMPLE_NEXT_REST ? APP_REST : APP_FULL;
 }
 
-/* The weaver says that the move is made: the place after it, how many bytes, to be kept at once with
- * the code as the last one, in one step, and before the one after is shown; below 0 a refusal. Dies
- * before it is kept: the move is shown as the next still, beside the one before it, and she sees that
- * it does not count yet. Dies after that: it is shown as the last one done. */
+/* The weaver says that the move is made: the place after it, how many bytes, to be kept at once
+ * with the code as the last one, in one step, and before the one after is shown; below 0 a refusal.
+ * Dies before it is kept: the move is shown as the next still, beside the one before it, and she
+ * sees that it does not count yet. Dies after that: it is shown as the last one done. */
 int app_made(const uint8_t *card, size_t card_len, const uint8_t *place, size_t place_len,
              uint16_t choice, uint8_t *after)
 {

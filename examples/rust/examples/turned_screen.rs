@@ -1,18 +1,18 @@
 //! A weaving guide in a terminal, which loses no pick: turned_screen CARD KEPT [PROGRAM]
 //!
-//! The same app is written in C, Rust, Python and JavaScript, and each goes on from what another kept.
+//! The same app is written in C, Rust, Python and JavaScript, and each goes on from another's file.
 //!
 //! It shows the last move done and, behind it, what comes next: `last: none` or `last: 1 select 0`,
 //! and `next: 2 revise 0` or, if that is all, `end: ` and rest, full, finished, stuck or idle. By
 //! itself the guide tells what comes next, with PROGRAM the shed's own deliberation.
 //! It reads a line with the number of the move that the weaver has made: that is when it is taken,
 //! kept, and the one after it shown. Another line, such as a second touch of one screen, changes
-//! nothing. The end of the input is the turn of the screen: the next one goes on from the file KEPT.
+//! nothing. The end of the input is the turn of the screen: it goes on then from the file KEPT.
 //! It keeps one file, replaced in one step; numbers have their low byte first:
 //!     4 bytes    the card's fingerprint: another card's place is not gone on with
 //!     4          how many moves are done: two moves in a row may be alike
 //!     2          the code of the last one, 65535 where none is done
-//!     2, 2       how many bytes the program has, 0 where there is none, and how many numbers remain
+//!     2, 2       how many bytes the program has, 0 for no program, and how many numbers remain
 //!     those      the program, the numbers
 //!     the rest   the place
 //! What is refused of it is told and left as it is. Without a file the card begins.
@@ -98,8 +98,8 @@ fn restore(card: &[u8], kept: &[u8]) -> Tried<Weaving> {
     })
 }
 
-/// Begins the card: at first the program's last entry remains, which is the whole. It is kept before
-/// anything is shown, so that a folder that cannot be written is told before anything is woven.
+/// Begins the card: at first the program's last entry remains, which is the whole. It is kept
+/// before anything is shown, so that a folder that cannot be written is told before that.
 fn load(card: &[u8], name: &str, program: Option<String>) -> Tried<Weaving> {
     let mut w = Weaving {
         moves: 0,
@@ -125,7 +125,7 @@ fn made(card: &[u8], before: &Configuration, after: &Configuration) -> Tried<u16
         rigtemple::take(card, &mut c, **choice).is_ok() && c == *after
     };
     let found = list[..entries].iter().find(leaves);
-    Ok(*found.ok_or("no choice leaves what the program's move does")?)
+    Ok(*found.expect("a program makes moves of the card"))
 }
 
 /// What comes next: a code, or how the card ends.
@@ -143,8 +143,8 @@ fn next_of_guide(card: &[u8], w: &Weaving) -> Tried<Shown> {
     })
 }
 
-/// The program's, made on a copy. A move that changes nothing, as an idle one does, is passed and not
-/// shown, so many in a row.
+/// The program's, made on a copy. A move that changes nothing, as an idle one does, is passed and
+/// not shown, so many in a row.
 fn next_of_program(card: &[u8], w: &Weaving, copy: &mut Weaving) -> Tried<Shown> {
     for _ in 0..MOST_IDLE {
         let moved = rigtemple::go_on(card, &copy.program, &copy.numbers, &mut copy.c, 1)?;
