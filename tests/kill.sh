@@ -1,6 +1,6 @@
 #!/bin/sh
 # No pick is lost: each example, in C, Rust, Python and JavaScript, is killed at random moments, with a program and without, while
-# tests/kill.py works from what it shows as a weaver does. Three wrong apps, made of the C example by a change of one line, have to
+# tests/kill.py works from what it shows as a weaver does. Four wrong apps, made of the C example by a change of one line, have to
 # be found out. The last line is 'N passed, M failed'.
 #
 #   tests/kill.sh [--kills N] [--seed N] [--engine]
@@ -46,6 +46,13 @@ wrong early '            status = show(w, choice, end);' \
           if (status == 0 && end == NULL && (w->program_len != 0 || take(&kept, choice) == 0))
               kept.moves++, kept.last = choice, status = keep(name, &kept);
           if (status == 0) status = show(w, choice, end); }'
+# It shows the one after before it keeps.
+wrong hasty '        status = keep(name, &after);' \
+    '        { struct weaving shown = after;
+          status = after.program_len == 0 ? next_of_guide(&after, &choice, &end)
+                                          : next_of_program(&after, &shown, &choice, &end);
+          if (status == 0) status = show(&after, choice, end);
+          if (status == 0) status = keep(name, &after); }'
 # It keeps every second move.
 wrong late '        status = keep(name, &after);' \
     '        status = after.moves % 2 == 0 ? keep(name, &after) : 0;'
@@ -135,14 +142,15 @@ passed=$((passed + ${last%% passed*}))
 failed=$((failed + ${counted% failed}))
 printf 'with %s: %s\n' "${what:-the library}" "$last"
 
-for name in early late anew; do
+for name in early hasty late anew; do
     build "$room/$name.c" "$room/$name"
-    if python3 -B "$tests/kill.py" --kills 40 --seed "$seed" "$name=$run '$room/$name'" >"$room/said" 2>&1; then
+    python3 -B "$tests/kill.py" --kills 40 --seed "$seed" "$name=$run '$room/$name'" >"$room/said" 2>&1 || :
+    if found=$(grep -m 1 '^failed: .* deaths and ' "$room/said"); then
+        passed=$((passed + 1))
+        printf 'a wrong app is found out: %s\n' "${found#failed: }"
+    else
         failed=$((failed + 1))
         printf 'failed: a wrong app is not found out: %s\n' "$name"
-    else
-        passed=$((passed + 1))
-        grep -m 1 '^failed: ' "$room/said" | sed 's/^failed: /a wrong app is found out: /'
     fi
 done
 printf '%d passed, %d failed\n' "$passed" "$failed"
