@@ -202,8 +202,10 @@ def restored(guide, kept):
 def begin(guide, name, program):
     """The weaving to go on with: the kept one, or the card's first where none was kept, of whose program the last entry remains, which
     is the whole. That is kept before anything is shown, so that a folder that cannot be written is told before anything is woven."""
-    if os.path.exists(name):
+    try:
         return restored(guide, read(name))
+    except FileNotFoundError:
+        pass
     w = Weaving(0, NO_CHOICE, b"", b"", guide.load())
     if program is not None:
         w.program = program

@@ -20,7 +20,7 @@
  *     the rest   the place
  * What is refused of it is told and left as it is. Without a file the card begins.
  */
-import { closeSync, existsSync, fsyncSync, openSync, readFileSync, renameSync, writeSync } from "node:fs";
+import { closeSync, fsyncSync, openSync, readFileSync, renameSync, writeSync } from "node:fs";
 import { dirname, join, resolve } from "node:path";
 import { createInterface } from "node:readline";
 import { pathToFileURL } from "node:url";
@@ -91,6 +91,18 @@ function load() {
   return w;
 }
 
+/* The weaving to go on with: the kept one, or the card's first where there is no file. */
+function begin() {
+  let kept;
+  try {
+    kept = readFileSync(keptName);
+  } catch (error) {
+    if (error.code === "ENOENT") return load();
+    throw error;
+  }
+  return restore(kept);
+}
+
 // ---- what comes next
 
 /* The code of the move that a program made: the first of the list that leaves the same. */
@@ -146,7 +158,7 @@ function after(w, { choice, numbers = w.numbers, configuration }) {
 
 /* Guides to the card's end or the turn of the screen. Beside the lines stands what becomes of the move that is shown as the next, number n,
  * if the tablet dies there. */
-let weaving = existsSync(keptName) ? restore(readFileSync(keptName)) : load();
+let weaving = begin();
 const input = createInterface({ input: process.stdin });
 const lines = input[Symbol.asyncIterator]();
 for (;;) {
