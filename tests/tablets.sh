@@ -200,8 +200,8 @@ fi
 # ---- stack and room
 
 # All that an app lends with the largest card: the card, a configuration, a list, a place, a program
-# and what remains of it, twice to go on. To read a text it lends the card alone, and the text; for a name two sheets
-# too, here with 40 bytes for each of 256 actions.
+# and what remains of it, twice to go on with that. To read a text it lends the card alone, and the
+# text; for a name two sheets too, here with 40 bytes for each of 256 actions.
 lent=$((24128 + 1062 + 2 * 768 + 44 + 1024 + 512 + 2 * 128))
 sheets=$((2 * (2 * 256 + 4 + 256 * 40)))
 stack_arm() {
