@@ -13,16 +13,18 @@
  *
  * The rule for an app, so that no pick is skipped and no band is woven twice:
  *
- *  - Show the move that comes next, as rigtemple_next tells it, and beside it the last one done.
+ *  - Show the move that comes next, as rigtemple_next tells it, and beside it the last one done,
+ *    each with its number from the beginning: two moves in a row may be alike.
  *  - When the weaver has made it and says so, take it with rigtemple_take and save at once. Show
- *    the one after when that is kept, and not before.
+ *    the one after when that is kept, and not before. A touch is for the number that was shown: a
+ *    second one says nothing of the move after it.
  *  - After a turn of the screen or a restart restore, and show both again. If the tablet died
  *    between her touch and the save, the move that she has made is shown as the next one still,
  *    beside the one before it: she sees that, and says once more that it is made.
  *  - Keep in one file, replaced in one step (write another, have it on the disk, rename it): the
- *    place, the last choice, the card's fingerprint (any sum of its bytes that you like: a place
- *    does not say which card it came from, and another card's is not to be gone on with), and,
- *    where there is a program, that and the numbers that remain of it.
+ *    place, the last choice, how many moves are done, the card's fingerprint (any sum of its bytes
+ *    that you like: a place does not say which card it came from, and another card's is not to be
+ *    gone on with), and, where there is a program, that and the numbers that remain of it.
  *  - With a program, rigtemple_go_on with budget 1, from the numbers kept (at first the last
  *    entry's alone) and on a copy of the configuration, tells the next move of the shed's own: it
  *    is what became of the copy. An idle move leaves the copy as it is, and is passed: it is not
@@ -30,7 +32,9 @@
  *    end: pass so many at a time.) When the weaver says that the move is made, the copy and the
  *    numbers that it left take the place of those kept.
  *  - Where what was kept is refused, say so, and keep nothing over it: to load the card instead
- *    begins again from the top.
+ *    begins again from the top. Only where there is no file a card is begun.
+ *
+ * The example turned_screen.c does all of this.
  *
  * What holds for every call:
  *
