@@ -153,8 +153,11 @@ static void each_number(void (*visit)(unsigned call))
     visit(GO_ON);
     memset(numbers, 0, sizeof numbers);
     visit(GO_ON);
-    for (numbers_len = 0; numbers_len <= sizeof numbers; numbers_len += entries + 1)
+    const size_t lengths[] = {0, entries + 1, sizeof numbers};
+    for (unsigned i = 0; i < sizeof lengths / sizeof lengths[0]; i++) {
+        numbers_len = lengths[i];
         visit(GO_ON);
+    }
 }
 
 /* Deliberations on the card and the configuration at hand. */
