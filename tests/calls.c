@@ -143,8 +143,7 @@ static void each_number(void (*visit)(unsigned call))
 {
     size_t entries = program.len / RIGTEMPLE_ENTRY_BYTES;
     visit(DELIBERATE);
-    for (size_t i = 0; i < entries; i++)
-        numbers[i] = (uint8_t)(entries - 1 - i);
+    numbers[0] = (uint8_t)(entries - 1);
     numbers_len = 1;
     visit(GO_ON);
     for (size_t i = 0; i < entries; i++)
