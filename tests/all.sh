@@ -60,7 +60,7 @@ try tests/turned.sh --seed "$seed" --engine
 try tests/library.sh
 try tests/example.sh
 try tests/languages.sh
-try tests/kill.sh --kills 3 --seed "$seed"
+try tests/kill.sh --kills 3 --fresh 5 --seed "$seed"
 try tests/room.sh
 try tests/bound.sh
 try tests/tablets.sh --seed "$seed" --cases $((cases / 10)) --texts $((cases / 400)) --programs $((cases / 400)) \

@@ -1,7 +1,7 @@
 #!/usr/bin/env python3
 """The weaver beside an example that is killed again and again, at random moments:
 
-    python3 tests/kill.py [--kills N] [--seed N] NAME=COMMAND...
+    python3 tests/kill.py [--kills N] [--seed N] [--fresh N] NAME=COMMAND...
 
 A COMMAND is an example of examples/, which says in its head what it shows, reads and keeps; it is given a card and the file to keep in,
 and then a program too. It is killed N times (500) or more without a program and as often with one, while the weaver works from what it
@@ -9,7 +9,7 @@ shows: she makes the move that is shown as the next, if she has not made it yet,
 restart she reads on the screen whether her last touch counts. What has to hold of each screen: the moves are those of one run by oracle/,
 none counts as done that she has not made, and none that counted is lost; so none is skipped and none is made twice. At the end the kept
 place is that of one run. In the last weavings the examples take turns with one file. Before all that, what no example goes on from:
-another card's file, and damaged ones. The last line is 'N passed, M failed'.
+another card's file, and damaged ones; and fresh cards by seed (50), with a turn of the screen. The last line is 'N passed, M failed'.
 """
 
 import os
@@ -28,13 +28,16 @@ from typing import NamedTuple
 ROOT = os.path.dirname(os.path.dirname(os.path.abspath(__file__)))
 sys.path.insert(0, os.path.join(ROOT, "oracle"))
 
+import cards  # noqa: E402
 import deliberation  # noqa: E402
 import guide  # noqa: E402
+import programs  # noqa: E402
+import schemes  # noqa: E402
 import text  # noqa: E402
 
 KINDS = ("select", "act", "revise")
 SCREEN = re.compile(r"bands finished: (\d+)\n(?:open:.*\n)?last: (.*)\n(next|end): (.*)\n")
-NO_CHOICE = 65535
+NO_CHOICE, MOST_IDLE = 65535, 1000
 HEAD = "<IIHHH"
 
 # A row of sixty picks, all alike, and a last one.
@@ -71,50 +74,60 @@ class Weaving(NamedTuple):
     finished: int
 
 
-def own_moves(card, c):
-    """The guide's own moves, as kind and number, and the ending."""
+def own_moves(card, c, most):
+    """The guide's own moves, so many at most, each as its kind and number with what it leaves; and the ending, None where there are more."""
     moves = []
-    while True:
+    while len(moves) < most:
         choice = guide.guides_choice(card, c)
         after = None if choice is None else guide.after(card, c, *choice)
         if after is None:
-            return moves, c, "rest" if choice is None else "full"
-        moves.append(choice)
+            return moves, "rest" if choice is None else "full"
+        moves.append((choice, after))
         c = after
+    return moves, None
 
 
-def program_moves(card, program, c):
-    """A program's moves but the idle ones, and the ending."""
+def leading(card, c, after):
+    """The first move that leads from one configuration to another, as the examples tell it of a program."""
+    enabled = ((kind, number) for kind in range(3) for number in guide.enabled_of_kind(card, c, kind))
+    return next(choice for choice in enabled if guide.after(card, c, *choice) == after)
+
+
+def program_moves(card, program, c, most):
+    """A program's moves but those that change nothing, of which the examples pass so many in a row; the same of them."""
     entries = deliberation.entries_of(program)
-    remaining, moves = [len(entries) - 1], []
-    while remaining:
-        move = deliberation.first_moves(entries, card, c)[remaining[-1]]
+    remaining, moves, idle, first = [len(entries) - 1], [], 0, None
+    while len(moves) < most and idle < MOST_IDLE:
+        first = first or deliberation.first_moves(entries, card, c)
+        move = first[remaining[-1]] if remaining else None
         if move is None:
-            return moves, c, "stuck"
-        if move.transition is not None:
-            after = guide.after(card, c, *move.transition)
-            if after is None:
-                return moves, c, "full"
-            moves.append(move.transition)
-            c = after
+            return moves, "stuck" if remaining else "finished"
+        after = c if move.transition is None else guide.after(card, c, *move.transition)
+        if after is None:
+            return moves, "full"
         remaining.pop()
         deliberation.put_back(remaining, move.left)
-    return moves, c, "finished"
+        idle = idle + 1 if after == c else 0
+        if after != c:
+            moves.append((leading(card, c, after), after))
+            c, first = after, None
+    return moves, "idle" if len(moves) < most else None
 
 
-def weaving(name, card, program=b""):
-    """What one run makes of a card; the calls of the oracle for a whole run leave the same configuration."""
+def weaving(name, card, program=b"", most=10000):
+    """What one run makes of a card, of so many moves at most; where it ends, the oracle's calls for a whole run leave the same."""
     _, accepted = guide.judge(card)
     _, first = guide.load(card)
     if program:
-        moves, c, ending = program_moves(accepted, program, first)
-        whole = deliberation.deliberate(card, program, first, 65535)[1]
+        moves, ending = program_moves(accepted, program, first, most)
+        whole = deliberation.deliberate(card, program, first, 65535)[1] if ending in ("finished", "stuck", "full") else None
     else:
-        moves, c, ending = own_moves(accepted, first)
-        whole = guide.run(card, first, 65535)[1]
-    if whole != c:
+        moves, ending = own_moves(accepted, first, most)
+        whole = guide.run(card, first, 65535)[1] if ending is not None else None
+    c = moves[-1][1] if moves else first
+    if whole not in (None, c):
         raise SystemExit("kill.py: the oracle's run of %s is another" % name)
-    return Weaving(name, card, program, moves, ending, guide.save(card, c, 1068)[1], c.finished)
+    return Weaving(name, card, program, [choice for choice, _ in moves], ending, guide.save(card, c, 1068)[1], c.finished)
 
 
 def read(*names):
@@ -138,22 +151,22 @@ class Weaver:
     def __init__(self, weaving, met):
         self.weaving, self.met = weaving, met
         self.made = self.said = self.counted = 0
+        lines = ["%d %s %d" % (at + 1, KINDS[kind], number) for at, (kind, number) in enumerate(weaving.moves)]
+        self.last, self.coming = ["none"] + lines, [("next", line) for line in lines] + [("end", weaving.ending)]
         self.restarted = self.ended = False
 
     def check(self, screen):
         """How many moves a screen tells as done, if it is one that may be shown."""
         finished, last, what, coming = screen
-        moves = self.weaving.moves
-        lines = ["%d %s %d" % (at + 1, KINDS[kind], number) for at, (kind, number) in enumerate(moves)]
         done = 0 if last == "none" else int(last.split()[0])
         shown = "last: %s, %s: %s" % (last, what, coming)
         if done > self.made:
             raise Fault("a move that was not made counts as done: %s" % shown)
         if done < self.counted:
             raise Fault("a move that counted is lost: %s" % shown)
-        if last != (["none"] + lines)[done]:
+        if last != self.last[done]:
             raise Fault("another move was the last one: %s" % shown)
-        if (what, coming) != ([("next", line) for line in lines] + [("end", self.weaving.ending)])[done]:
+        if self.coming[done] not in ((what, coming), ("end", None)):
             raise Fault("another move comes next: %s" % shown)
         if what == "end" and int(finished) != self.weaving.finished:
             raise Fault("%s bands are finished at the end" % finished)
@@ -279,23 +292,20 @@ def kept_well(file, weaving):
         kept = held.read()
     _, moves, last, program, numbers = struct.unpack_from(HEAD, kept)
     place = kept[struct.calcsize(HEAD) + program + numbers:]
-    kind, number = weaving.moves[-1]
-    if (moves, last) != (len(weaving.moves), 256 * kind + number) or place != weaving.place:
+    wanted = 256 * weaving.moves[-1][0] + weaving.moves[-1][1] if weaving.moves else NO_CHOICE
+    if (moves, last) != (len(weaving.moves), wanted) or place != weaving.place:
         raise Fault("what is kept at the end is not that of one run")
 
 
 def weave(examples, weaving, random, paces, met):
     """A weaving to its end; how many deaths there were."""
     room = tempfile.mkdtemp()
-    files = [os.path.join(room, name) for name in ("card", "kept", "program")]
-    for name, held in ((files[0], weaving.card), (files[2], weaving.program)):
-        with open(name, "wb") as file:
-            file.write(held)
+    files = laid_out(room, weaving)
     weaver, died = Weaver(weaving, met), 0
     try:
         while not weaver.ended:
             name, command = random.choice(examples)
-            life = Life(command + files[:3 if weaving.program else 2], room)
+            life = Life(command + files, room)
             died += live(life, weaver, random, paces[name])
             met["beside"] += os.path.exists(files[1] + ".beside")
             weaver.restarted = True
@@ -375,6 +385,53 @@ def refuses(name, command, room):
     return count
 
 
+def fresh(examples, count, seed):
+    """So many cards by seed, each woven by itself and by a program, for some moves and with a turn of the screen; how many weavings held, and
+    how many did not."""
+    passed = failed = 0
+    for at in range(count):
+        chosen = random.Random("%s fresh %d" % (seed, at))
+        card = cards.card(cards.good_card(chosen, 4000))
+        program = programs.program(schemes.some_entries(chosen, guide.judge(card)[1], guide.load(card)[1]))
+        for program in (b"", program):
+            one = weaving("fresh card %d" % at, card, program, chosen.choice((3, 10, 30)))
+            for name, command in examples:
+                try:
+                    turned(command, one, chosen.randint(0, len(one.moves)))
+                    passed += 1
+                except Fault as fault:
+                    print("failed: %s, seed %s, %s, %s: %s" % (one.name, seed, name, "with a program" if program else "by itself", fault))
+                    failed += 1
+    return passed, failed
+
+
+def turned(command, weaving, turn):
+    """A weaving with one turn of the screen, after so many moves: what is shown of it, and what is kept."""
+    room = tempfile.mkdtemp()
+    files = laid_out(room, weaving)
+    weaver = Weaver(weaving, None)
+    weaver.made, told = len(weaving.moves), []
+    for said in (range(1, turn + 1), range(turn + 1, len(weaving.moves) + 1)):
+        lines = "".join("%d\n" % number for number in said)
+        ended = subprocess.run(command + files, input=lines.encode(), capture_output=True)
+        told += [weaver.check(found.groups()) for found in SCREEN.finditer(ended.stdout.decode())]
+        if ended.returncode or ended.stderr:
+            raise Fault("it ended with %d: %s" % (ended.returncode, ended.stderr.decode().strip()))
+    kept_well(files[1], weaving)
+    shutil.rmtree(room)
+    if told != [*range(turn + 1), *range(turn, len(weaving.moves) + 1)]:
+        raise Fault("%s moves are shown as done" % told)
+
+
+def laid_out(room, weaving):
+    """The files of a weaving, as an example is given them: the card, the one to keep in and, where there is one, the program."""
+    files = [os.path.join(room, name) for name in ("card", "kept", "program")]
+    for name, held in ((files[0], weaving.card), (files[2], weaving.program)):
+        with open(name, "wb") as file:
+            file.write(held)
+    return files if weaving.program else files[:2]
+
+
 def refused(examples):
     """The refusals of each example; how many held, and how many did not."""
     passed = failed = 0
@@ -390,17 +447,20 @@ def refused(examples):
 
 
 def main():
-    words, kills, seed = sys.argv[1:], 500, "1"
-    while words[:1] in (["--kills"], ["--seed"]) and len(words) > 1:
+    words, numbers = sys.argv[1:], {"--kills": 500, "--seed": 1, "--fresh": 50}
+    while len(words) > 1 and words[0] in numbers:
         option, value, *words = words
         if not value.isdigit():
             raise SystemExit("kill.py: %s takes a number" % option)
-        kills, seed = (int(value), seed) if option == "--kills" else (kills, value)
+        numbers[option] = int(value)
+    kills, seed, cards_made = numbers.values()
     if not words or any("=" not in word for word in words):
         raise SystemExit(__doc__)
     examples = [(name, shlex.split(command)) for name, _, command in (word.partition("=") for word in words)]
     paces = {name: Pace() for name, _ in examples}
-    passed, failed = refused(examples)
+    passed, failed = map(sum, zip(refused(examples), fresh(examples, cards_made, seed)))
+    print("what is refused, and %d fresh cards: %d passed" % (cards_made, passed))
+    sys.stdout.flush()
     for told, these in zip(("without a program", "with a program"), weavings()):
         groups = [(name, [(name, command)]) for name, command in examples]
         for name, group in groups + ([("all in turn", examples)] if len(examples) > 1 else []):

@@ -3,11 +3,11 @@
 # tests/kill.py works from what it shows as a weaver does. Four wrong apps, made of the C example by a change of one line, have to
 # be found out. The last line is 'N passed, M failed'.
 #
-#   tests/kill.sh [--kills N] [--seed N] [--engine]
+#   tests/kill.sh [--kills N] [--seed N] [--fresh N] [--engine]
 #
-# --kills is how often each is killed at least, each way (500); --seed chooses the moments (1). They are linked with what the machine
-# runs (tests/machine.sh), and a language that is missing is told; --engine puts the C engine of bench/ in the library's place, which
-# there is none of for a page. TMPDIR names the folder to keep in.
+# --kills is how often each is killed at least, each way (500), and --fresh on how many cards by seed each is tried before that (50);
+# --seed chooses both (1). They are linked with what the machine runs (tests/machine.sh), and a language that is missing is told;
+# --engine puts the C engine of bench/ in the library's place, which there is none of for a page. TMPDIR names the folder to keep in.
 set -eu
 
 die() { printf 'kill.sh: %s\n' "$*" >&2; exit 2; }
@@ -15,12 +15,14 @@ die() { printf 'kill.sh: %s\n' "$*" >&2; exit 2; }
 engine=
 kills=500
 seed=1
+fresh=50
 while [ $# -gt 0 ]; do
     case $1 in
     --engine) engine=--engine ;;
     --kills) kills=${2:?--kills takes a number}; shift ;;
     --seed) seed=${2:?--seed takes a number}; shift ;;
-    *) die "usage: kill.sh [--kills N] [--seed N] [--engine]" ;;
+    --fresh) fresh=${2:?--fresh takes a number}; shift ;;
+    *) die "usage: kill.sh [--kills N] [--seed N] [--fresh N] [--engine]" ;;
     esac
     shift
 done
@@ -131,7 +133,7 @@ done
 
 # ---- the weaver
 
-python3 -B "$tests/kill.py" --kills "$kills" --seed "$seed" "$@" | tee "$room/said" | grep -v ' passed, ' || :
+python3 -B "$tests/kill.py" --kills "$kills" --seed "$seed" --fresh "$fresh" "$@" | tee "$room/said" | grep -v ' passed, [0-9]* failed$' || :
 last=$(tail -n 1 "$room/said")
 case $last in
 *' passed, '*' failed') ;;
@@ -144,7 +146,7 @@ printf 'with %s: %s\n' "${what:-the library}" "$last"
 
 for name in early hasty late anew; do
     build "$room/$name.c" "$room/$name"
-    python3 -B "$tests/kill.py" --kills 40 --seed "$seed" "$name=$run '$room/$name'" >"$room/said" 2>&1 || :
+    python3 -B "$tests/kill.py" --kills 40 --seed "$seed" --fresh 0 "$name=$run '$room/$name'" >"$room/said" 2>&1 || :
     if found=$(grep -m 1 '^failed: .* deaths and ' "$room/said"); then
         passed=$((passed + 1))
         printf 'a wrong app is found out: %s\n' "${found#failed: }"
