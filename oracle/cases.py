@@ -645,7 +645,7 @@ def cut_requests(random, card, whole, held, budgets):
     return made + [request_deliberate(random, whole, held, sum(budgets))]
 
 
-def numbers_request(random, card, accepted, held):
+def numbers_request(random, accepted, held):
     """Any numbers gone on with, right ones and wrong ones; now and then with a program that
     is broken or a configuration that is damaged."""
     whole, found = cuts.some_deliberation(random, accepted, held)
@@ -669,7 +669,7 @@ def cuts_case(random, count, largest):
     for _ in range(count):
         cut = cuts.some_cut(random, card, accepted, random.choice(held))
         made += cut_requests(random, card, *cut)
-        made.append(numbers_request(random, card, accepted, random.choice(held)))
+        made.append(numbers_request(random, accepted, random.choice(held)))
     return Case("deliberations that are cut", card, made)
 
 
@@ -679,7 +679,7 @@ def refused_cuts_case(random, items, largest):
     base = cards.card(cards.roomy_card(random, 700))
     _, accepted = guide.judge(base)
     held = random_configuration(random, accepted)
-    made = [numbers_request(random, base, accepted, held) for _ in range(3)]
+    made = [numbers_request(random, accepted, held) for _ in range(3)]
     return Case("numbers about another card", card, made)
 
 

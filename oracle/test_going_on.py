@@ -80,6 +80,17 @@ class ByHand(unittest.TestCase):
         self.assertEqual(most, 66)
 
 
+    def test_long_ones(self):
+        """65,535 idle moves, cut near both ends and in the middle."""
+        whole, held = programs.program(programs.IDLE_SEQUENCES), programs.zeros(0)
+        one = deliberate(programs.SHED, whole, held, 65535)
+        self.assertEqual(one, (0, held, 65535, SPENT, [1, *range(17, 127)]))
+        for cut in (1, 255, 256, 32768, 65534):
+            _, here, _, _, left = deliberate(programs.SHED, whole, held, cut)
+            rest = go_on(programs.SHED, whole, left, here, 65535 - cut)
+            self.assertEqual((rest[0], rest[1], cut + rest[2], *rest[3:]), one)
+
+
 class Bound(unittest.TestCase):
     """ "Each, plus how many stand behind it, is below the number of entries"."""
 

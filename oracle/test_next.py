@@ -7,7 +7,6 @@ from random import Random
 
 import cards
 import cases
-import cuts
 import damage
 import drill
 import guide
