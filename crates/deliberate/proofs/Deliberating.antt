@@ -176,16 +176,16 @@ module _ (l : Layout) (b p : Bytes) where
             let g : t .phase ≤ 2 = (let z : (kind k′ + 1) % 3 < 3 = mod-lt (kind k′ + 1) (omega arith) in omega arith) in
             (ready-after l b (d .ready .card) t f g, configuration-laws .of-state t f)
 
-        stacked-there : (g : GoodProgram l b p) (ms : List ℕ) (t : State) → comes ≡ on ms t → Stacked (entryCount p - 1) ms × Led (agentFor l b) (stateOf c) t
+        stacked-there : (g : GoodProgram l b p) (ms : List ℕ) (t : State) → comes ≡ on ms t → Stacked (entryCount p) ms × Led (agentFor l b) (stateOf c) t
         stacked-there g ms t = by (moveAt l b p (stateOf c .mental) n) refl
           where
-            by : (o : Option (Move (List ℕ))) → moveAt l b p (stateOf c .mental) n ≡ o → moveResult (agentFor l b) (stateOf c) o ns ≡ on ms t → Stacked (entryCount p - 1) ms × Led (agentFor l b) (stateOf c) t
+            by : (o : Option (Move (List ℕ))) → moveAt l b p (stateOf c .mental) n ≡ o → moveResult (agentFor l b) (stateOf c) o ns ≡ on ms t → Stacked (entryCount p) ms × Led (agentFor l b) (stateOf c) t
             by none q e = absurd (let z : _≡_ {A = ℕ} 0 1 = cc in omega arith)
             by (some m) q e =
                 let (f, w) = led (agentFor l b) (stateOf c) (m .label) (m .remaining ++ ns) ms t e in
-                let v : entryCount p - 1 < entryCount p = (let some = g .some in omega arith) in (
-                  subst (Stacked (entryCount p - 1)) (sym f)
-                      (move-within (agentFor l b) (conditions 𝐁 l b) (stateOf c .mental) (containing 2 l b) l p (g .good) (entryCount p - 1) n ns m v (subst (Stacked (entryCount p - 1)) first (d .remains .stacked)) q),
+                let v : entryCount p ≤ entryCount p = omega arith in (
+                  subst (Stacked (entryCount p)) (sym f)
+                      (move-within (agentFor l b) (conditions 𝐁 l b) (stateOf c .mental) (containing 2 l b) l p (g .good) (entryCount p) n ns m v (subst (Stacked (entryCount p)) first (d .remains .stacked)) q),
                   w,
                 )
 
@@ -206,7 +206,7 @@ module _ (l : Layout) (b p : Bytes) where
                 record {
                   within = omega arith;
                   ready = subst (Ready l b) (sym (m .configuration)) r;
-                  remains = record { room = m .room; within = m .within; stacked = subst (Stacked (entryCount p - 1)) (sym (m .numbers)) w };
+                  remains = record { room = m .room; within = m .within; stacked = subst (Stacked (entryCount p)) (sym (m .numbers)) w };
                   same = ap₂ (λ rs z. counted (count + 1) (outcome (budget - (count + 1)) rs z)) (m .numbers) (ap stateOf (m .configuration) ∙ s)
                       ∙ (λ j. record { state = o .state; count = u j; ending = o .ending; remaining = o .remaining }) ∙ whole;
                 }

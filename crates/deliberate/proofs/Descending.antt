@@ -51,7 +51,7 @@ part-stacked {e} {left = true} {ns = ns} (one-of k) f g (put _ _ l s) = put (e .
 part-stacked {e} {left = false} {ns = ns} (one-of k) f g (put _ _ l s) = put (e .b) ns (omega arith) s
 
 -- an entry and the numbers behind it have room
-pub stacked-room : {m n : ℕ} {ns : List ℕ} → Stacked m (n ∷ ns) → n + length ns ≤ m
+pub stacked-room : {m n : ℕ} {ns : List ℕ} → Stacked m (n ∷ ns) → n + length ns < m
 stacked-room (put _ _ h s) = h
 
 -- ---- the move

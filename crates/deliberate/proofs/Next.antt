@@ -3,7 +3,7 @@ use mathlib.Core.Path.{_≡_, refl, ap, _∙_, sym, subst}
 use mathlib.Core.Bool.{false}
 use mathlib.Core.List.{List, _∷_}
 use mathlib.Core.Option.{Option, none, some}
-use Prim.Native.Nat.{ℕ, _+_, _-_, _≤_, _<_}
+use Prim.Native.Nat.{ℕ, _+_, _≤_, _<_}
 use native.Mathlib.Numerals.{add-one}
 use native.Mathlib.Omega.{arith}
 use lib.ListN.{length, drop, set, getD, length-set, length-drop}
@@ -31,7 +31,7 @@ module _ (p stack : Bytes) (top : ℕ) (r : Remains p stack top) (h : top < 128)
   next-first = let s = r .room in drop-cons stack top 0 (omega arith) ∙ ap (λ n. getD stack top 0 ∷ drop n stack) (sym (add-one top))
 
   pub next-stack : Stack p stack (getD stack top 0) (top + 1)
-  next-stack = record { room = r .room; within = omega arith; stacked = subst (Stacked (entryCount p - 1)) next-first (r .stacked) }
+  next-stack = record { room = r .room; within = omega arith; stacked = subst (Stacked (entryCount p)) next-first (r .stacked) }
 
   pub next-known : (l : Layout) (b : Bytes) → GoodProgram l b p → (getD stack top 0 < entryCount p) × (getD stack top 0 < 128)
   next-known l b g =

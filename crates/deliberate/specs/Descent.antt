@@ -2,7 +2,7 @@
 use mathlib.Core.Path.{_≡_}
 use mathlib.Core.Bool.{Bool}
 use mathlib.Core.List.{List, _∷_}
-use Prim.Native.Nat.{ℕ, _-_, _≤_, _<_}
+use Prim.Native.Nat.{ℕ, _≤_, _<_}
 use lib.ListN.{length, drop}
 use Rattle.paper.specs.Atoms.{Atoms, _∈_}
 use Rattle.paper.specs.Next.{if}
@@ -17,7 +17,7 @@ use Rattle.deliberate.specs.declared.descent.Leaf.{Leaf}
 pub record Stack (p stack : Bytes) (n top : ℕ) : Type 0 where
   pub room : length stack ≡ 128
   pub within : top ≤ 128
-  pub stacked : Stacked (entryCount p - 1) (n ∷ drop top stack)
+  pub stacked : Stacked (entryCount p) (n ∷ drop top stack)
 
 -- from an entry, with ns behind it, to the part in which its first move is made, by whether the left has one, and what then stands
 -- behind: of a sequence its right before the numbers

@@ -3,7 +3,7 @@ use mathlib.Core.Path.{_≡_}
 use mathlib.Core.Bool.{Bool, true, false, not}
 use mathlib.Core.List.{List, _∷_}
 use mathlib.Core.Option.{Option, none}
-use Prim.Native.Nat.{ℕ, _+_, _-_, _≤_}
+use Prim.Native.Nat.{ℕ, _+_, _≤_}
 use lib.Dec.{eqb}
 use lib.ListN.{length, drop, set, getD}
 use Rattle.paper.specs.Language.{Agent, Config}
@@ -58,7 +58,7 @@ pub record Makes (l : Layout) (b : Bytes) (c : Configuration) (ns : List ℕ) (o
 pub record Remains (p stack : Bytes) (top : ℕ) : Type 0 where
   pub room : length stack ≡ 128
   pub within : top ≤ 128
-  pub stacked : Stacked (entryCount p - 1) (drop top stack)
+  pub stacked : Stacked (entryCount p) (drop top stack)
 
 -- the first move of the number at top, and those behind it
 abbrev pub MakesNext : Layout → Bytes → Bytes → Configuration → Bytes → ℕ → AfterMove → Bytes → Bytes → Type 0
