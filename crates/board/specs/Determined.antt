@@ -7,14 +7,14 @@ use Prim.Native.Nat.{ℕ}
 use Rattle.meaning.specs.declared.Answer.{Answer}
 use Rattle.meaning.specs.declared.Configuration.{Configuration}
 use Rattle.meaning.specs.Card.{Bytes}
-use Rattle.meaning.specs.Calls.{checks, loads, grades, lists, listLeaves, takes, runs, saves, saveLeaves, restores}
+use Rattle.meaning.specs.Calls.{checks, loads, grades, lists, listLeaves, takes, runs, nexts, saves, saveLeaves, restores}
 use Rattle.meaning.specs.Refusals.{answerNumber}
 use Rattle.meaning.specs.Numbers.{checkedNumber}
 use Rattle.notation.specs.Reading.{Reads}
 use Rattle.notation.specs.Printing as Printing
 use Rattle.deliberation.specs.Deliberate.{deliberates}
 use Rattle.names.specs.Naming.{Question, names}
-use Rattle.board.specs.Header.{whole, replied, took, gradedAs, wrote, readAs, ranTo, deliberatedTo, namedAs}
+use Rattle.board.specs.Header.{whole, replied, took, gradedAs, wrote, readAs, ranTo, nextAs, deliberatedTo, namedAs}
 
 -- ---- the contracts
 
@@ -44,6 +44,10 @@ Takes card d choice n c node = took (takes card d choice) n c node
 -- taken, and one of three endings"
 abbrev pub Runs : Bytes → Configuration → ℕ → ℕ → Configuration → ℕ → ℕ → Type 0
 Runs card d budget n c count ending = ranTo (runs card d budget) n c count ending
+
+-- 00, the card: "The guide shows the next move.": of a configuration d, and which it is.
+abbrev pub Nexts : Bytes → Configuration → ℕ → ℕ → ℕ → Type 0
+Nexts card d n coming choice = nextAs (nexts card d) n coming choice
 
 -- 02, Wish 6: a program under a card, from a configuration d. "The answer holds the remaining program as entry numbers, the next
 -- first": remaining, of which length are such, and zeros behind them.
@@ -92,6 +96,8 @@ pub record DeterminedParts : Type 0 where
   pub run : (card : Bytes) (d : Configuration) (budget n n′ : ℕ) (c c′ : Configuration) (count count′ ending ending′ : ℕ)
       → Runs card d budget n c count ending → Runs card d budget n′ c′ count′ ending′
       → (n ≡ n′) × (c ≡ c′) × (count ≡ count′) × (ending ≡ ending′)
+  pub next : (card : Bytes) (d : Configuration) (n n′ coming coming′ choice choice′ : ℕ)
+      → Nexts card d n coming choice → Nexts card d n′ coming′ choice′ → (n ≡ n′) × (coming ≡ coming′) × (choice ≡ choice′)
   pub deliberate : (card program : Bytes) (d : Configuration) (budget n n′ : ℕ) (c c′ : Configuration) (count count′ ending ending′ : ℕ)
       (remaining remaining′ : Bytes) (length length′ : ℕ)
       → Deliberates card program d budget n c count ending remaining length

@@ -3,9 +3,11 @@
 ghost use mathlib.Core.Path.{_≡_};
 ghost use Rattle.names.specs.Naming.{asked};
 ghost use Rattle.board.specs.Header.{whole};
-ghost use Rattle.board.specs.Determined.{Checks, Loads, Grades, Lists, Takes, Runs, Deliberates, Saves, Restores, ReadsText, Prints, Names};
+ghost use Rattle.board.specs.Determined.{Checks, Loads, Grades, Lists, Takes, Runs, Nexts, Deliberates, Saves, Restores, ReadsText, Prints, Names};
 use answers::answer_carried;
 use answers::answer_number;
+use answers::coming_choice;
+use answers::coming_number;
 use answers::deliberation_ending_number;
 use answers::ending_number;
 use answers::refusal_number;
@@ -247,6 +249,31 @@ pub extern "C" fn rigtemple_list_parts(
     );
     *count = listed.count;
     let a = listed.answer;
+    answer_number(a)
+}
+
+// The guide's own next move, which is not made: whether there is one, and its code. A refusal says rest.
+#[no_mangle]
+pub extern "C" fn rigtemple_next_parts(
+    card: &[u8],
+    beliefs: &Set,
+    goals: &Set,
+    plan: &Plan,
+    length: u16,
+    phase: u8,
+    finished: u16,
+    coming: &mut u8,
+    choice: &mut u16,
+) -> u16
+    ensures { λ r. ⌜ Nexts (now (card .entry))
+        (whole (now (beliefs .entry)) (now (goals .entry)) (now (plan .entry)) length phase finished) r
+        (now (coming .exit)) (now (choice .exit)) ⌝ }
+{
+    let next = moves::next::next(card, mind(beliefs, goals, length, phase, finished), plan);
+    let k = next.coming;
+    *coming = coming_number(k);
+    *choice = coming_choice(k);
+    let a = next.answer;
     answer_number(a)
 }
 
