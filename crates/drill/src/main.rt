@@ -6,6 +6,8 @@ ghost use Prim.Native.Nat.{_≤_};
 ghost use lib.ListN.{length};
 use answers::answer_carried;
 use answers::answer_number;
+use answers::coming_choice;
+use answers::coming_number;
 use answers::deliberation_ending_number;
 use answers::ending_number;
 use answers::refusal_number;
@@ -340,6 +342,31 @@ fn run(card: &[u8]) -> bool {
     true
 }
 
+// "ending (1: 0 a move, 1 rest, 2 full), the code of the guide's own next choice (2; …)"
+fn tell_coming(coming: u8, choice: u16) {
+    let three = [coming, low(choice), high(choice)];
+    io::write_all(1, &three);
+}
+
+// Request 22. "What a refusal leaves open … (an ending, a verdict) is written as 0 here"
+fn next(card: &[u8]) -> bool {
+    let asked = next_image();
+    if !asked.whole {
+        return false;
+    }
+    let c = asked.configuration;
+    let r = guide::next(card, c);
+    let a = r.answer;
+    let k = r.coming;
+    tell(answer_number(a));
+    let Answer::Done = a else {
+        tell_coming(0, 0);
+        return true;
+    };
+    tell_coming(coming_number(k), coming_choice(k));
+    true
+}
+
 // "room bytes, lent filled with EE hex; room is at most 2,048"
 fn lent_bytes() -> [u8; 2048]
     ensures { λ r. ⌜ 2048 ≡ length r ⌝ }
@@ -627,6 +654,7 @@ fn answer(card: &[u8], request: u8) -> bool {
         10 => print(card),
         11 => deliberate(card),
         12 => name(card),
+        22 => next(card),
         _ => false,
     }
 }
