@@ -226,15 +226,8 @@ pub extern "C" fn rigtemple_go_on_parts(
         (now (finished .exit)))
         (now (moves .exit)) (now (ending .exit)) (now (remaining .exit)) (now («remaining_length» .exit)) ⌝ }
 {
-    let made = deliberate::call::go_on(
-        card,
-        program,
-        numbers,
-        mind(beliefs, goals, *length, *phase, *finished),
-        plan,
-        budget,
-        remaining,
-    );
+    let before = mind(beliefs, goals, *length, *phase, *finished);
+    let made = deliberate::call::go_on(card, program, numbers, before, plan, budget, remaining);
     let m = made.mind;
     put(m, beliefs, goals, length, phase, finished);
     *moves = made.count;

@@ -1,5 +1,6 @@
 -- A deliberation so far, over plain values.
 use mathlib.Core.Path.{_≡_, refl, ap, ap₂, _∙_, sym, subst}
+use mathlib.Core.Bool.{Bool, true, false}
 use mathlib.Core.List.{List, [], _∷_, _++_}
 use mathlib.Core.Option.{Option, none, some}
 use Prim.Native.Nat.{ℕ, suc, _+_, _-_, _%_, _≤_, _<_}
@@ -8,6 +9,7 @@ use native.Mathlib.Omega.{arith}
 use lib.ListN.{length, drop, getD, drop-of-length-le}
 use Rattle.paper.specs.Language.{𝐁, Agent, Config}
 use Rattle.paper.specs.Transitions.{Choice, Step}
+use Rattle.paper.specs.Next.{if}
 use Rattle.runs.specs.Order.{State, kind}
 use Rattle.runs.specs.Step.{after, Reached, step}
 use Rattle.runs.proofs.Step.{StepsTo, none-there, too-long, taken, steps-to}
@@ -58,6 +60,10 @@ module _ (A : Agent) (s : State) where
   led (taking k) ns ns′ t e = led-by k ns ns′ t refl (steps-to A s k) e
 
 -- ---- the deliberation so far
+
+pub at-most-one : (t : Bool) → if t 0 1 ≤ 1
+at-most-one true = omega arith
+at-most-one false = omega arith
 
 -- an outcome with so many moves before it
 abbrev counted : ℕ → Outcome → Outcome

@@ -22,6 +22,10 @@ use Rattle.deliberation.specs.FirstMove.{lowestAction, ifEnabled}
 use Rattle.deliberation.specs.Entries.{entryCount, moveAt}
 use Rattle.deliberation.specs.Deliberate.{MoveResult, stuck, too-long, on, moveResult}
 use Rattle.deliberation.specs.Stacked.{Stacked}
+use Rattle.door.specs.declared.asked.Chosen.{Chosen}
+use Rattle.door.specs.Asking.{firstOfKind}
+use Rattle.deliberate.specs.declared.made.Reached.{Reached}
+use Rattle.deliberate.specs.Descent.{AtLeaf}
 use Rattle.deliberate.specs.declared.made.MoveMade.{MoveMade}
 use Rattle.deliberate.specs.declared.made.AfterMove.{AfterMove}
 
@@ -80,6 +84,19 @@ taken A s WhilePlan a = none
 taken A s WhileBelief a = none
 taken A s Then a = none
 taken A s Or a = none
+
+-- a choice of a kind and a number, if it is open
+abbrev pub ifOpen : Bool → ℕ → ℕ → Chosen
+ifOpen true k n = Chosen.At k n
+ifOpen false k n = Chosen.Nothing
+
+-- the entry in which the first move of entry n is made, which has numbers behind it as ns stand behind n, and the lowest enabled
+-- action where it is an execute
+pub record Found (l : Layout) (b p : Bytes) (c : Configuration) (n : ℕ) (ns : List ℕ) (r : Reached) (stack : Bytes) : Type 0 where
+  pub leaf : AtLeaf p stack (r .leaf)
+  pub same : moveResult (agentFor l b) (stateOf c) (moveAt l b p (stateOf c .mental) n) ns
+      ≡ moveResult (agentFor l b) (stateOf c) (moveAt l b p (stateOf c .mental) (r .leaf .at)) (drop (r .leaf .top) stack)
+  pub action : r .leaf .entry .kind ≡ 0 → r .action ≡ firstOfKind l b c 1
 
 -- what a transition comes to, as a move
 abbrev pub madeBy : Transition → MoveMade

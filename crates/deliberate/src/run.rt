@@ -9,12 +9,12 @@ ghost use Rattle.deliberate.specs.Made.{Remains};
 ghost use Rattle.deliberate.specs.Ran.{RanTo};
 use crate::made::MoveMade;
 use crate::made::make_move;
+use choices::truth::judge_nodes;
 use choices::truth::no_marks;
 use deliberation::DeliberationEnding;
 use meaning::Layout;
 use meaning::Mind;
 use meaning::Plan;
-use moves::run::refresh;
 
 // What a deliberation comes to beside the plan and the numbers that remain: where these begin.
 pub struct RanMoves {
@@ -61,19 +61,23 @@ pub fn run_moves(
         if rest == 128 {
             return ended(cur, count, DeliberationEnding::Finished, rest);
         }
-        refresh(card, l, cur, known, &mut marks);
-        let moved = make_move(card, l, cur, plan, &marks, program, stack, rest);
-        let made = moved.made;
-        let after = moved.mind;
-        match made {
-            MoveMade::On => {
-                known = moved.known;
-                cur = after;
-                rest = moved.top;
-                count += 1;
+        if !known {
+            judge_nodes(card, l, cur, &mut marks);
+            known = true;
+        } else {
+            let moved = make_move(card, l, cur, plan, &marks, program, stack, rest);
+            let made = moved.made;
+            let after = moved.mind;
+            match made {
+                MoveMade::On => {
+                    known = moved.known;
+                    cur = after;
+                    rest = moved.top;
+                    count += 1;
+                }
+                MoveMade::Stuck => return ended(after, count, DeliberationEnding::Stuck, moved.top),
+                MoveMade::Full => return ended(after, count, DeliberationEnding::Full, moved.top),
             }
-            MoveMade::Stuck => return ended(after, count, DeliberationEnding::Stuck, moved.top),
-            MoveMade::Full => return ended(after, count, DeliberationEnding::Full, moved.top),
         }
     }
     ended(cur, count, DeliberationEnding::Spent, rest)
