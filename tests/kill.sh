@@ -133,7 +133,7 @@ done
 
 # ---- the weaver
 
-python3 -B "$tests/kill.py" --kills "$kills" --seed "$seed" --fresh "$fresh" "$@" | tee "$room/said" | grep -v ' passed, [0-9]* failed$' || :
+python3 -B "$tests/kill.py" --kills "$kills" --seed "$seed" --fresh "$fresh" "$@" | tee "$room/said" | grep --line-buffered -v ' passed, [0-9]* failed$' || :
 last=$(tail -n 1 "$room/said")
 case $last in
 *' passed, '*' failed') ;;
