@@ -1,5 +1,5 @@
 // The drill: requests on standard input, an answer for each on standard output, so that any other program can be compared with the
-// thirteen calls byte for byte. Numbers of two or four bytes are low byte first. "A request that breaks these rules, or is not
+// fourteen calls byte for byte. Numbers of two or four bytes are low byte first. "A request that breaks these rules, or is not
 // there yet, ends the program."
 ghost use mathlib.Core.Path.{_≡_};
 ghost use Prim.Native.Nat.{_≤_};

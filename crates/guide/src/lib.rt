@@ -1,4 +1,4 @@
-// The guide: the eleven calls. Nothing is assumed of any byte or number; each contract cites one definition of the whole answer,
+// The guide: the twelve calls. Nothing is assumed of any byte or number; each contract cites one definition of the whole answer,
 // refusals too, and of what a lent buffer holds afterwards. A configuration goes in and comes back by value.
 ghost use mathlib.Core.Path.{_≡_};
 ghost use Prim.Native.Nat.{_+_, _≤_};
