@@ -34,7 +34,7 @@ use Rattle.program.specs.GoodProgram.{GoodProgram}
 use Rattle.deliberate.specs.declared.made.MoveMade.{MoveMade}
 use Rattle.deliberate.specs.declared.made.AfterMove.{AfterMove}
 use Rattle.deliberate.specs.Made.{configurationAfter, numbersAfter, Makes, MakesNext, Remains}
-use Rattle.deliberate.specs.Ran.{RanTo}
+use Rattle.deliberate.specs.Ran.{RanTo, stoppedBy}
 use Rattle.deliberate.proofs.Next.{next-first}
 use Rattle.deliberation.specs.Deliberate as Deliberate
 
@@ -156,7 +156,7 @@ module _ (l : Layout) (b p : Bytes) where
             let m = made-so o q in
             ends e (from-here ∙ r ∙ ap (λ rs. ended e rs (stateOf c)) (sym first)) (configured (x .mind) plan) (x .top) left (m .configuration ∙ g) (m .numbers ∙ f) (m .within) (m .room)
 
-        pub is-stuck : x .made ≡ MoveMade.Stuck → Answered DeliberationEnding.Stuck (configured (x .mind) plan) (x .top) left
+        is-stuck : x .made ≡ MoveMade.Stuck → Answered DeliberationEnding.Stuck (configured (x .mind) plan) (x .top) left
         is-stuck e = by comes refl
           where
             by : (o : MoveResult) → comes ≡ o → Answered DeliberationEnding.Stuck (configured (x .mind) plan) (x .top) left
@@ -164,13 +164,22 @@ module _ (l : Layout) (b p : Bytes) where
             by Deliberate.too-long q = absurd (let u = sym (made-so _ q .made) ∙ e in let z : _≡_ {A = ℕ} 0 1 = cc in omega arith)
             by (on ms t) q = absurd (let u = sym (made-so _ q .made) ∙ e in let z : _≡_ {A = ℕ} 0 1 = cc in omega arith)
 
-        pub is-full : x .made ≡ MoveMade.Full → Answered DeliberationEnding.Full (configured (x .mind) plan) (x .top) left
+        is-full : x .made ≡ MoveMade.Full → Answered DeliberationEnding.Full (configured (x .mind) plan) (x .top) left
         is-full e = by comes refl
           where
             by : (o : MoveResult) → comes ≡ o → Answered DeliberationEnding.Full (configured (x .mind) plan) (x .top) left
             by stuck q = absurd (let u = sym (made-so _ q .made) ∙ e in let z : _≡_ {A = ℕ} 0 1 = cc in omega arith)
             by Deliberate.too-long q = stopped DeliberationEnding.Full Deliberate.too-long q refl refl (run-full (agentFor l b) (conditions 𝐁 l b) (entriesOf p) (budget - (count + 1)) n ns (stateOf c) q)
             by (on ms t) q = absurd (let u = sym (made-so _ q .made) ∙ e in let z : _≡_ {A = ℕ} 0 1 = cc in omega arith)
+
+        -- either, by which it is not made
+        pub is-stopped : (x .made ≡ MoveMade.On → ⊥) → Answered (stoppedBy (x .made)) (configured (x .mind) plan) (x .top) left
+        is-stopped off = by (x .made) refl
+          where
+            by : (t : MoveMade) → x .made ≡ t → Answered (stoppedBy t) (configured (x .mind) plan) (x .top) left
+            by MoveMade.On e = absurd (off e)
+            by MoveMade.Stuck e = is-stuck e
+            by MoveMade.Full e = is-full e
 
         ready-there : {t : State} → Led (agentFor l b) (stateOf c) t → Ready l b (configurationOf t) × (stateOf (configurationOf t) ≡ t)
         unfolding after
