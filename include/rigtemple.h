@@ -61,9 +61,9 @@
  * has no limit.
  *
  * Bytes of stack, as tests/stack.sh measures them on x86-64: check 552, load 728, grade 1,784,
- * list 1,464, next 1,464, take 1,432, run 1,448, deliberate 1,992, go_on 1,992, save 696,
+ * list 1,464, next 1,432, take 1,432, run 1,464, deliberate 2,056, go_on 2,072, save 696,
  * restore 760, text 33,536 (24,976 where nothing nests, 128 more for the first bracket and 272 for
- * each further one), print 1,896, name 696. All but text run on a stack of 2,048. On 64-bit Arm
+ * each further one), print 1,896, name 696. All but text run on a stack of 2,304. On 64-bit Arm
  * text takes 34,064, and each other call at most 192 more than on x86-64: all but text run on
  * 2,304.
  */

@@ -89,12 +89,11 @@ pub fn run_moves(
         } else {
             let moved = make_move(card, l, cur, plan, &marks, program, stack, rest);
             let made = moved.made;
-            let after = moved.mind;
             let MoveMade::On = made else {
-                return ended(after, count, stopped(made), moved.top);
+                return ended(moved.mind, count, stopped(made), moved.top);
             };
             known = moved.known;
-            cur = after;
+            cur = moved.mind;
             rest = moved.top;
             count += 1;
         }

@@ -90,7 +90,7 @@ loop-again-2 c =
     let d = configured (l .cur) (l .plan) in
     let low : l .rest < 128 = (let w = l .inv .0 .remains .within in let u = c .before .before .before .before .before .before .before .before .if1 .left in omega arith) in
     let s = c .before .before .before .make-move in (
-      is-on (a .l) b p (a .budget) all d (l .stack) (l .rest) (l .count) (l .inv .0) (omega (arith, c .before .before .before .before .before .before .before .before .before .loop-test .taken)) low (s .result) (s .last .1 .1 .1 .0) (s .last .1 .1 .1 .1 .1 .1 .0) (s .ensures) (c .before .before .before .before .before .before .before .before .before .before .before .before .before .before .pre .1) (c .enum-told .given .1),
+      is-on (a .l) b p (a .budget) all d (l .stack) (l .rest) (l .count) (l .inv .0) (omega (arith, c .before .before .before .before .before .before .before .before .before .loop-test .taken)) low (s .result) (s .last .1 .1 .1 .0) (s .last .1 .1 .1 .1 .1 .1 .0) (s .ensures) (c .before .before .before .before .before .before .before .before .before .before .before .before .before .before .pre .1) (c .before .enum-told .given .1),
       l .inv .1,
       λ h. s .ensures .keeps h (l .marks) (l .inv .2 (not-false _ (c .before .before .before .before .before .before .before .if2 .left))),
     )
@@ -100,20 +100,20 @@ ended-requires-2 c κs = search needs
 
 returns-2 : tie.Need-returns-2 Inv-loop μ-loop
 returns-2 c =
-    let a = c .before .before .before .before .before .before .before .before .before .before .before .before .before .before .before .args in
+    let a = c .before .before .before .before .before .before .before .before .before .before .before .before .before .before .args in
     let b = now (a .card) in
     let p = now (a .program) in
     let all = outcome (a .l) b p (a .budget) (drop (a .top) (now (a .stack))) (stateOf (configured (a .m) (now (a .plan)))) in
-    let l = c .before .before .before .before .before .before .before .before .before .before .before .loop in
+    let l = c .before .before .before .before .before .before .before .before .before .before .loop in
     let d = configured (l .cur) (l .plan) in
-    let low : l .rest < 128 = (let w = l .inv .0 .remains .within in let u = c .before .before .before .before .before .before .before .before .before .if1 .left in omega arith) in
-    let s = c .before .before .before .before .make-move in
+    let low : l .rest < 128 = (let w = l .inv .0 .remains .within in let u = c .before .before .before .before .before .before .before .before .if1 .left in omega arith) in
+    let s = c .before .before .before .make-move in
     let left = s .last .1 .1 .1 .1 .1 .1 .0 in
     let told = c .before .before .match .keys2 in
     let off : s .result .made ≡ MoveMade.On → ⊥ = λ e. (elim (rw e at told) [ inl h ↦ absurd (omega arith) | inr h ↦ absurd (omega arith) ]) in
     subst (λ (x : RanMoves). RanTo all x (s .last .1 .1 .1 .0) left) (sym (c .ended2 .ensures))
     (subst (λ e. RanTo all (record { mind = s .result .mind; count = l .count; ending = e; top = s .result .top }) (s .last .1 .1 .1 .0) left) (sym (c .before .stopped .ensures))
-    (is-stopped (a .l) b p (a .budget) all d (l .stack) (l .rest) (l .count) (l .inv .0) (omega (arith, c .before .before .before .before .before .before .before .before .before .before .loop-test .taken)) low (s .result) (s .last .1 .1 .1 .0) left (s .ensures) off))
+    (is-stopped (a .l) b p (a .budget) all d (l .stack) (l .rest) (l .count) (l .inv .0) (omega (arith, c .before .before .before .before .before .before .before .before .before .loop-test .taken)) low (s .result) (s .last .1 .1 .1 .0) left (s .ensures) off))
 
 ended-requires-3 : tie.Need-ended-requires-3 Inv-loop μ-loop
 ended-requires-3 c κs = search needs
