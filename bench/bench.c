@@ -3,7 +3,8 @@
  * batch after batch in turn. First both have to give the same answers. Then nanoseconds for each
  * call on each card, for a transition inside a run, and how a transition's time grows with nodes,
  * rules and the plan: medians, and the library's time divided by the engine's. A deliberation is
- * of one plan, on the two cards whose plans come to an end.
+ * of one plan, on the two cards whose plans come to an end; it is made at once, and gone on with
+ * move by move.
  */
 #include <stdio.h>
 #include <stdlib.h>
@@ -24,7 +25,7 @@ enum { ROOM = RIGTEMPLE_MOST_LIST_ENTRIES };
 #define SHORTEST_BATCH 60000.0
 #define TABLE_TIME 3000000000.0
 
-/* The nine calls of one of the two programs. */
+/* The calls of one of the two programs, but for those over text and names. */
 struct calls {
     uint16_t (*check)(const uint8_t *, size_t);
     uint16_t (*load)(const uint8_t *, size_t, uint8_t *, uint8_t *, uint8_t *, uint16_t *,
@@ -32,6 +33,8 @@ struct calls {
     uint16_t (*grade)(const uint8_t *, size_t, uint8_t *, uint8_t *, uint16_t *);
     uint16_t (*list)(const uint8_t *, size_t, const uint8_t *, const uint8_t *, const uint8_t *,
                      uint16_t, uint8_t, uint16_t, uint16_t *, size_t, uint16_t *);
+    uint16_t (*next)(const uint8_t *, size_t, const uint8_t *, const uint8_t *, const uint8_t *,
+                     uint16_t, uint8_t, uint16_t, uint8_t *, uint16_t *);
     uint16_t (*take)(const uint8_t *, size_t, uint8_t *, uint8_t *, uint8_t *, uint16_t *,
                      uint8_t *, uint16_t *, uint16_t, uint16_t *);
     uint16_t (*run)(const uint8_t *, size_t, uint8_t *, uint8_t *, uint8_t *, uint16_t *, uint8_t *,
@@ -39,6 +42,9 @@ struct calls {
     uint16_t (*deliberate)(const uint8_t *, size_t, const uint8_t *, size_t, uint8_t *, uint8_t *,
                            uint8_t *, uint16_t *, uint8_t *, uint16_t *, uint16_t, uint16_t *,
                            uint8_t *, uint8_t *, uint8_t *);
+    uint16_t (*go_on)(const uint8_t *, size_t, const uint8_t *, size_t, const uint8_t *, size_t,
+                      uint8_t *, uint8_t *, uint8_t *, uint16_t *, uint8_t *, uint16_t *, uint16_t,
+                      uint16_t *, uint8_t *, uint8_t *, uint8_t *);
     uint16_t (*save)(const uint8_t *, size_t, const uint8_t *, const uint8_t *, const uint8_t *,
                      uint16_t, uint8_t, uint16_t, uint8_t *, size_t, uint16_t *);
     uint16_t (*restore)(const uint8_t *, size_t, const uint8_t *, size_t, uint8_t *, uint8_t *,
@@ -46,14 +52,15 @@ struct calls {
 };
 
 static const struct calls ours = {
-    rigtemple_check_parts,      rigtemple_load_parts, rigtemple_grade_parts,
-    rigtemple_list_parts,       rigtemple_take_parts, rigtemple_run_parts,
-    rigtemple_deliberate_parts, rigtemple_save_parts, rigtemple_restore_parts,
+    rigtemple_check_parts,   rigtemple_load_parts,       rigtemple_grade_parts,
+    rigtemple_list_parts,    rigtemple_next_parts,       rigtemple_take_parts,
+    rigtemple_run_parts,     rigtemple_deliberate_parts, rigtemple_go_on_parts,
+    rigtemple_save_parts,    rigtemple_restore_parts,
 };
 
 static const struct calls engine = {
-    engine_check, engine_load,       engine_grade, engine_list,    engine_take,
-    engine_run,   engine_deliberate, engine_save,  engine_restore,
+    engine_check, engine_load,       engine_grade, engine_list, engine_next,    engine_take,
+    engine_run,   engine_deliberate, engine_go_on, engine_save, engine_restore,
 };
 
 /* A card, a configuration in the middle of its run, the place of it, and the guide's own choices
@@ -71,9 +78,10 @@ struct input {
 /* What a batch of calls leaves: answers and everything lent. */
 struct left {
     struct rigtemple_configuration c;
-    uint16_t answer, list[ROOM], count, number, node;
-    uint8_t verdict, offender, ending, place[RIGTEMPLE_MOST_PLACE_BYTES];
+    uint16_t answer, list[ROOM], count, number, node, choice;
+    uint8_t verdict, offender, ending, coming, place[RIGTEMPLE_MOST_PLACE_BYTES];
     uint8_t remaining[RIGTEMPLE_MOST_REMAINING], remaining_length;
+    uint8_t numbers[RIGTEMPLE_MOST_REMAINING], numbers_length;
 };
 
 /* The parts of the configuration `c` points to, as the calls take them. */
@@ -111,6 +119,13 @@ static void batch_list(const struct calls *f, const struct input *in, unsigned t
 {
     for (unsigned i = 0; i < times; i++)
         l->answer |= f->list(CARD(in), PARTS_READ(&in->middle), l->list, ROOM, &l->count);
+}
+
+static void batch_next(const struct calls *f, const struct input *in, unsigned times,
+                       struct left *l)
+{
+    for (unsigned i = 0; i < times; i++)
+        l->answer |= f->next(CARD(in), PARTS_READ(&in->middle), &l->coming, &l->choice);
 }
 
 static void batch_take(const struct calls *f, const struct input *in, unsigned times,
@@ -153,6 +168,26 @@ static void batch_deliberate(const struct calls *f, const struct input *in, unsi
     }
 }
 
+/* Goes on by one move, each from where the last one ended, and begins anew where none remains: what
+ * a guide does that shows each move of a shed's own. */
+static void batch_go_on(const struct calls *f, const struct input *in, unsigned times,
+                        struct left *l)
+{
+    l->remaining_length = 0;
+    for (unsigned i = 0; i < times; i++) {
+        l->numbers_length = l->remaining_length;
+        memcpy(l->numbers, l->remaining, sizeof l->numbers);
+        if (l->numbers_length == 0) {
+            l->c = in->woven;
+            l->numbers[0] = (uint8_t)(in->program.len / RIGTEMPLE_ENTRY_BYTES - 1);
+            l->numbers_length = 1;
+        }
+        l->answer |= f->go_on(CARD(in), in->program.bytes, in->program.len, l->numbers,
+                              l->numbers_length, PARTS(&l->c), 1, &l->count, &l->ending,
+                              l->remaining, &l->remaining_length);
+    }
+}
+
 static void batch_save(const struct calls *f, const struct input *in, unsigned times,
                        struct left *l)
 {
@@ -173,48 +208,38 @@ static const struct row {
     batch *make;
     unsigned least; /* a batch makes a multiple of this many */
 } rows[] = {
-    {"check", batch_check, 1}, {"load", batch_load, 1},
-    {"grade", batch_grade, 1}, {"list", batch_list, 1},
-    {"take", batch_take, CHOICES}, {"run of 1", batch_run_one, 1},
-    {"save", batch_save, 1},   {"restore", batch_restore, 1},
+    {"check", batch_check, 1},        {"load", batch_load, 1},
+    {"grade", batch_grade, 1},        {"list", batch_list, 1},
+    {"next", batch_next, 1},          {"take", batch_take, CHOICES},
+    {"run of 1", batch_run_one, 1},   {"save", batch_save, 1},
+    {"restore", batch_restore, 1},
 };
 
 static const struct row run_row = {"run of 1000", batch_run, RUN_BUDGET};
-static const struct row deliberate_row = {"deliberate", batch_deliberate, 1};
+static const struct row program_rows[] = {
+    {"deliberate", batch_deliberate, 1},
+    {"go on by 1", batch_go_on, 1},
+};
 
 /* ---- inputs ---- */
-
-/* The guide's own choice: the kind is told by the phase after, and the number is the lowest that
- * the list has of it. */
-static uint16_t own_choice(const struct input *in, const struct rigtemple_configuration *c,
-                           unsigned phase_after)
-{
-    uint16_t list[ROOM], count = 0;
-    unsigned kind = (phase_after + 2) % 3, i = 0;
-    engine.list(CARD(in), PARTS_READ(c), list, ROOM, &count);
-    while (i + 1 < count && RIGTEMPLE_KIND_OF(list[i]) != kind)
-        i++;
-    return list[i];
-}
 
 /* Fills in what belongs to the card: a configuration in the middle of its run, and so on. */
 static void prepare(struct input *in, const char *name)
 {
     uint16_t count;
-    uint8_t ending;
+    uint8_t ending, coming;
     in->name = name;
     engine.load(CARD(in), PARTS(&in->middle));
     engine.run(CARD(in), PARTS(&in->middle), RUN_BUDGET, &count, &ending);
     engine.save(CARD(in), PARTS_READ(&in->middle), in->place, sizeof in->place, &in->place_len);
     struct rigtemple_configuration c = in->middle;
     for (unsigned i = 0; i < CHOICES; i++) {
-        struct rigtemple_configuration before = c;
+        engine.next(CARD(in), PARTS_READ(&c), &coming, &in->choice[i]);
         engine.run(CARD(in), PARTS(&c), 1, &count, &ending);
         if (count != 1) {
             printf("the card '%s' has to run for ever\n", name);
             exit(1);
         }
-        in->choice[i] = own_choice(in, &before, c.phase);
     }
 }
 
@@ -327,8 +352,9 @@ static void measure(struct line *lines, unsigned count)
 /* ---- tables ---- */
 
 enum { ROWS = sizeof rows / sizeof rows[0], INPUTS = 4, SHEDS = 2, GROWTHS = 9 };
+enum { OF_PROGRAMS = SHEDS * sizeof program_rows / sizeof program_rows[0] };
 
-static struct line lines[ROWS * INPUTS + SHEDS];
+static struct line lines[ROWS * INPUTS + OF_PROGRAMS];
 
 /* Measures and prints lines of calls on cards. */
 static void print_calls(const char *unit, unsigned count)
@@ -391,18 +417,19 @@ int main(void)
     prepare_program(&inputs[1], 50);
     for (unsigned i = 0; i < INPUTS; i++)
         compare(&inputs[i]);
-    for (unsigned i = 0; i < SHEDS; i++)
-        compare_once(&deliberate_row, &inputs[i], 1);
+    for (unsigned i = 0; i < OF_PROGRAMS; i++)
+        for (unsigned times = 1; times <= CHOICES; times++)
+            compare_once(&program_rows[i / SHEDS], &inputs[i % SHEDS], times);
     printf("The same answers on %u cards.\n", INPUTS);
     for (unsigned i = 0; i < ROWS * INPUTS; i++) {
         lines[i].row = &rows[i / INPUTS];
         lines[i].in = &inputs[i % INPUTS];
     }
-    for (unsigned i = 0; i < SHEDS; i++) {
-        lines[ROWS * INPUTS + i].row = &deliberate_row;
-        lines[ROWS * INPUTS + i].in = &inputs[i];
+    for (unsigned i = 0; i < OF_PROGRAMS; i++) {
+        lines[ROWS * INPUTS + i].row = &program_rows[i / SHEDS];
+        lines[ROWS * INPUTS + i].in = &inputs[i % SHEDS];
     }
-    print_calls("ns a call", ROWS * INPUTS + SHEDS);
+    print_calls("ns a call", ROWS * INPUTS + OF_PROGRAMS);
     for (unsigned i = 0; i < INPUTS; i++) {
         lines[i].row = &run_row;
         lines[i].in = &inputs[i];

@@ -1,5 +1,6 @@
 /*
- * The engine: document 01's eight calls in plain C, with document 02's wishes 1, 4, 5 and 6.
+ * The engine: document 01's eight calls in plain C, with document 02's wishes 1, 4, 5 and 6, and
+ * with `next` and `go on`.
  *
  * A card is checked once a call; after that nothing is tested that its acceptance settles. All
  * conditions are judged in one pass over the nodes, one mark a node, and again only when beliefs
@@ -36,6 +37,7 @@ enum { SELECT, ACT, REVISE };                                  /* the kinds, in 
 enum { TRUE, BELIEVES, HAS_GOAL, NOT, AND, OR };               /* the kinds of nodes */
 enum { EXECUTE, APPLY, CHOOSE, WHILE_PLAN, WHILE_BELIEF, THEN, EITHER }; /* those of entries */
 enum { SPENT, REST, FULL };                                    /* the endings of a run */
+enum { A_MOVE };                                               /* what comes next, or REST, FULL */
 enum { FINISHED = 1, STUCK, TOO_LONG };                        /* the others of a deliberation */
 enum { BOUNDED, OPEN };                                        /* the verdicts */
 enum { NONE, INITIAL_PLAN, SELECTION_RULE, REVISION_RULE };    /* the offenders */
@@ -777,12 +779,13 @@ static inline int move(struct walk *w, unsigned kind, unsigned i)
 
 /* "From phase p the kinds p, p+1, p+2 (modulo 3) are tried in turn. In the first kind with an
  * enabled transition, the lowest number is taken." The number, and its kind; or NO_MOVE. */
-static inline int next_move(const struct walk *w, unsigned *kind)
+static inline int next_move(const struct card *c, const uint8_t *mark, const uint8_t *plan,
+                            unsigned length, unsigned phase, unsigned *kind)
 {
     int found = NO_MOVE;
-    *kind = w->phase;
+    *kind = phase;
     for (unsigned tried = 0; tried < 3; tried++) {
-        found = next_of_kind(w->card, w->mark, *kind, w->end - w->length, w->length, 0);
+        found = next_of_kind(c, mark, *kind, plan, length, 0);
         if (found != NO_MOVE)
             break;
         *kind = *kind == REVISE ? SELECT : *kind + 1;
@@ -795,7 +798,8 @@ static unsigned walk(struct walk *w, unsigned budget, uint8_t *ending)
 {
     unsigned kind;
     for (unsigned count = 0; count < budget; count++) {
-        int found = next_move(w, &kind);
+        int found =
+            next_move(w->card, w->mark, w->end - w->length, w->length, w->phase, &kind);
         if (found == NO_MOVE || !move(w, kind, (unsigned)found)) {
             *ending = found == NO_MOVE ? REST : FULL;
             return count;
@@ -825,7 +829,40 @@ uint16_t engine_run(const uint8_t *card, size_t card_len, uint8_t *beliefs, uint
     return DONE;
 }
 
-/* ---- deliberate ---- */
+/* ---- next ---- */
+
+/* Whether the enabled move i of a kind leaves a plan that fits; only a revision's may not. */
+static int fits(const struct card *c, unsigned kind, unsigned i, unsigned length)
+{
+    const uint8_t *rule = c->revision + REVISION_BYTES * i;
+    return kind != REVISE || length - number(rule + 4) + number(rule + 8) <= LONGEST_PLAN;
+}
+
+uint16_t engine_next(const uint8_t *card, size_t card_len, const uint8_t *beliefs,
+                     const uint8_t *goals, const uint8_t *plan, uint16_t length, uint8_t phase,
+                     uint16_t finished, uint8_t *coming, uint16_t *choice)
+{
+    struct card c;
+    uint8_t mark[MOST_ENTRIES];
+    unsigned kind;
+    (void)finished;
+    *coming = REST;
+    *choice = 0;
+    uint16_t answer = check(card, card_len, &c);
+    if (answer != DONE)
+        return answer;
+    if (!known_configuration(&c, beliefs, goals, plan, length, phase))
+        return CONFIGURATION;
+    judge(&c, c.nodes, beliefs, goals, mark);
+    int found = next_move(&c, mark, plan, length, phase, &kind);
+    if (found == NO_MOVE)
+        return DONE;
+    *coming = fits(&c, kind, (unsigned)found, length) ? A_MOVE : FULL;
+    *choice = (uint16_t)(256 * kind + (unsigned)found);
+    return DONE;
+}
+
+/* ---- deliberate and go on ---- */
 
 /* Whether a program keeps its rules for a card, of whose nodes `form` tells what they are made of
  * (row 19): "part numbers are lower than their own". */
@@ -877,41 +914,62 @@ struct course {
     uint8_t movable[LONGEST_PROGRAM]; /* the marks: whether the entry has a first move */
 };
 
-/* Marks the entries up to n, each after its parts: whether it has a first move. */
-static void mark_moves(struct course *d, unsigned n)
+/* Whether an entry without parts, or a "while", has a first move; the action was looked for. */
+static inline int movable_alone(const struct course *d, const uint8_t *entry)
 {
     const struct walk *w = &d->walk;
     const struct card *c = w->card;
-    const uint8_t *plan = w->end - w->length;
-    if (d->marked == 0)
-        d->action = next_of_kind(c, w->mark, ACT, plan, w->length, 0);
+    switch (entry[0]) {
+    case EXECUTE:
+        return d->action != NO_MOVE;
+    case APPLY:
+        return revision_enabled(c, w->mark, c->revision + REVISION_BYTES * entry[1],
+                                w->end - w->length, w->length);
+    case CHOOSE:
+        return w->length == 0 &&
+               selection_holds(w->mark, c->selection + SELECTION_BYTES * entry[1]);
+    default:
+        return 1;
+    }
+}
+
+/* Marks the entries up to n, each after its parts: whether it has a first move. */
+static inline void mark_moves(struct course *d, unsigned n)
+{
     for (unsigned k = d->marked; k <= n; k++) {
         const uint8_t *entry = d->program + ENTRY_BYTES * k;
         unsigned a = entry[1], b = entry[2];
-        int has = 1; /* "while" */
         switch (entry[0]) {
-        case EXECUTE:
-            has = d->action != NO_MOVE;
-            break;
-        case APPLY:
-            has = revision_enabled(c, w->mark, c->revision + REVISION_BYTES * a, plan, w->length);
-            break;
-        case CHOOSE:
-            has = w->length == 0 && selection_holds(w->mark, c->selection + SELECTION_BYTES * a);
-            break;
         case THEN:
-            has = d->movable[a];
+            d->movable[k] = d->movable[a];
             break;
         case EITHER:
-            has = d->movable[a] | d->movable[b];
+            d->movable[k] = d->movable[a] | d->movable[b];
             break;
+        default:
+            d->movable[k] = (uint8_t)movable_alone(d, entry);
         }
-        d->movable[k] = (uint8_t)has;
     }
     d->marked = d->marked > n ? d->marked : n + 1;
 }
 
-/* Takes the enabled move that a marked entry stands for; whether its plan fits. */
+/* Whether entry n has a first move: a "while" always, an entry without parts is asked by itself,
+ * and else those below it are marked, and it. */
+static inline int movable(struct course *d, unsigned n)
+{
+    const struct walk *w = &d->walk;
+    const uint8_t *entry = d->program + ENTRY_BYTES * n;
+    if (entry[0] == WHILE_PLAN || entry[0] == WHILE_BELIEF)
+        return 1;
+    if (d->marked == 0 && entry[0] != APPLY && entry[0] != CHOOSE)
+        d->action = next_of_kind(w->card, w->mark, ACT, w->end - w->length, w->length, 0);
+    if (entry[0] < THEN)
+        return movable_alone(d, entry);
+    mark_moves(d, n);
+    return d->movable[n];
+}
+
+/* Takes the enabled move that an entry stands for; whether its plan fits. */
 static int take_entry(struct course *d, const uint8_t *entry)
 {
     unsigned kind = entry[0] == EXECUTE ? ACT : entry[0] == APPLY ? REVISE : SELECT;
@@ -950,8 +1008,7 @@ static unsigned one_move(struct course *d)
 {
     if (d->next == d->none)
         return FINISHED;
-    mark_moves(d, *d->next);
-    if (!d->movable[*d->next])
+    if (!movable(d, *d->next))
         return STUCK;
     return make_move(d) ? SPENT : TOO_LONG;
 }
@@ -970,39 +1027,80 @@ static unsigned follow(struct course *d, unsigned budget, uint8_t *ending)
     return budget;
 }
 
+/* Whether numbers may remain of a program of so many entries (row 19): each, plus how many stand
+ * behind it, is below their number. So no more than 128 ever remain. */
+static int good_numbers(const uint8_t *numbers, size_t numbers_len, unsigned entries)
+{
+    unsigned bad = 0;
+    if (numbers_len > entries)
+        return 0;
+    for (size_t i = 0; i < numbers_len; i++)
+        bad |= numbers[i] + (numbers_len - 1 - i) >= entries;
+    return bad == 0;
+}
+
+/* What a deliberation writes beside the configuration. */
+struct told {
+    uint16_t *count;
+    uint8_t *ending, *remaining, *remaining_length;
+};
+
+/* A deliberation from given numbers, compiled once for each of the two calls. */
+static inline __attribute__((always_inline)) uint16_t
+deliberation(const uint8_t *card, size_t card_len, const uint8_t *program, size_t program_len,
+             const uint8_t *numbers, size_t numbers_len, struct parts d, uint16_t budget,
+             struct told t)
+{
+    struct card c;
+    struct course course;
+    uint8_t form[MOST_ENTRIES];
+    *t.count = 0;
+    *t.ending = SPENT;
+    *t.remaining_length = 0;
+    uint16_t answer = check_forms(card, card_len, &c, form);
+    if (answer != DONE)
+        return answer;
+    if (!good_program(&c, form, program, program_len) ||
+        !good_numbers(numbers, numbers_len, (unsigned)(program_len / ENTRY_BYTES)))
+        return PROGRAM;
+    if (!known_configuration(&c, d.beliefs, d.goals, d.plan, *d.length, *d.phase))
+        return CONFIGURATION;
+    set_out(&course.walk, &c, d);
+    course.program = program;
+    course.marked = 0;
+    course.none = t.remaining + LONGEST_PROGRAM;
+    course.next = course.none - numbers_len;
+    memcpy(course.next, numbers, numbers_len);
+    *t.count = (uint16_t)follow(&course, budget, t.ending);
+    arrive(&course.walk, d);
+    unsigned left = (unsigned)(course.none - course.next);
+    *t.remaining_length = (uint8_t)left;
+    memmove(t.remaining, course.next, left);
+    memset(t.remaining + left, 0, LONGEST_PROGRAM - left);
+    return DONE;
+}
+
+uint16_t engine_go_on(const uint8_t *card, size_t card_len, const uint8_t *program,
+                      size_t program_len, const uint8_t *numbers, size_t numbers_len,
+                      uint8_t *beliefs, uint8_t *goals, uint8_t *plan, uint16_t *length,
+                      uint8_t *phase, uint16_t *finished, uint16_t budget, uint16_t *count,
+                      uint8_t *ending, uint8_t *remaining, uint8_t *remaining_length)
+{
+    return deliberation(card, card_len, program, program_len, numbers, numbers_len,
+                        (struct parts){beliefs, goals, plan, length, phase, finished}, budget,
+                        (struct told){count, ending, remaining, remaining_length});
+}
+
 uint16_t engine_deliberate(const uint8_t *card, size_t card_len, const uint8_t *program,
                            size_t program_len, uint8_t *beliefs, uint8_t *goals, uint8_t *plan,
                            uint16_t *length, uint8_t *phase, uint16_t *finished, uint16_t budget,
                            uint16_t *count, uint8_t *ending, uint8_t *remaining,
                            uint8_t *remaining_length)
 {
-    struct card c;
-    struct parts d = {beliefs, goals, plan, length, phase, finished};
-    struct course course;
-    uint8_t form[MOST_ENTRIES];
-    *count = 0;
-    *ending = SPENT;
-    *remaining_length = 0;
-    memset(remaining, 0, LONGEST_PROGRAM);
-    uint16_t answer = check_forms(card, card_len, &c, form);
-    if (answer != DONE)
-        return answer;
-    if (!good_program(&c, form, program, program_len))
-        return PROGRAM;
-    if (!known_configuration(&c, beliefs, goals, plan, *length, *phase))
-        return CONFIGURATION;
-    set_out(&course.walk, &c, d);
-    course.program = program;
-    course.marked = 0;
-    course.none = remaining + LONGEST_PROGRAM;
-    course.next = course.none - 1;
-    *course.next = (uint8_t)(program_len / ENTRY_BYTES - 1); /* "the last one the whole" */
-    *count = (uint16_t)follow(&course, budget, ending);
-    arrive(&course.walk, d);
-    *remaining_length = (uint8_t)(course.none - course.next);
-    memmove(remaining, course.next, *remaining_length);
-    memset(remaining + *remaining_length, 0, LONGEST_PROGRAM - *remaining_length);
-    return DONE;
+    uint8_t whole = (uint8_t)(program_len / ENTRY_BYTES - 1); /* "the last one the whole" */
+    return deliberation(card, card_len, program, program_len, &whole, 1,
+                        (struct parts){beliefs, goals, plan, length, phase, finished}, budget,
+                        (struct told){count, ending, remaining, remaining_length});
 }
 
 /* ---- save and restore ---- */

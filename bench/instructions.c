@@ -7,7 +7,8 @@
  *
  * With the stripe card its text is read and node 4 printed, with the typical card a full text and a
  * node that prints 255. A deliberation is of one plan, by the program of the teaching shed, with 3
- * revisions and with 50. A name is found in the shed's sheet, with a master's beside it: of the stripe
+ * revisions and with 50; it is gone on with from where its first moves left it, by one move and to
+ * its end. A name is found in the shed's sheet, with a master's beside it: of the stripe
  * card's five, and of 256 of about 40 bytes each.
  */
 #include <stdlib.h>
@@ -20,7 +21,7 @@
 #include "engine.h"
 
 enum { CHECK, LOAD, GRADE, LIST, TAKE, REFUSED, RUN_1, RUN_9, SAVE, RESTORE, DELIBERATE, TEXT,
-       PRINT, NAME };
+       PRINT, NAME, NEXT, GO_ON_1, GO_ON };
 enum { BEFORE = 3, ENOUGH = 1000 };
 
 /* A revision of the stripe card whose condition is false then. */
@@ -32,8 +33,9 @@ enum { NAMED = 3 };
 static struct card_bytes card, printed;
 static struct program_bytes program;
 static struct text_bytes text;
-static struct rigtemple_configuration middle, woven, c;
+static struct rigtemple_configuration middle, woven, begun, c;
 static uint8_t remaining[RIGTEMPLE_MOST_REMAINING], remaining_length;
+static uint8_t numbers[RIGTEMPLE_MOST_REMAINING], numbers_len, coming;
 static uint8_t place[RIGTEMPLE_MOST_PLACE_BYTES], verdict, offender, ending;
 static uint16_t list[RIGTEMPLE_MOST_LIST_ENTRIES], place_len, number, moves, node, of_printed;
 static uint8_t made[RIGTEMPLE_MOST_CARD_BYTES], sheet;
@@ -43,6 +45,7 @@ static size_t wrong;
 
 #define CARD card.bytes, card.len
 #define PROGRAM program.bytes, program.len
+#define NUMBERS numbers, numbers_len
 #define SHEETS shed.bytes, shed.len, master.bytes, master.len
 #define LEFT &moves, &ending, remaining, &remaining_length
 #define PARTS c.beliefs, c.goals, c.plan, &c.length, &c.phase, &c.finished
@@ -62,6 +65,9 @@ static size_t wrong;
     case SAVE: return of##save##parts(CARD, PARTS_READ, place, sizeof place, &number);        \
     case RESTORE: return of##restore##parts(CARD, place, place_len, PARTS);                   \
     case DELIBERATE: return of##deliberate##parts(CARD, PROGRAM, PARTS, ENOUGH, LEFT);        \
+    case NEXT: return of##next##parts(CARD, PARTS_READ, &coming, &number);                    \
+    case GO_ON_1: return of##go_on##parts(CARD, PROGRAM, NUMBERS, PARTS, 1, LEFT);            \
+    case GO_ON: return of##go_on##parts(CARD, PROGRAM, NUMBERS, PARTS, ENOUGH, LEFT);         \
     case TEXT: return of##text##parts(text.bytes, text.len, made, sizeof made, &number, &wrong); \
     case NAME: return of##name##parts(CARD, SHEETS, NAMED, &sheet, &start, &length);          \
     default:                                                                                  \
@@ -79,7 +85,8 @@ static uint16_t engines(int call)
 }
 
 /* The configuration after three moves, its place, and the first of its choices; the one in which
- * the first plan is finished, from which the program comes to its end; what is read and printed. */
+ * the first plan is finished, from which the program comes to its end; where three moves of it
+ * leave it; what is read and printed. */
 static int begin(int which)
 {
     if (which == 0) {
@@ -110,6 +117,9 @@ static int begin(int which)
     if (rigtemple_deliberate(CARD, PROGRAM, &c, ENOUGH, LEFT) ||
         ending != RIGTEMPLE_DELIBERATION_FINISHED)
         return 1;
+    begun = woven;
+    if (rigtemple_deliberate(CARD, PROGRAM, &begun, BEFORE, &moves, &ending, numbers, &numbers_len))
+        return 1;
     if (rigtemple_name_parts(CARD, SHEETS, NAMED, &sheet, &start, &length) ||
         sheet != RIGTEMPLE_SHEET_SHED)
         return 1;
@@ -123,7 +133,7 @@ int main(int count, char **words)
         return 2;
     int call = (int)strtoul(words[3], NULL, 10);
     for (int i = 0; i < words[4][0] - '0'; i++) {
-        c = call == DELIBERATE ? woven : middle;
+        c = call == DELIBERATE ? woven : call >= GO_ON_1 ? begun : middle;
         answers |= words[1][0] == '0' ? ours(call) : engines(call);
     }
     return answers == 0 ? 0 : 1;

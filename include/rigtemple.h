@@ -5,43 +5,67 @@
  * is where a weaver stands in it: what is believed of the warp, which goals are open, the
  * plan of actions still to be done, the phase, and how many plans are finished. A place is a
  * configuration as bytes to keep. A program says in a shed's own words which move comes next. A
- * sheet has a name for each action of a card, in one language. The twelve calls below check and
- * grade a card, make the first configuration, list the moves that are possible, take one, run by
- * themselves or by a program, save and restore a place, make a card from a designer's text, print a
- * condition of a card as such text, and find the name of an action.
+ * sheet has a name for each action of a card, in one language. The fourteen calls below check and
+ * grade a card, make the first configuration, list the moves that are possible, tell the one that
+ * comes next, take one, run by themselves or by a program, go on with a program, save and restore a
+ * place, make a card from a designer's text, print a condition of a card as such text, and find the
+ * name of an action.
+ *
+ * The rule for an app, so that no pick is skipped and no band is woven twice:
+ *
+ *  - Show the move that comes next, as rigtemple_next tells it, and beside it the last one done,
+ *    each with its number from the beginning: two moves in a row may be alike.
+ *  - When the weaver has made it and says so, take it with rigtemple_take and save at once. Show
+ *    the one after when that is kept, and not before. A touch is for the number that was shown: a
+ *    second one says nothing of the move after it.
+ *  - After a turn of the screen or a restart restore, and show both again. If the tablet died
+ *    between her touch and the save, the move that she has made is shown as the next one still,
+ *    beside the one before it: she sees that, and says once more that it is made.
+ *  - Keep in one file, replaced in one step (write another, have it on the disk, rename it): the
+ *    place, the last choice, how many moves are done, the card's fingerprint (any sum of its bytes
+ *    that you like: a place does not say which card it came from, and another card's is not to be
+ *    gone on with), and, where there is a program, that and the numbers that remain of it.
+ *  - With a program, rigtemple_go_on with budget 1, from the numbers kept (at first the last
+ *    entry's alone) and on a copy of the configuration, tells the next move of the shed's own: it
+ *    is what became of the copy. An idle move leaves the copy as it is, and is passed: it is not
+ *    shown, and the next is asked for from the numbers that it left. (A program can idle without an
+ *    end: pass so many at a time.) When the weaver says that the move is made, the copy and the
+ *    numbers that it left take the place of those kept.
+ *  - Where what was kept is refused, say so, and keep nothing over it: to load the card instead
+ *    begins again from the top. Only where there is no file a card is begun.
+ *
+ * The example turned_screen.c does all of this.
  *
  * What holds for every call:
  *
  *  - It ends, on all bytes and all numbers, and answers a number: 0 for done, another for a
  *    refusal. Where more than one refusal would fit, the card's come first (1 to 9 in that
- *    order), then the place's (1, 2, 3, 4, 8, 9) or the program's (19) and the configuration's
- *    (13), then 14, 15, 16, 11 and 12. A text is refused with 17, 18, 25, then with what the
- *    card that it would make is refused with, then with 12; a name with 1 to 9, then 20 for the
- *    shed's sheet, 20 for the master's, and 21. No call answers 10.
+ *    order), then the place's (1, 2, 3, 4, 8, 9) or those of the program and its numbers (19) and
+ *    the configuration's (13), then 14, 15, 16, 11 and 12. A text is refused with 17, 18, 25, then
+ *    with what the card that it would make is refused with, then with 12; a name with 1 to 9, then
+ *    20 for the shed's sheet, 20 for the master's, and 21. No call answers 10.
  *  - Every buffer is the caller's. The library keeps no memory, no pointer and no state
  *    between calls, and allocates nothing.
  *  - No pointer may be null, not even beside a length of 0, and no two that are given to
  *    one call may overlap. Pointers to uint16_t are aligned as C has it. Give a buffer to
  *    one thread at a time.
- *  - A card, a program and a sheet may be any bytes at all: they are judged anew in each call, and
- *    what is not good is refused, a card with 1 to 9, a program with 19, a sheet with 20.
+ *  - A card, a program, its numbers and a sheet may be any bytes at all: they are judged anew in
+ *    each call, and what is not good is refused, a card with 1 to 9, a program or its numbers with
+ *    19, a sheet with 20.
  *
  * Memory to lend: the card (RIGTEMPLE_MOST_CARD_BYTES), a configuration (1,062 bytes), a list
  * of RIGTEMPLE_MOST_LIST_ENTRIES (1,536 bytes) and a place of RIGTEMPLE_MOST_PLACE_BYTES are
  * always enough: 27,794 bytes together. A program takes RIGTEMPLE_MOST_PROGRAM_BYTES at most, and
- * what remains of it RIGTEMPLE_MOST_REMAINING; to print takes RIGTEMPLE_MOST_PRINTED_BYTES; a sheet
- * has RIGTEMPLE_MOST_SHEET_BYTES at most; a text to be read has no limit.
+ * what remains of it RIGTEMPLE_MOST_REMAINING, to go on with it twice that; to print takes
+ * RIGTEMPLE_MOST_PRINTED_BYTES; a sheet has RIGTEMPLE_MOST_SHEET_BYTES at most; a text to be read
+ * has no limit.
  *
  * Bytes of stack, as tests/stack.sh measures them on x86-64: check 552, load 728, grade 1,784,
- * list 1,464, take 1,432, run 1,448, deliberate 1,992, save 696, restore 760, text 33,536 (24,976
- * where nothing nests, 128 more for the first bracket and 272 for each further one), print 1,896,
- * name 696. All but text run on a stack of 2,048. On 64-bit Arm text takes 34,064, and each other
- * call at most 192 more than on x86-64: all but text run on 2,304.
- *
- * Save before you show. The weaver acts on what the screen tells; a move that is shown and
- * not kept is lost when the view is torn down, and a band is woven twice. And where a place
- * was kept but is refused, say so, and keep nothing over it: to load the card instead begins
- * again from the top. The example turned_screen.c does so.
+ * list 1,464, next 1,432, take 1,432, run 1,464, deliberate 2,056, go_on 2,072, save 696,
+ * restore 760, text 33,536 (24,976 where nothing nests, 128 more for the first bracket and 272 for
+ * each further one), print 1,896, name 696. All but text run on a stack of 2,304. On 64-bit Arm
+ * text takes 34,064, and each other call at most 192 more than on x86-64: all but text run on
+ * 2,304.
  */
 #ifndef RIGTEMPLE_H
 #define RIGTEMPLE_H
@@ -55,9 +79,9 @@ extern "C" {
 
 /* The version of this header's interface. The first number rises with a change that an app has
  * to follow, and the second is then 0; the second rises with what is only added. */
-#define RIGTEMPLE_VERSION "3.2"
+#define RIGTEMPLE_VERSION "3.3"
 #define RIGTEMPLE_VERSION_FIRST 3
-#define RIGTEMPLE_VERSION_SECOND 2
+#define RIGTEMPLE_VERSION_SECOND 3
 
 /* Marks an answer that must not be ignored, for the compilers that know it. */
 #if defined(__cplusplus) && __cplusplus >= 201703L
@@ -153,7 +177,8 @@ static inline const char *rigtemple_answer_sentence(uint16_t answer)
         "brackets and ! nest more than 32 deep in a condition",
         "the program is not 1 to 128 entries of 4 bytes; or an entry has an unknown kind, a part "
         "that is not lower, an unknown rule or node, a condition of the wrong kind, or a byte that "
-        "should be zero",
+        "should be zero; or a number to go on from, plus how many stand behind it, is not below "
+        "the number of entries",
         "a sheet's count is not the card's number of actions, an offset is not the required one or "
         "falls, a name is not UTF-8, or a master name is empty; which of the two is told with it",
         "the card has no such action",
@@ -186,6 +211,11 @@ static inline const char *rigtemple_answer_sentence(uint16_t answer)
 #define RIGTEMPLE_ENDING_SPENT 0 /* as many moves were taken as the budget allows */
 #define RIGTEMPLE_ENDING_REST 1  /* no move is possible */
 #define RIGTEMPLE_ENDING_FULL 2  /* the next move would leave more than 1,024 actions: not taken */
+
+/* What comes next of the guide's own. */
+#define RIGTEMPLE_NEXT_MOVE 0 /* a move */
+#define RIGTEMPLE_NEXT_REST 1 /* no move is possible */
+#define RIGTEMPLE_NEXT_FULL 2 /* a move, but it would leave more than 1,024 actions */
 
 /* Entries of a program: 1 to 128 of 4 bytes each, a kind, a, b and 0; a byte that a kind does not
  * use is 0 too. They are numbered from 0, a part has a lower number than the entry that it is a
@@ -236,7 +266,7 @@ struct rigtemple_configuration {
     uint16_t finished;
 };
 
-/* ---- the functions of the library: the twelve calls over the parts of a configuration.
+/* ---- the functions of the library: the fourteen calls over the parts of a configuration.
  * `beliefs` and `goals` are 16 bytes each, `plan` is 1,024 bytes. `remaining` is 128 bytes. ---- */
 
 RIGTEMPLE_LOOK_AT_ANSWER
@@ -258,6 +288,12 @@ uint16_t rigtemple_list_parts(const uint8_t *card, size_t card_len, const uint8_
                               size_t room_in_entries, uint16_t *entries);
 
 RIGTEMPLE_LOOK_AT_ANSWER
+uint16_t rigtemple_next_parts(const uint8_t *card, size_t card_len, const uint8_t *beliefs,
+                              const uint8_t *goals, const uint8_t *plan, uint16_t length,
+                              uint8_t phase, uint16_t finished, uint8_t *coming,
+                              uint16_t *choice);
+
+RIGTEMPLE_LOOK_AT_ANSWER
 uint16_t rigtemple_take_parts(const uint8_t *card, size_t card_len, uint8_t *beliefs,
                               uint8_t *goals, uint8_t *plan, uint16_t *length, uint8_t *phase,
                               uint16_t *finished, uint16_t choice, uint16_t *node);
@@ -275,6 +311,14 @@ uint16_t rigtemple_deliberate_parts(const uint8_t *card, size_t card_len, const 
                                     uint16_t *finished, uint16_t budget, uint16_t *moves,
                                     uint8_t *ending, uint8_t *remaining,
                                     uint8_t *remaining_length);
+
+RIGTEMPLE_LOOK_AT_ANSWER
+uint16_t rigtemple_go_on_parts(const uint8_t *card, size_t card_len, const uint8_t *program,
+                               size_t program_len, const uint8_t *numbers, size_t numbers_len,
+                               uint8_t *beliefs, uint8_t *goals, uint8_t *plan, uint16_t *length,
+                               uint8_t *phase, uint16_t *finished, uint16_t budget,
+                               uint16_t *moves, uint8_t *ending, uint8_t *remaining,
+                               uint8_t *remaining_length);
 
 RIGTEMPLE_LOOK_AT_ANSWER
 uint16_t rigtemple_save_parts(const uint8_t *card, size_t card_len, const uint8_t *beliefs,
@@ -301,7 +345,7 @@ uint16_t rigtemple_name_parts(const uint8_t *card, size_t card_len, const uint8_
                               size_t shed_len, const uint8_t *master, size_t master_len,
                               uint16_t action, uint8_t *sheet, uint16_t *start, uint16_t *length);
 
-/* ---- the twelve calls ---- */
+/* ---- the fourteen calls ---- */
 
 /* Judges a card.
  * Answers 0 if it is good, and 1 to 9 if it is not. Nothing is written. */
@@ -353,6 +397,22 @@ static inline uint16_t rigtemple_list(const uint8_t *card, size_t card_len,
                                 c->phase, c->finished, list, room_in_entries, entries);
 }
 
+/* Tells which move comes next of the guide's own, and makes none: what a run of budget 1 would do.
+ * `coming` becomes RIGTEMPLE_NEXT_MOVE, and `choice` the move's code, which rigtemple_take then
+ * takes; or RIGTEMPLE_NEXT_FULL, and `choice` the code of the move that does not fit, which
+ * rigtemple_take refuses with 11; or RIGTEMPLE_NEXT_REST, and `choice` 0. It need not be the lowest
+ * of the list: the kinds are tried from the phase on.
+ * Answers 0 (with each of the three), or 1 to 9, or 13. Both are written in each case; a refusal
+ * says rest and 0: it never tells a move. */
+RIGTEMPLE_LOOK_AT_ANSWER
+static inline uint16_t rigtemple_next(const uint8_t *card, size_t card_len,
+                                      const struct rigtemple_configuration *c, uint8_t *coming,
+                                      uint16_t *choice)
+{
+    return rigtemple_next_parts(card, card_len, c->beliefs, c->goals, c->plan, c->length, c->phase,
+                                c->finished, coming, choice);
+}
+
 /* Takes the move that the weaver chose, and changes `c` to what it leaves; where that is an empty
  * plan, `finished` is one more. After an action the goals are those that are not believed then: a
  * goal falls when its fact is believed. No other move changes a goal.
@@ -377,9 +437,9 @@ static inline uint16_t rigtemple_take(const uint8_t *card, size_t card_len,
 /* Runs by itself, for `budget` moves at most, and changes `c` to the configuration reached;
  * `finished` is one more for each move that left the plan empty.
  * `moves` becomes the number of moves taken and `ending` why it stopped: spent, rest or full.
- * The budget is looked at first: a run of budget 0 is spent, at rest too. To know which move a
- * run of budget 1 made: its kind is the phase afterwards minus 1, modulo 3, and its number the
- * lowest of that kind in the list before it.
+ * The budget is looked at first: a run of budget 0 is spent, at rest too. Which move a run of
+ * budget 1 makes rigtemple_next tells before it; after it, its kind is the phase minus 1, modulo 3,
+ * and its number the lowest of that kind in the list before it.
  * Answers 0 (with each of the three endings), or 1 to 9, or 13. A refusal leaves `c` as it came
  * in, and writes 0 to `moves` and RIGTEMPLE_ENDING_SPENT to `ending`. */
 RIGTEMPLE_LOOK_AT_ANSWER
@@ -407,13 +467,10 @@ static inline uint16_t rigtemple_run(const uint8_t *card, size_t card_len,
  * `remaining_length`, for 0 is an entry's number too. At first the last entry's alone remains, and
  * a sequence is one number until a move is made in it. Stuck and full leave what could not be done.
  * To go on later keep the program and the remaining numbers beside the place, which does not hold
- * them. They are gone on with as a program of their own: the entries up to the greatest of the
- * numbers and, if there are several, entries behind them that join them: for x, y and z one
- * "y then z", and one "x then" that one. A program of at most 64 entries has room for that, and
- * for doing so again.
+ * them, and give them to rigtemple_go_on.
  * Answers 0 (with each of the four endings), or 1 to 9, 19, or 13. A refusal leaves `c` as it came
- * in, and writes 0 to `moves`, RIGTEMPLE_DELIBERATION_SPENT to `ending`, 128 zeros to `remaining`
- * and 0 to `remaining_length`. */
+ * in, writes nothing to `remaining`, and writes 0 to `moves`, RIGTEMPLE_DELIBERATION_SPENT to
+ * `ending` and 0 to `remaining_length`. */
 RIGTEMPLE_LOOK_AT_ANSWER
 static inline uint16_t rigtemple_deliberate(const uint8_t *card, size_t card_len,
                                             const uint8_t *program, size_t program_len,
@@ -424,6 +481,38 @@ static inline uint16_t rigtemple_deliberate(const uint8_t *card, size_t card_len
     return rigtemple_deliberate_parts(card, card_len, program, program_len, c->beliefs, c->goals,
                                       c->plan, &c->length, &c->phase, &c->finished, budget, moves,
                                       ending, remaining, remaining_length);
+}
+
+/* Goes on with a program, from the numbers that remain of it: rigtemple_deliberate is the case of
+ * the last entry's number alone, and what is not said here is as it is there. A deliberation that
+ * is cut by its budget, saved, restored and gone on with, as often as you like and with a budget of
+ * at least 1 each time, comes to the configuration, the ending and the remaining numbers of one
+ * that was never cut, and the counts of its moves add up.
+ * `numbers` are the entry numbers that remain, the next first, as rigtemple_deliberate or this call
+ * left them in `remaining`, and `numbers_len` is how many they are. They are only read, and
+ * `remaining` is another buffer: the two must not overlap. Any bytes may be given, and any number
+ * of them; accepted are those of which each, plus how many stand behind it, is below the number of
+ * entries. All that a done call leaves are accepted with its program. None at all are accepted too:
+ * that is finished, or with budget 0 spent.
+ * To know which move was made with budget 1: if `c` is as it was, an idle one (or a revision by
+ * which nothing changes); else its kind is the phase afterwards minus 1, modulo 3. An action was
+ * made by the lowest of that kind in the list before it, and a rule is one of that kind in that
+ * list of which rigtemple_take makes the same.
+ * Answers 0 (with each of the four endings), or 1 to 9, 19 for the program or the numbers, or 13. A
+ * refusal leaves `c` as it came in, writes nothing to `remaining`, and writes 0 to `moves`,
+ * RIGTEMPLE_DELIBERATION_SPENT to `ending` and 0 to `remaining_length`: keep the numbers that were
+ * given. */
+RIGTEMPLE_LOOK_AT_ANSWER
+static inline uint16_t rigtemple_go_on(const uint8_t *card, size_t card_len,
+                                       const uint8_t *program, size_t program_len,
+                                       const uint8_t *numbers, size_t numbers_len,
+                                       struct rigtemple_configuration *c, uint16_t budget,
+                                       uint16_t *moves, uint8_t *ending, uint8_t *remaining,
+                                       uint8_t *remaining_length)
+{
+    return rigtemple_go_on_parts(card, card_len, program, program_len, numbers, numbers_len,
+                                 c->beliefs, c->goals, c->plan, &c->length, &c->phase,
+                                 &c->finished, budget, moves, ending, remaining, remaining_length);
 }
 
 /* Saves a configuration as a place. `room_in_bytes` is how many bytes `place` has;

@@ -11,7 +11,9 @@ from random import Random
 from typing import NamedTuple
 
 import cards
+import cuts
 import damage
+import deliberation
 import drill
 import guide
 import prints
@@ -27,14 +29,15 @@ REQUEST_LIMIT = 50
 CARD_BYTES_LIMIT = 65535
 
 CALL_NAMES = ("check", "load", "grade", "list", "take", "run", "save", "restore")
-CALL_NAMES += ("text", "print", "deliberate", "name")
+CALL_NAMES += ("text", "print", "deliberate", "name", "go on", "next")
+CALL_KINDS = (*range(drill.CHECK, drill.NAME + 1), drill.GO_ON, drill.NEXT)
 ANSWER_NUMBERS = (*range(22), 25)
 CALLS_ON_CONFIGURATIONS = (drill.LIST, drill.TAKE, drill.RUN, drill.SAVE)
 
 
 class Case(NamedTuple):
     """A case: its name (which clause or shape), a card, and requests about it
-    (kinds 1 to 12 of the drill). A text is read whatever the card is."""
+    (kinds 1 to 12, 21 and 22 of the drill). A text is read whatever the card is."""
 
     name: str
     card: bytes
@@ -104,6 +107,32 @@ def read_deliberate(request):
     reader = drill.Reader(request[1:])
     program = reader.next_bytes(reader.number(drill.PROGRAM_LIMIT))
     return program, reader.image(), reader.number()
+
+
+def request_go_on(random, program, numbers, configuration, budget):
+    """21 go on: length n (2), n bytes of program, m (2), m numbers of one byte, image,
+    budget (2)."""
+    about = request_about(random, drill.GO_ON, configuration, budget)
+    held = drill.two(len(program)) + program + drill.two(len(numbers)) + bytes(numbers)
+    return about[:1] + held + about[1:]
+
+
+def read_go_on(request):
+    """The program, the numbers, the configuration and the budget of a request 21."""
+    reader = drill.Reader(request[1:])
+    program = reader.next_bytes(reader.number(drill.PROGRAM_LIMIT))
+    numbers = reader.next_bytes(reader.number(drill.NUMBERS_LIMIT))
+    return program, numbers, reader.image(), reader.number()
+
+
+def request_next(random, configuration):
+    """22 next: an image."""
+    return request_about(random, drill.NEXT, configuration, 0)[:-2]
+
+
+def read_next(request):
+    """The configuration of a request 22."""
+    return drill.Reader(request[1:]).image()
 
 
 def request_name(shed, master, action):
@@ -590,6 +619,164 @@ def generate_programs(seed, count, largest=24128):
         yield program_case(Random("%s program %d" % (seed, index)), items, largest)
 
 
+# --- cases of deliberations that are cut ------------------------------------
+
+# How many deliberations about one card are cut.
+CUTS_OF_A_CARD = 8
+
+
+def part_request(random, whole, numbers, held, budget):
+    """A part of a deliberation: the first, which has no numbers, or a later one."""
+    if numbers is None:
+        return request_deliberate(random, whole, held, budget)
+    return request_go_on(random, whole, numbers, held, budget)
+
+
+def cut_requests(random, card, whole, held, budgets):
+    """A deliberation in parts, each from what is left of the one before it; now and then
+    saved and restored between them; and beside them the same in one."""
+    made, turned = [], random.random() < 0.2
+    for budget, (numbers, here, _) in zip(budgets, cuts.in_parts(card, whole, held, budgets)):
+        if turned and numbers is not None:
+            place = guide.save(card, here, drill.SAVE_LIMIT)[1]
+            made.append(request_about(random, drill.SAVE, here, len(place)))
+            made.append(request_restore(place))
+        made.append(part_request(random, whole, numbers, here, budget))
+    return made + [request_deliberate(random, whole, held, sum(budgets))]
+
+
+def numbers_request(random, accepted, held):
+    """Any numbers gone on with, right ones and wrong ones; now and then with a program that
+    is broken or a configuration that is damaged."""
+    whole, found = cuts.some_deliberation(random, accepted, held)
+    if random.random() < 0.1:
+        whole = schemes.broken_program(random, accepted, found) or whole
+    if random.random() < 0.1:
+        one = random.choice(damage.CONFIGURATION_DAMAGES)
+        found = one.change(random, accepted, found) or found
+    entries = min(max(1, len(whole) // 4), deliberation.ENTRY_LIMIT)
+    numbers = cuts.some_numbers(random, entries)
+    budget = random.choice((0, 1, 1, 2, 5, 40, 300))
+    return request_go_on(random, whole, numbers, found, budget)
+
+
+def cuts_case(random, count, largest):
+    """So many deliberations about a good card that are cut, and after each of them any
+    numbers gone on with."""
+    card = cards.card(cards.good_card(random, largest))
+    _, accepted = guide.judge(card)
+    held, made = some_configurations(random, card, accepted), []
+    for _ in range(count):
+        cut = cuts.some_cut(random, card, accepted, random.choice(held))
+        made += cut_requests(random, card, *cut)
+        made.append(numbers_request(random, accepted, random.choice(held)))
+    return Case("deliberations that are cut", card, made)
+
+
+def refused_cuts_case(random, items, largest):
+    """Numbers gone on with about a damaged card, or about one just inside a range."""
+    card = next_damaged_case(random, items, largest).card
+    base = cards.card(cards.roomy_card(random, 700))
+    _, accepted = guide.judge(base)
+    held = random_configuration(random, accepted)
+    made = [numbers_request(random, accepted, held) for _ in range(3)]
+    return Case("numbers about another card", card, made)
+
+
+def generate_cuts(seed, count, largest=24128):
+    """Cases with so many deliberations that are cut, by seed, no card of more than
+    `largest` bytes; and cases of damaged cards among them."""
+    items = itertools.cycle(damage_order(seed))
+    for index, begin in enumerate(range(0, count, CUTS_OF_A_CARD)):
+        random = Random("%s cut %d" % (seed, index))
+        yield cuts_case(random, min(CUTS_OF_A_CARD, count - begin), largest)
+        if index % 5 == 4:
+            yield refused_cuts_case(random, items, largest)
+
+
+# --- cases of next moves ----------------------------------------------------
+
+
+def growing_card(random, largest):
+    """A good card with a revision that grows the plan."""
+    description = cards.roomy_card(random, largest)
+    cards.temper_growing(random, description)
+    return cards.card(description)
+
+
+def next_card(random, items, largest):
+    """A card whose next moves are asked for: mostly a good one, often one that grows plans,
+    and one in five a damaged one."""
+    style = random.random()
+    if style < 0.2:
+        return next_damaged_case(random, items, largest).card
+    if style < 0.45:
+        card = growing_card(random, min(largest, 700))
+        if len(card) <= largest:
+            return card
+    return cards.card(cards.good_card(random, largest))
+
+
+def next_configurations(random, card, accepted):
+    """Configurations that a card takes: loaded, walked to, at the guide's own rest, of any
+    kind, and with plans that are nearly full."""
+    held = some_configurations(random, card, accepted)
+    held.append(guide.run(card, random.choice(held), random.choice((3, 30)))[1])
+    held += [varied(random, random_configuration(random, accepted)) for _ in range(3)]
+    full = [cuts.nearly_full(random, accepted) for _ in range(3)]
+    return held + [one for one in full if one is not None]
+
+
+def some_next_configurations(random, card):
+    """The same, one in five in every phase and one in eight damaged; of a refused card those
+    of any other."""
+    _, accepted = guide.judge(card)
+    if accepted is None:
+        base = cards.card(cards.roomy_card(random, 700))
+        _, accepted = guide.judge(base)
+        return [random_configuration(random, accepted) for _ in range(3)] + [guide.EMPTY]
+    made = []
+    for one in next_configurations(random, card, accepted):
+        if random.random() < 0.125:
+            broken = random.choice(damage.CONFIGURATION_DAMAGES).change(random, accepted, one)
+            one = broken or one
+        every = guide.KINDS if random.random() < 0.2 else (one.phase,)
+        made += [one._replace(phase=phase) for phase in every]
+    return made
+
+
+def run_of_next(card, held):
+    """What a run with budget 1 answers by what the next move is: it takes that move, or
+    ends as it is told."""
+    number, ending, code = guide.next_move(card, held)
+    if number != guide.DONE or ending != guide.MOVE:
+        return number, held, 0, ending
+    number, _, moved = guide.take(card, held, code)
+    return number, moved, 1, guide.SPENT
+
+
+def next_requests(random, card, held):
+    """The next move, and beside it a run with budget 1."""
+    if guide.run(card, held, 1) != run_of_next(card, held):
+        raise ValueError("next is %s, and a run is otherwise" % (guide.next_move(card, held),))
+    return [request_next(random, held), request_about(random, drill.RUN, held, 1)]
+
+
+def generate_next(seed, count, largest=24128):
+    """Cases with so many next moves asked for, by seed, each with a run with budget 1 beside
+    it: no card of more than `largest` bytes."""
+    items, made = itertools.cycle(damage_order(seed)), 0
+    for index in itertools.count():
+        if made == count:
+            return
+        random = Random("%s next %d" % (seed, index))
+        card = next_card(random, items, largest)
+        held = some_next_configurations(random, card)[:count - made]
+        made += len(held)
+        asked = [request for one in held for request in next_requests(random, card, one)]
+        yield Case("next moves", card, asked)
+
+
 # --- cases of names ---------------------------------------------------------
 
 # How many actions the cards of these cases have.
@@ -657,6 +844,11 @@ def generate_names(seed, count, largest=24128):
 COLUMN = 11
 
 
+def column(request):
+    """The column of the table that a request is counted in."""
+    return CALL_KINDS.index(request[0])
+
+
 def count_answers(cases, requests, answers):
     """Writes requests and answers; how often each number was met for each call,
     and how many requests there were."""
@@ -667,7 +859,7 @@ def count_answers(cases, requests, answers):
             answer = drill.answer(case.card, request)
             requests.write(request)
             answers.write(answer)
-            met[request[0] - 1][guide.number(answer, 0)] += 1
+            met[column(request)][guide.number(answer, 0)] += 1
     return met
 
 
@@ -693,6 +885,8 @@ def main():
     parser.add_argument("--texts", type=int, default=0)
     parser.add_argument("--programs", type=int, default=0)
     parser.add_argument("--names", type=int, default=0)
+    parser.add_argument("--cuts", type=int, default=0)
+    parser.add_argument("--next", type=int, default=0)
     parser.add_argument("--largest", type=int, default=24128)
     parser.add_argument("--requests", required=True)
     parser.add_argument("--answers", required=True)
@@ -703,6 +897,8 @@ def main():
         generate_texts(asked.seed, asked.texts, asked.largest),
         generate_programs(asked.seed, asked.programs, largest),
         generate_names(asked.seed, asked.names, largest),
+        generate_cuts(asked.seed, asked.cuts, largest),
+        generate_next(asked.seed, asked.next, largest),
     )
     with open(asked.requests, "wb") as requests, open(asked.answers, "wb") as answers:
         met = count_answers(cases, requests, answers)

@@ -1,4 +1,5 @@
-"""Request 6 of document 02, "our own deliberation": the call that moves by a program.
+"""Request 6 of document 02, "our own deliberation": the call that moves by a program, and
+the one that goes on with what remains of a program.
 
 "Take the meta-programs of source document 000, Definition 6: execute, apply a named
 revision rule, while, sequence, choice; add select for a named selection rule." The
@@ -75,6 +76,13 @@ def entry_is_wrong(entry, own, card, conditions):
     return True
 
 
+def numbers_are_wrong(numbers, entries):
+    """19 of numbers to go on with, "the next first": each, plus how many stand behind it,
+    is below the number of the program's entries. None at all are right."""
+    last = len(numbers) - 1
+    return any(number + last - at >= entries for at, number in enumerate(numbers))
+
+
 # --- first moves ------------------------------------------------------------
 
 
@@ -149,27 +157,46 @@ def put_back(remaining, left):
         remaining.append(last)
 
 
-def judge(card, program, configuration):
-    """The number of a card, a program and a configuration: 19 is "after 9 and before
-    13"; and the card read."""
+def judge(card, program, configuration, numbers=()):
+    """The number of a card, a program, the numbers to go on with and a configuration: 19
+    is "after 9 and before 13"; and the card read."""
     refusal, accepted = guide.judge(card)
-    if refusal == guide.DONE and program_is_wrong(program, accepted):
-        refusal = PROGRAM
-    elif refusal == guide.DONE and guide.configuration_is_wrong(configuration, accepted):
-        refusal = guide.CONFIGURATION
-    return refusal, accepted
+    if refusal != guide.DONE:
+        return refusal, accepted
+    if program_is_wrong(program, accepted):
+        return PROGRAM, accepted
+    if numbers_are_wrong(numbers, len(program) // ENTRY_BYTES):
+        return PROGRAM, accepted
+    if guide.configuration_is_wrong(configuration, accepted):
+        return guide.CONFIGURATION, accepted
+    return guide.DONE, accepted
 
 
 def deliberate(card, program, configuration, budget):
-    """Move by a program. "The budget counts idle moves, which leave the whole
-    configuration as it is"; endings "in this order: spent, finished, stuck, full". The
-    answer: number, configuration, count, ending and "the remaining program as entry
-    numbers, the next first, none when refused"."""
+    """Move by a program. The answer: number, configuration, count, ending and "the
+    remaining program as entry numbers, the next first, none when refused". "The last one
+    the whole": at first its number alone remains."""
     refusal, accepted = judge(card, program, configuration)
     if refusal != guide.DONE:
         return refusal, configuration, 0, 0, []
     entries = entries_of(program)
-    remaining, moves, count, ending = [len(entries) - 1], None, 0, SPENT
+    return follow(accepted, entries, [len(entries) - 1], configuration, budget)
+
+
+def go_on(card, program, numbers, configuration, budget):
+    """Move by the "numbers of one byte that remain, the next first", of a program. The
+    answer is as that of `deliberate`; "with a refusal m is 0"."""
+    refusal, accepted = judge(card, program, configuration, numbers)
+    if refusal != guide.DONE:
+        return refusal, configuration, 0, 0, []
+    return follow(accepted, entries_of(program), list(numbers), configuration, budget)
+
+
+def follow(accepted, entries, numbers, configuration, budget):
+    """The moves from the numbers that remain. "The budget counts idle moves, which leave
+    the whole configuration as it is"; endings "in this order: spent, finished, stuck,
+    full"."""
+    remaining, moves, count, ending = numbers[::-1], None, 0, SPENT
     while count != budget:
         if not remaining:
             ending = FINISHED

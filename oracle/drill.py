@@ -1,7 +1,8 @@
 """The drill: requests on standard input, an answer for each on standard output.
 
 The requests and answers are those of drill.md, with what the requests 1, 2, 4, 6 and 8 of
-document 02 add to them; numbers of two or four bytes are low byte first.
+document 02 add to them, and with 21 "go on" and 22 "next"; numbers of two or four bytes are
+low byte first.
 """
 
 import struct
@@ -14,6 +15,7 @@ import text
 
 CARD, CHECK, LOAD, GRADE, LIST, TAKE, RUN, SAVE, RESTORE, TEXT, PRINT = range(11)
 DELIBERATE, NAME = 11, 12
+GO_ON, NEXT = 21, 22
 
 IMAGE_LIMIT = 1024
 LIST_LIMIT = 1024
@@ -23,6 +25,7 @@ TEXT_LIMIT = 65536
 CARD_ROOM_LIMIT = 24200
 PRINT_ROOM_LIMIT = 2048
 PROGRAM_LIMIT = 1024
+NUMBERS_LIMIT = 512
 
 # "It is lent filled with EEEE hex", "lent filled with EE hex".
 LENT = 0xEE
@@ -166,8 +169,11 @@ def answer_deliberate(card, reader):
     program: m numbers of one byte"."""
     program = reader.next_bytes(reader.number(PROGRAM_LIMIT))
     configuration, budget = reader.image(), reader.number()
-    found = deliberation.deliberate(card, program, configuration, budget)
-    number, configuration, count, ending, remaining = found
+    return deliberated(*deliberation.deliberate(card, program, configuration, budget))
+
+
+def deliberated(number, configuration, count, ending, remaining):
+    """What 11 and 21 answer."""
     moved = two(number) + image(configuration) + two(count) + bytes([ending])
     return moved + two(len(remaining)) + bytes(remaining)
 
@@ -177,6 +183,20 @@ def answer_name(card, reader):
     shed, master = reader.next_bytes(reader.number()), reader.next_bytes(reader.number())
     number, sheet, start, length = names.name(card, shed, master, reader.number())
     return two(number) + bytes([sheet]) + two(start) + two(length)
+
+
+def answer_go_on(card, reader):
+    """21 go on: "as 11; with a refusal m is 0"."""
+    program = reader.next_bytes(reader.number(PROGRAM_LIMIT))
+    numbers = reader.next_bytes(reader.number(NUMBERS_LIMIT))
+    configuration, budget = reader.image(), reader.number()
+    return deliberated(*deliberation.go_on(card, program, numbers, configuration, budget))
+
+
+def answer_next(card, reader):
+    """22 next: number (2), ending (1), "the code of the guide's own next choice" (2)."""
+    number, ending, code = guide.next_move(card, reader.image())
+    return two(number) + bytes([ending]) + two(code)
 
 
 def lent(written, size):
@@ -197,10 +217,12 @@ ANSWERS = {
     PRINT: answer_print,
     DELIBERATE: answer_deliberate,
     NAME: answer_name,
+    GO_ON: answer_go_on,
+    NEXT: answer_next,
 }
 
 
-def answer_next(card, reader):
+def answer_request(card, reader):
     """Reads one request; the card of the requests that follow, and the answer."""
     kind = reader.byte()
     if kind == CARD:
@@ -216,7 +238,7 @@ def each_answer(requests):
     card, reader = b"", Reader(requests)
     while not reader.at_end():
         try:
-            card, found = answer_next(card, reader)
+            card, found = answer_request(card, reader)
         except BrokenRequest:
             return
         yield found
@@ -230,7 +252,7 @@ def answers(requests):
 def answer(card, request):
     """The answer to one request about a card."""
     reader = Reader(request)
-    _, found = answer_next(card, reader)
+    _, found = answer_request(card, reader)
     if not reader.at_end():
         raise BrokenRequest("bytes after the request")
     return found

@@ -1,6 +1,6 @@
 """The eight calls of document 01 over plain values, with the requests 1 ("say why a
 move is closed"), 4 ("count the picks") and 5 ("a goal falls when its fact is believed")
-of document 02.
+of document 02; and the call that tells the guide's own next move.
 
 Written from the two documents alone. Every function says which sentence of them
 it stands for.
@@ -35,8 +35,10 @@ CONDITION = 16
 SELECTION, ACTION, REVISION = 0, 1, 2
 KINDS = (SELECTION, ACTION, REVISION)
 
-# The endings of a run, the verdicts and the offenders, by the drill's codes.
+# The endings of a run and of the next move ("0 a move, 1 rest, 2 full"), the verdicts and
+# the offenders, by the drill's codes.
 SPENT, REST, FULL = 0, 1, 2
+MOVE = 0
 BOUNDED, OPEN = 0, 1
 NO_OFFENDER, INITIAL_PLAN, SELECTION_RULE, REVISION_RULE = 0, 1, 2, 3
 
@@ -761,7 +763,7 @@ def first_offender(card):
     return NO_OFFENDER, 0
 
 
-# --- the eight calls --------------------------------------------------------
+# --- the calls --------------------------------------------------------------
 
 
 def check(card):
@@ -841,6 +843,21 @@ def run(card, configuration, budget):
         configuration = moved
         count += 1
     return DONE, configuration, count, SPENT
+
+
+def next_move(card, configuration):
+    """The guide's own next move, which is not made. Answers number, "ending (0 a move, 1
+    rest, 2 full)" and "the code of the guide's own next choice", of "full" too: "the one
+    that does not fit"; "0 at rest and with a refusal: 1 to 9, 13"."""
+    refusal, accepted = judge_both(card, configuration)
+    if refusal != DONE:
+        return refusal, 0, 0
+    choice = guides_choice(accepted, configuration)
+    if choice is None:
+        return DONE, REST, 0
+    kind, n = choice
+    ending = FULL if after(accepted, configuration, kind, n) is None else MOVE
+    return DONE, ending, 256 * kind + n
 
 
 def save(card, configuration, room):

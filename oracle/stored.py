@@ -8,7 +8,7 @@ writes against the second.
 Both files follow from a fixed seed and hold every clause of document 01's refusal
 table and of those of the requests 1, 2, 6 and 8, every range just inside, the edges of
 plans, rooms and budgets, the finished count of request 4, the goals struck by request 5,
-programs of request 6 and names of request 8.
+programs of request 6, deliberations that are gone on with, next moves and names of request 8.
 """
 
 import argparse
@@ -22,10 +22,13 @@ import broken
 import cards
 import cases
 import closed
+import cuts
 import damage
 import drill
 import finished
+import gone_on
 import guide
+import next_moves
 import prints
 import programs
 import schemes
@@ -705,7 +708,7 @@ def program_configurations():
 
 def program_cards():
     """A good program, and a broken one with a broken configuration, about cards of each
-    refusal."""
+    refusal; gone on with too, and the next move."""
     for number in range(1, 10):
         one = damage.damages_of(number)[0]
         name = "program and " + one.name
@@ -717,17 +720,37 @@ def program_cards():
                 (b"", GOOD_HELD._replace(phase=3)),
             )
         ]
+        made += [
+            cases.request_go_on(random, programs.program(GOOD_ENTRIES), (2, 3), GOOD_HELD, 3),
+            cases.request_go_on(random, b"", (4,), GOOD_HELD._replace(phase=3), 3),
+            cases.request_next(random, GOOD_HELD._replace(phase=3)),
+        ]
         yield Case(name, damaged_case(one.name, (one,)).card, made)
 
 
+def seeded_cuts(random, card, held):
+    """A deliberation that is cut, if it is a short one, and the next move of a
+    configuration in each phase."""
+    _, accepted = guide.judge(card)
+    made = cases.cut_requests(random, card, *cuts.some_cut(random, card, accepted, held))
+    if max(map(len, made)) > SHORT_REQUEST:
+        made = []
+    phases = [held._replace(phase=phase) for phase in guide.KINDS]
+    made += [cases.request_next(random, one) for one in phases]
+    return [narrowed(request) for request in made]
+
+
 def seeded_programs():
-    """Programs by seed, the shorter ones; and a few of the longer ones."""
+    """Programs by seed, the shorter ones, of every sixth card with deliberations that are
+    cut; and a few of the longer ones."""
     for index in range(60):
         random = random_of("programs", index)
         card = cards.card(cards.good_card(random, SIZES[1]))
         made = cases.program_requests(random, card, guide.judge(card)[1], 12)
-        short = [request for request in made if len(request) <= LONG_PROGRAM]
-        yield Case("programs %d" % index, card, short[:8])
+        short = [request for request in made if len(request) <= LONG_PROGRAM][:8]
+        if index % 6 == 0:
+            short += seeded_cuts(random, card, guide.load(card)[1])
+        yield Case("programs %d" % index, card, short)
     for index in range(6):
         random = random_of("long programs", index)
         card, accepted = small_card(random)
@@ -746,6 +769,87 @@ def program_cases():
     yield program_configurations()
     yield from program_cards()
     yield from seeded_programs()
+
+
+# --- going on ---------------------------------------------------------------
+
+# Of the numbers by hand, longer requests are left out but for these.
+LONG_GONE_ON = 300
+MOST_NUMBERS = (
+    "gone on: 65 whiles, budget 99",
+    "gone on: full, budget 9",
+    "gone on: 128 whiles, budget 1",
+    "gone on, refused: 129 of 128 entries",
+)
+
+
+def gone_on_request(random, one):
+    """A program gone on with, by hand."""
+    return cases.request_go_on(random, one.program, one.numbers, one.held, one.budget)
+
+
+def gone_on_by_hand():
+    """The numbers by hand, right ones and wrong ones, most of them short; and every
+    second trace with plans of a few actions, cut at some place and gone on with to its
+    end."""
+    random, made = random_of("gone on by hand"), []
+    for one in gone_on.BY_HAND:
+        request = narrowed(gone_on_request(random, one))
+        if len(request) <= LONG_GONE_ON or one.name in MOST_NUMBERS:
+            made.append(request)
+    yield Case("gone on by hand", programs.SHED, made)
+    random, made = random_of("gone on in traces"), []
+    for trace in programs.TRACES[::2]:
+        ends = [one for one in gone_on.each_cut(trace) if one.ending != gone_on.SPENT]
+        if ends and ends[0].held.length < 9:
+            made.append(gone_on_request(random, random.choice(ends)))
+    yield Case("gone on in traces", programs.SHED, made)
+
+
+def numbers_of_clauses():
+    """Each way to break the bound of numbers and to keep it just so, with a program of four
+    entries; the wrong ones with a wrong configuration in turn."""
+    random, made = random_of("numbers"), []
+    wrong = GOOD_HELD._replace(phase=3)
+    for turn, one in enumerate(cuts.NUMBER_DAMAGES + cuts.NUMBER_RANGES):
+        numbers = one.change(random, len(GOOD_ENTRIES))
+        held = wrong if one.number and turn % 2 else GOOD_HELD
+        asked = programs.program(GOOD_ENTRIES), numbers, held, turn % 3
+        made.append(cases.request_go_on(random, *asked))
+    return Case("numbers: clauses", programs.SHED, made)
+
+
+# --- next moves -------------------------------------------------------------
+
+
+def next_by_hand():
+    """The next moves by hand, but for some of the long plans, in which only the phase is
+    another."""
+    for card, some in itertools.groupby(next_moves.BY_HAND, key=lambda one: one.card):
+        random, made = random_of("next by hand", card), []
+        for one in some:
+            if len(drill.image(one.held)) <= SHORT_REQUEST or one.held.phase == 2:
+                made.append(narrowed(cases.request_next(random, one.held)))
+        yield Case("next by hand", card, made)
+
+
+def next_configurations():
+    """Each clause of 13 and each range just inside, of short plans."""
+    random, made = random_of("next configurations"), []
+    _, accepted = guide.judge(programs.SHED)
+    for one in damage.CONFIGURATION_DAMAGES + damage.CONFIGURATION_RANGES:
+        held = one.change(random, accepted, GOOD_HELD)
+        if held is not None and len(drill.image(held)) <= SHORT_REQUEST:
+            made.append(cases.request_next(random, held))
+    return Case("next configurations", programs.SHED, made)
+
+
+def going_on_cases():
+    """Numbers gone on with and next moves, by hand and each clause of their refusals."""
+    yield from gone_on_by_hand()
+    yield numbers_of_clauses()
+    yield from next_by_hand()
+    yield next_configurations()
 
 
 # --- names ------------------------------------------------------------------
@@ -899,6 +1003,13 @@ def narrowed(request):
         program, held, budget = cases.read_deliberate(request)
         first = request[:1] + drill.two(len(program)) + program
         return first + drill.image(held) + drill.two(budget)
+    if request[0] == drill.GO_ON:
+        program, numbers, held, budget = cases.read_go_on(request)
+        first = request[:1] + drill.two(len(program)) + program
+        first += drill.two(len(numbers)) + numbers
+        return first + drill.image(held) + drill.two(budget)
+    if request[0] == drill.NEXT:
+        return request[:1] + drill.image(cases.read_next(request))
     if request[0] not in cases.CALLS_ON_CONFIGURATIONS:
         return request
     kind, held, value = cases.read_about(request)
@@ -929,6 +1040,7 @@ def all_cases():
         print_cases(),
         program_cases(),
         name_cases(),
+        going_on_cases(),
     )
 
 

@@ -246,11 +246,24 @@ def numbers(program):
     return numbers(program.first) + numbers(program.second)
 
 
-def run(card, program, configuration, budget):
-    """The states met along the program's moves, the first one among them, with the
-    ending and the term that remains. "Endings, in this order: spent, finished, stuck,
-    full." """
-    left, met = term(program, len(program) // 4 - 1), [state_of(configuration)]
+def whole(program):
+    """The term of a program: "the last one the whole"."""
+    return term(program, len(program) // 4 - 1)
+
+
+def of_numbers(program, own):
+    """The term that entry numbers stand for, the next first: a sequence of their terms."""
+    left = EMPTY
+    for number in reversed(own):
+        part = term(program, number)
+        left = part if left is EMPTY else Then(part, left, None)
+    return left
+
+
+def run(card, left, configuration, budget):
+    """The states met along a term's moves, the first one among them, with the ending and
+    the term that remains. "Endings, in this order: spent, finished, stuck, full." """
+    met = [state_of(configuration)]
     while len(met) <= budget:
         if left is EMPTY:
             return met, 1, left

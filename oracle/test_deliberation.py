@@ -46,7 +46,7 @@ class ByHand(unittest.TestCase):
         self.assertGreater(len(small), 200)
         for one in small:
             _, accepted = guide.judge(one.card)
-            met, ending, left = terms.run(accepted, one.program, one.held, min(one.budget, 500))
+            met, ending, left = terms.run(accepted, terms.whole(one.program), one.held, min(one.budget, 500))
             if one.budget < 500 or ending != SPENT:
                 found = len(met) - 1, ending, terms.numbers(left)
                 self.assertEqual(found, (one.count, one.ending, list(one.remaining)), one.name)
@@ -171,7 +171,7 @@ class TwoWays(unittest.TestCase):
                 continue
             budget = min(budget, 70)
             _, reached, count, ending, remaining = deliberate(card, whole, held, budget)
-            met, expected, left = terms.run(accepted, whole, held, budget)
+            met, expected, left = terms.run(accepted, terms.whole(whole), held, budget)
             self.assertEqual((count, ending), (len(met) - 1, expected))
             self.assertEqual(terms.state_of(reached), met[-1])
             self.assertEqual(remaining, terms.numbers(left))

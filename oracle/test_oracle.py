@@ -2,7 +2,8 @@
 damages' numbers, the closed moves of request 1, the finished count of request 4, the
 struck goals of request 5, the drill's bytes, that a seed gives the same bytes, and what
 the stored requests hold. Those of request 2 are in `test_text.py`, those of request 6 in
-`test_deliberation.py`, those of request 8 in `test_names.py`; they run with these."""
+`test_deliberation.py`, those of going on in `test_going_on.py`, those of the next move in
+`test_next.py`, those of request 8 in `test_names.py`; they run with these."""
 
 import time
 from collections import Counter
@@ -13,10 +14,13 @@ import broken
 import cards
 import cases
 import closed
+import cuts
 import damage
 import drill
 import finished
+import gone_on
 import guide
+import next_moves
 import program
 import programs
 import sheets
@@ -24,7 +28,9 @@ import slips
 import stored
 import struck
 import test_deliberation
+import test_going_on
 import test_names
+import test_next
 import test_text
 import text
 import texts
@@ -607,7 +613,7 @@ def how_risen(before, after):
 def sorts_of_count(card, request, answer):
     """The sorts of finished count that a request with its answer is. The plan's length
     is at 32 of an image, and the finished count at 35."""
-    call, number = cases.CALL_NAMES[request[0] - 1], guide.number(answer, 0)
+    call, number = cases.CALL_NAMES[cases.column(request)], guide.number(answer, 0)
     if call == "restore" and number == 0:
         return [(call, request[13] != 0, request[14] != 0)]
     if call not in ("take", "run", "save"):
@@ -671,7 +677,7 @@ def sorts_of_take(card, held, choice, number):
 
 def sorts_of_goals(card, request, answer):
     """The sorts of request about goals that a request with its answer is."""
-    call, number = cases.CALL_NAMES[request[0] - 1], guide.number(answer, 0)
+    call, number = cases.CALL_NAMES[cases.column(request)], guide.number(answer, 0)
     if call == "load" and number == 0:
         return [("load", answer[18:34] != card[48:64])]
     if call == "restore" and number == 0:
@@ -755,6 +761,8 @@ class Stored(unittest.TestCase):
         "print": set(range(10)) | {12, 18, 25},
         "deliberate": set(range(10)) | {13, 19},
         "name": set(range(10)) | {20, 21},
+        "go on": set(range(10)) | {13, 19},
+        "next": set(range(10)) | {13},
     }
 
     @classmethod
@@ -1059,7 +1067,9 @@ class Stored(unittest.TestCase):
             self.assertEqual(self.numbers(self.named[name]), expected, name)
         for number in range(1, 10):
             name = "program and " + damage.damages_of(number)[0].name
-            self.assertEqual(self.numbers(self.named[name]), [number] * 2)
+            self.assertEqual(self.numbers(self.named[name]), [number] * 5)
+            kinds = [request[0] for request in self.named[name].requests]
+            self.assertEqual(kinds, [drill.DELIBERATE] * 2 + [drill.GO_ON] * 2 + [drill.NEXT])
 
     def test_edges_of_programs(self):
         """Each ending with the budgets 2 and 65,535, programs of 1 and of 128 entries,
@@ -1083,6 +1093,64 @@ class Stored(unittest.TestCase):
         self.assertLessEqual({0, 1, 2, 3, 126, 127, 128}, left)
         self.assertLessEqual({0, 1, 2, 32768, 65535}, counts)
 
+    def test_gone_on_by_hand(self):
+        """Of the numbers by hand most are asked for, all that are refused among them, and
+        each is answered as is written beside it."""
+        case, by_hand = self.named["gone on by hand"], {}
+        for one in gone_on.BY_HAND:
+            by_hand[one.program, bytes(one.numbers), one.held, one.budget] = one
+        met = [by_hand[cases.read_go_on(request)] for request in case.requests]
+        self.assertGreater(len(met), 30)
+        self.assertGreater(sum(one.number == 19 for one in met), 15)
+        self.assertLessEqual(set(stored.MOST_NUMBERS), {one.name for one in met})
+        for request, one in zip(case.requests, met):
+            last = drill.two(one.count) + bytes([one.ending])
+            last += drill.two(len(one.remaining)) + bytes(one.remaining)
+            expected = drill.two(one.number) + drill.image(one.after) + last
+            self.assertEqual(drill.answer(case.card, request), expected, one.name)
+
+    def test_clauses_of_numbers(self):
+        """Each way to break the bound of numbers, and to keep it just so."""
+        expected = [19] * len(cuts.NUMBER_DAMAGES) + [0] * len(cuts.NUMBER_RANGES)
+        self.assertEqual(self.numbers(self.named["numbers: clauses"]), expected)
+
+    def test_edges_of_going_on(self):
+        """Each ending, no, one, 128 and 512 numbers, budget 0 with and without numbers, and
+        13 behind good numbers."""
+        endings, given = set(), set()
+        for _, asked, answer in self.each(drill.GO_ON):
+            _, numbers, _, budget = cases.read_go_on(asked)
+            reader = drill.Reader(answer)
+            given.add((reader.number(), len(numbers)))
+            reader.image()
+            reader.number()
+            endings.add((budget == 0, numbers == b"", reader.byte()))
+        some = {(False, False, ending) for ending in range(4)}
+        none = {(True, False, 0), (True, True, 0), (False, True, 1)}
+        self.assertLessEqual(some | none, endings)
+        self.assertLessEqual({(0, 0), (0, 1), (0, 66), (0, 128), (13, 0), (13, 2)}, given)
+        self.assertLessEqual({(19, 1), (19, 2), (19, 129), (19, 256), (19, 512)}, given)
+
+    def test_next_by_hand(self):
+        """The next moves by hand, each answered as is written beside it: every ending in
+        phase 2, and a full one though an action would fit."""
+        by_hand = {(one.card, one.held): one for one in next_moves.BY_HAND}
+        met = []
+        for case in self.cases:
+            if case.name == "next by hand":
+                for request in case.requests:
+                    one = by_hand[case.card, cases.read_next(request)]
+                    expected = drill.two(one.number) + bytes([one.ending]) + drill.two(one.code)
+                    self.assertEqual(drill.answer(case.card, request), expected, one.name)
+                    met.append(one)
+        self.assertGreater(len(met), 28)
+        self.assertLessEqual({(0, 2, 514), (0, 2, 512), (0, 1, 0), (13, 0, 0)}, {one[3:] for one in met})
+
+    def test_next_configurations(self):
+        """Each clause of 13 that a short plan can have, and each range just inside."""
+        numbers = Counter(self.numbers(self.named["next configurations"]))
+        self.assertEqual(set(numbers), {0, 13})
+        self.assertGreater(numbers[13], 12)
 
     def named_answers(self, name):
         """The number and the sheet of each answer of a case of names."""
@@ -1216,6 +1284,36 @@ class DrillBytes(unittest.TestCase):
         refused = self.answers(b"\x0b\0\0" + self.LOADED + b"\x02\0")
         self.assertEqual(refused, b"\x13\0" + self.LOADED + bytes(5))
 
+    def test_go_on(self):
+        """The same program: of its second part alone, in a budget of 1, the card being
+        where the first has left it, it is stuck; of nothing it is spent and finished; of
+        the whole it is as `deliberate`; of an entry that is none, or one too high before
+        another, it is 19."""
+        asked = b"\x15\x0c\0" + bytes([2, 0, 0, 0, 0, 0, 0, 0, 5, 0, 1, 0])
+        after = self.LOADED[:32] + bytes([1, 0, 1, 0, 0, 1, 0, 4])
+        found = self.answers(asked + b"\x01\0\x01" + after + b"\x01\0")
+        self.assertEqual(found, b"\0\0" + after + b"\0\0" + b"\x02" + b"\x01\0\x01")
+        none = asked + b"\0\0" + self.LOADED
+        found = self.answers(none + b"\0\0", none + b"\x01\0")
+        spent, finished = bytes(5), bytes([0, 0, 1, 0, 0])
+        self.assertEqual(found, b"\0\0" + self.LOADED + spent + b"\0\0" + self.LOADED + finished)
+        found = self.answers(asked + b"\x01\0\x02" + self.LOADED + b"\x01\0")
+        self.assertEqual(found, b"\0\0" + after + b"\x01\0\0" + b"\x01\0\x01")
+        found = self.answers(asked + b"\x02\0\x01\x02" + self.LOADED + b"\x00\0")
+        self.assertEqual(found, b"\0\0" + self.LOADED + bytes(3) + b"\x02\0\x01\x02")
+        for numbers in (b"\x01\0\x03", b"\x02\0\x02\x02"):
+            found = self.answers(asked + numbers + self.LOADED + b"\x01\0")
+            self.assertEqual(found, b"\x13\0" + self.LOADED + bytes(5))
+
+    def test_next(self):
+        """The stripe card's first move, selection 0; its second, revision 0; at rest; and
+        with a phase of 3."""
+        second = self.LOADED[:32] + bytes([1, 0, 1, 0, 0, 1, 0, 4])
+        rest = b"\x05" + bytes(31) + bytes([0, 0, 2, 1, 0, 0, 0])
+        wrong = self.LOADED[:34] + b"\x03" + self.LOADED[35:]
+        found = self.answers(*(b"\x16" + held for held in (self.LOADED, second, rest, wrong)))
+        self.assertEqual(found, bytes.fromhex("0000 00 0000 0000 00 0002 0000 01 0000 0D00 00 0000"))
+
     def test_name(self):
         """The stripe card's third move in two languages, of which the shed's has none;
         its second, which it has; an unknown one; and a shed's sheet of one byte."""
@@ -1239,6 +1337,12 @@ class DrillBytes(unittest.TestCase):
             b"\x08\x01\x10" + bytes(4097),
             b"\x05" + image[:-2] + b"\x01\x04" + bytes(1025) + b"\0\0",
             b"\x0b\x01\x04" + bytes(1025) + image + b"\0\0",
+            b"\x15\x01\x04" + bytes(1025) + b"\0\0" + image + b"\0\0",
+            b"\x15\0\0\x01\x02" + bytes(513) + image + b"\0\0",
+            b"\x16" + image[:-2] + b"\x01\x04" + bytes(1025),
+            b"\x0d" + image + b"\0\0",
+            b"\x14" + image,
+            b"\x17\0\0",
         ]
         for request in broken:
             self.assertEqual(self.answers(b"\x01", request, b"\x01"), b"\0\0")
@@ -1252,8 +1356,9 @@ class DrillBytes(unittest.TestCase):
 
 
 def load_tests(loader, tests, pattern):
-    """The tests of this file, and those of the requests 2, 6 and 8."""
-    for module in (test_text, test_deliberation, test_names):
+    """The tests of this file, and those of the requests 2, 6 and 8, of going on and of the
+    next move."""
+    for module in (test_text, test_deliberation, test_going_on, test_next, test_names):
         tests.addTests(loader.loadTestsFromModule(module))
     return tests
 

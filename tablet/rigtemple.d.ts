@@ -14,6 +14,7 @@ export declare const NO_CHOICE: 65535;
 
 export type Kind = "selection" | "action" | "revision";
 export type Ending = "spent" | "rest" | "full";
+export type Coming = "move" | "rest" | "full";
 export type DeliberationEnding = "spent" | "finished" | "stuck" | "full";
 export type Verdict = "bounded" | "open";
 export type Offender = "none" | "initial plan" | "selection" | "revision";
@@ -21,6 +22,7 @@ export type Sheet = "master" | "shed";
 
 export declare const KINDS: readonly Kind[];
 export declare const ENDINGS: readonly Ending[];
+export declare const COMINGS: readonly Coming[];
 export declare const DELIBERATION_ENDINGS: readonly DeliberationEnding[];
 export declare const VERDICTS: readonly Verdict[];
 export declare const OFFENDERS: readonly Offender[];
@@ -72,6 +74,12 @@ export interface Listed extends Answer {
   /** The codes of the enabled choices, rising. */
   choices: number[];
 }
+export interface Next extends Answer {
+  /** Whether a move comes next; after a refusal "rest". */
+  coming: Coming;
+  /** The code of the move that comes next, with "full" of the one that does not fit; 0 with "rest". */
+  choice: number;
+}
 export interface Taken extends Reached {
   /** With 16 the node that settled the condition, else 0. */
   node: number;
@@ -119,9 +127,13 @@ export interface Guide {
   load(card: Uint8Array): Reached;
   grade(card: Uint8Array): Graded;
   list(card: Uint8Array, c: Configuration, roomInEntries?: number): Listed;
+  /** The guide's own next move, which is not made: a page shows it, and takes it when the weaver has made it. */
+  next(card: Uint8Array, c: Configuration): Next;
   take(card: Uint8Array, c: Configuration, choice: number): Taken;
   run(card: Uint8Array, c: Configuration, budget: number): Ran;
   deliberate(card: Uint8Array, program: Uint8Array, c: Configuration, budget: number): Deliberated;
+  /** From the numbers that remain of the program, as `remaining` has them. */
+  goOn(card: Uint8Array, program: Uint8Array, numbers: Uint8Array, c: Configuration, budget: number): Deliberated;
   save(card: Uint8Array, c: Configuration, roomInBytes?: number): Saved;
   restore(card: Uint8Array, place: Uint8Array): Reached;
   text(text: Uint8Array, roomInBytes?: number): Read;

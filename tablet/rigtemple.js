@@ -11,7 +11,7 @@
  * be any; what is not a Uint8Array, or a number that its field cannot hold, is a mistake of the page, and throws.
  */
 
-export const VERSION = "3.2";
+export const VERSION = "3.3";
 
 /* Sizes, as rigtemple.h has them. */
 export const SET_BYTES = 16;
@@ -27,6 +27,7 @@ export const MOST_SHEET_BYTES = 65535;
 /* What an answer's numbers stand for, by their place from 0. */
 export const KINDS = ["selection", "action", "revision"];
 export const ENDINGS = ["spent", "rest", "full"];
+export const COMINGS = ["move", "rest", "full"];
 export const DELIBERATION_ENDINGS = ["spent", "finished", "stuck", "full"];
 export const VERDICTS = ["bounded", "open"];
 export const OFFENDERS = ["none", "initial plan", "selection", "revision"];
@@ -194,6 +195,20 @@ export function guideOf(instance) {
     };
   }
 
+  /* A deliberation by the function of that name, with what is given before the configuration. */
+  function deliberated(name, lent, given, c, budget) {
+    const changed = lend(lent, c);
+    const [moves, ending, remaining, count] = [2, 1, MOST_REMAINING, 1].map((bytes) => lent.room(bytes));
+    const said = ask(name, ...given, ...changed, asNumber(budget, "the budget", 65535), moves, ending, remaining, count);
+    return {
+      ...said,
+      configuration: configurationAt(lent, changed),
+      moves: lent.numberAt(moves),
+      ending: DELIBERATION_ENDINGS[lent.byteAt(ending)],
+      remaining: lent.bytesAt(remaining, lent.byteAt(count)),
+    };
+  }
+
   return {
     /* Judges a card. */
     check(card) {
@@ -235,6 +250,15 @@ export function guideOf(instance) {
       return { ...said, choices };
     },
 
+    /* What comes next of the guide's own, and the code of that move; no move is made. */
+    next(card, c) {
+      const lent = new Lent(exports);
+      const given = [...pair(lent, asBytes(card, "the card")), ...read(lent, c)];
+      const [coming, choice] = [lent.room(1), lent.room(2)];
+      const said = ask("next", ...given, coming, choice);
+      return { ...said, coming: COMINGS[lent.byteAt(coming)], choice: lent.numberAt(choice) };
+    },
+
     /* The configuration after a chosen move; or why the move is closed, with the node that settled its condition. */
     take(card, c, choice) {
       const lent = new Lent(exports);
@@ -264,17 +288,14 @@ export function guideOf(instance) {
     deliberate(card, program, c, budget) {
       const lent = new Lent(exports);
       const given = [...pair(lent, asBytes(card, "the card")), ...pair(lent, asBytes(program, "the program"))];
-      const changed = lend(lent, c);
-      const [moves, ending, remaining, count] = [2, 1, MOST_REMAINING, 1].map((bytes) => lent.room(bytes));
-      asNumber(budget, "the budget", 65535);
-      const said = ask("deliberate", ...given, ...changed, budget, moves, ending, remaining, count);
-      return {
-        ...said,
-        configuration: configurationAt(lent, changed),
-        moves: lent.numberAt(moves),
-        ending: DELIBERATION_ENDINGS[lent.byteAt(ending)],
-        remaining: lent.bytesAt(remaining, lent.byteAt(count)),
-      };
+      return deliberated("deliberate", lent, given, c, budget);
+    },
+
+    /* The same from the numbers that remain of a program: the next first, as a call left them in `remaining`. */
+    goOn(card, program, numbers, c, budget) {
+      const lent = new Lent(exports);
+      const given = [...pair(lent, asBytes(card, "the card")), ...pair(lent, asBytes(program, "the program"))];
+      return deliberated("go_on", lent, [...given, ...pair(lent, asBytes(numbers, "the numbers"))], c, budget);
     },
 
     /* A configuration as a place, to be kept. */

@@ -5,7 +5,8 @@
 #   tests/all.sh [--seed N] [--cases N]
 #
 # --seed chooses the fresh cases (1), --cases how many go through the drill (20,000). Programs and library are proved and linked
-# first where they are missing or old. tests/definitions.py, tests/compare.py and tests/c.sh take larger numbers by themselves.
+# first where they are missing or old. tests/definitions.py, tests/compare.py, tests/c.sh and tests/kill.sh take larger numbers by
+# themselves.
 set -eu
 
 die() { printf 'all.sh: %s\n' "$*" >&2; exit 2; }
@@ -59,13 +60,14 @@ try tests/turned.sh --seed "$seed" --engine
 try tests/library.sh
 try tests/example.sh
 try tests/languages.sh
+try tests/kill.sh --kills 3 --fresh 5 --seed "$seed"
 try tests/room.sh
 try tests/bound.sh
 try tests/tablets.sh --seed "$seed" --cases $((cases / 10)) --texts $((cases / 400)) --programs $((cases / 400)) \
-    --names $((cases / 400))
+    --names $((cases / 400)) --cuts $((cases / 100)) --next $((cases / 100))
 try python3 tests/definitions.py --seed "$seed" --cards 100
 try python3 tests/compare.py --seed "$seed" --cases "$cases" --texts $((cases / 20)) --programs $((cases / 20)) \
-    --names $((cases / 20))
+    --names $((cases / 20)) --cuts $((cases / 20)) --next $((cases / 20))
 try python3 tests/every_place.py
 printf '%d passed, %d failed\n' "$passed" "$failed"
 [ "$failed" -eq 0 ]

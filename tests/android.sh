@@ -44,16 +44,29 @@ of_version() { # VERSION
     cp "$root/examples/tablet/app.c" "$room/version.$1"
 }
 
-# The example in a shared object makes six moves of the stripe card, and refuses the loop card.
+# The example in a shared object makes six moves of the stripe card and rests, and refuses the loop
+# card, another place and a closed move.
 six_moves() { # SHARED-OBJECT
     python3 -B - "$1" "$root/cards/stripe.card" "$root/cards/loop.card" <<'END'
 import ctypes
 import sys
 
 app = ctypes.CDLL(sys.argv[1])
-app.app_moves.argtypes = (ctypes.c_char_p, ctypes.c_size_t)
-moves = [app.app_moves(card, len(card)) for card in (open(name, "rb").read() for name in sys.argv[2:])]
-sys.exit(moves != [6, -6])
+card, loop = (open(name, "rb").read() for name in sys.argv[2:])
+held = ctypes.c_char_p, ctypes.c_size_t
+app.app_begin.argtypes = (*held, ctypes.c_char_p)
+app.app_next.argtypes = (*held, *held)
+app.app_made.argtypes = (*held, *held, ctypes.c_uint16, ctypes.c_char_p)
+buffer = ctypes.create_string_buffer(1068)
+assert app.app_begin(loop, len(loop), buffer) == -6
+count, moves = app.app_begin(card, len(card), buffer), []
+place = buffer.raw[:count]
+assert app.app_made(card, len(card), place, len(place), 512, buffer) == -15
+while (code := app.app_next(card, len(card), place, len(place))) >= 0:
+    count = app.app_made(card, len(card), place, len(place), code, buffer)
+    place, moves = buffer.raw[:count], [*moves, code]
+assert (moves, code) == ([0, 512, 257, 513, 258, 256], -100), (moves, code)
+assert app.app_next(card, len(card), place, len(place) - 1) == -1
 END
 }
 

@@ -1,11 +1,11 @@
 #!/bin/sh
 # The library as C sees it: include/rigtemple.h as C and as C++, its words for the answers, the
-# eight calls with a turned screen, the two over text, deliberation, names, and the drill over the
-# header against the oracle, byte for byte: on the stored requests of crates/drill, and on requests
-# by seed. The last line is 'N passed, M failed'.
+# eight calls with a turned screen, what comes next, the two over text, deliberation and going on,
+# names, and the drill over the header against the oracle, byte for byte: on the stored requests of
+# crates/drill, and on requests by seed. The last line is 'N passed, M failed'.
 #
 #   tests/c.sh [--engine] [--seed N] [--cards N] [--texts N] [--programs N] [--names N]
-#              [--largest BYTES]
+#              [--cuts N] [--next N] [--largest BYTES]
 #
 # --engine puts the C engine of bench/ in the library's place, and so holds that one against the
 # oracle the same way.
@@ -19,6 +19,8 @@ cards=400
 texts=400
 programs=400
 names=400
+cuts=400
+next=400
 largest=24128
 while [ $# -gt 0 ]; do
     case $1 in
@@ -28,9 +30,11 @@ while [ $# -gt 0 ]; do
     --texts) texts=${2:?--texts takes a number}; shift ;;
     --programs) programs=${2:?--programs takes a number}; shift ;;
     --names) names=${2:?--names takes a number}; shift ;;
+    --cuts) cuts=${2:?--cuts takes a number}; shift ;;
+    --next) next=${2:?--next takes a number}; shift ;;
     --largest) largest=${2:?--largest takes a number}; shift ;;
     *) die "usage: c.sh [--engine] [--seed N] [--cards N] [--texts N] [--programs N]" \
-        "[--names N] [--largest BYTES]" ;;
+        "[--names N] [--cuts N] [--next N] [--largest BYTES]" ;;
     esac
     shift
 done
@@ -89,9 +93,9 @@ same_words() {
 "$tests/build_c.sh" "$work/answer_words" "$tests/answer_words.c"
 expect "the words of the answers are docs/API.md's" same_words
 
-# The eight calls, with the screen turned in the middle of a run, the two over text, deliberation,
-# and names.
-for program in eight_calls text_calls deliberate_calls name_calls; do
+# The eight calls, with the screen turned in the middle of a run, what comes next, the two over text,
+# deliberation and going on, and names.
+for program in eight_calls next_calls text_calls deliberate_calls name_calls; do
     "$tests/build_c.sh" "$work/$program" "$tests/$program.c" "$tests/cards.c" "$tests/programs.c" \
         "$tests/sheets.c" "$archive"
     "$tests/run_c.sh" "$work/$program" >"$work/$program.out" || true
@@ -132,10 +136,10 @@ python3 -B "$root/oracle/stored.py" --check >"$work/stored.out" ||
     die "the stored requests are others"
 held 'the stored requests' "$work/stored.out" "$stored/stdin" "$stored/stdout"
 python3 -B "$root/oracle/cases.py" --seed "$seed" --cards "$cards" --texts "$texts" \
-    --programs "$programs" --names "$names" --largest "$largest" --requests "$work/requests" \
-    --answers "$work/answers" >"$work/cases.out"
-held "seed $seed, $cards cards, $texts texts, $programs cases of programs, $names of names" \
-    "$work/cases.out" "$work/requests" "$work/answers"
+    --programs "$programs" --names "$names" --cuts "$cuts" --next "$next" --largest "$largest" \
+    --requests "$work/requests" --answers "$work/answers" >"$work/cases.out"
+fresh="$cards cards, $texts texts, $programs cases of programs, $names of names, $cuts cuts"
+held "seed $seed, $fresh, $next next moves" "$work/cases.out" "$work/requests" "$work/answers"
 
 printf '%s passed, %s failed\n' "$passed" "$failed"
 [ "$failed" -eq 0 ]

@@ -16,6 +16,8 @@ static struct card_bytes card;
 static struct program_bytes program;
 static struct text_bytes text;
 static struct rigtemple_configuration held;
+static uint8_t numbers[4 * RIGTEMPLE_MOST_REMAINING];
+static size_t numbers_len;
 static uint8_t kept[RIGTEMPLE_MOST_PLACE_BYTES];
 static uint16_t kept_len, choice, printed_node, named_action;
 static struct sheet_bytes shed, master;
@@ -49,6 +51,11 @@ static uint16_t call_list(void)
                           &lent.entries);
 }
 
+static uint16_t call_next(void)
+{
+    return rigtemple_next(card.bytes, card.len, &lent.c, &lent.coming, &lent.choice);
+}
+
 static uint16_t call_take(void)
 {
     return rigtemple_take(card.bytes, card.len, &lent.c, choice, &lent.node);
@@ -64,6 +71,13 @@ static uint16_t call_deliberate(void)
     return rigtemple_deliberate(card.bytes, card.len, program.bytes, program.len, &lent.c, 500,
                                 &lent.moves, &lent.ending, lent.remaining,
                                 &lent.remaining_length);
+}
+
+static uint16_t call_go_on(void)
+{
+    return rigtemple_go_on(card.bytes, card.len, program.bytes, program.len, numbers, numbers_len,
+                           &lent.c, 500, &lent.moves, &lent.ending, lent.remaining,
+                           &lent.remaining_length);
 }
 
 static uint16_t call_save(void)
@@ -95,15 +109,17 @@ static uint16_t call_name(void)
                           named_action, &lent.name, &lent.bytes, &lent.sheet);
 }
 
-enum { CHECK, LOAD, GRADE, LIST, TAKE, RUN, SAVE, RESTORE, DELIBERATE, TEXT, PRINT, NAME };
+enum { CHECK, LOAD, GRADE, LIST, NEXT, TAKE, RUN, SAVE, RESTORE, DELIBERATE, GO_ON, TEXT, PRINT,
+       NAME };
 
 const struct call calls[CALLS] = {
     [CHECK] = {"check", call_check}, [LOAD] = {"load", call_load},
     [GRADE] = {"grade", call_grade}, [LIST] = {"list", call_list},
-    [TAKE] = {"take", call_take},    [RUN] = {"run", call_run},
-    [SAVE] = {"save", call_save},    [RESTORE] = {"restore", call_restore},
-    [TEXT] = {"text", call_text},    [PRINT] = {"print", call_print},
-    [NAME] = {"name", call_name},    [DELIBERATE] = {"deliberate", call_deliberate},
+    [NEXT] = {"next", call_next},    [TAKE] = {"take", call_take},
+    [RUN] = {"run", call_run},       [SAVE] = {"save", call_save},
+    [TEXT] = {"text", call_text},    [RESTORE] = {"restore", call_restore},
+    [PRINT] = {"print", call_print}, [DELIBERATE] = {"deliberate", call_deliberate},
+    [NAME] = {"name", call_name},    [GO_ON] = {"go_on", call_go_on},
 };
 
 /* ---- the cases ---- */
@@ -120,24 +136,47 @@ static void last_rule_program(void)
     put_entry(&program, RIGTEMPLE_ENTRY_WHILE_PLAN, 0, 2);
 }
 
+/* The program at hand, begun and gone on with: from the last entry's number alone and from as many
+ * as may remain, the greatest and the least; from none, from one more, and from many more, which
+ * are refused. */
+static void each_number(void (*visit)(unsigned call))
+{
+    size_t entries = program.len / RIGTEMPLE_ENTRY_BYTES;
+    visit(DELIBERATE);
+    numbers[0] = (uint8_t)(entries - 1);
+    numbers_len = 1;
+    visit(GO_ON);
+    for (size_t i = 0; i < entries; i++)
+        numbers[i] = (uint8_t)i;
+    numbers_len = entries;
+    visit(GO_ON);
+    memset(numbers, 0, sizeof numbers);
+    visit(GO_ON);
+    const size_t lengths[] = {0, entries + 1, sizeof numbers};
+    for (unsigned i = 0; i < sizeof lengths / sizeof lengths[0]; i++) {
+        numbers_len = lengths[i];
+        visit(GO_ON);
+    }
+}
+
 /* Deliberations on the card and the configuration at hand. */
 static void each_program(void (*visit)(unsigned call))
 {
     teaching_program(&program, 1);
-    visit(DELIBERATE);
+    each_number(visit);
     last_rule_program();
-    visit(DELIBERATE);
+    each_number(visit);
     for (unsigned kind = RIGTEMPLE_ENTRY_WHILE_PLAN; kind <= RIGTEMPLE_ENTRY_OR; kind++) {
         tower_program(&program, kind);
-        visit(DELIBERATE);
+        each_number(visit);
     }
     program.len -= 1; /* which is refused */
-    visit(DELIBERATE);
+    each_number(visit);
 }
 
-/* The nine calls on the card and the configuration at hand, take with each of some choices, and
- * deliberate with each of some programs. */
-static void each_of_nine(void (*visit)(unsigned call), const char *with)
+/* The calls over a configuration, and check, load and grade, on the card and the configuration at
+ * hand: take with each of some choices, deliberate and go on with each of some programs. */
+static void each_of_these(void (*visit)(unsigned call), const char *with)
 {
     static const uint16_t choices[] = {0, 255, 256, 511, 512, 513, 767, 65535};
     made_with = with;
@@ -157,7 +196,7 @@ static void each_phase(void (*visit)(unsigned call), const char *with)
     for (held.phase = 0; held.phase < 3; held.phase++) {
         if (rigtemple_save(card.bytes, card.len, &held, kept, sizeof kept, &kept_len) != 0)
             kept_len = 0;
-        each_of_nine(visit, with);
+        each_of_these(visit, with);
     }
 }
 
@@ -215,13 +254,13 @@ static void on_card(void (*visit)(unsigned call), const char *on)
     each_sheet(visit, on);
     kept_len = 0;
     if (rigtemple_load(card.bytes, card.len, &held) == 0)
-        each_of_nine(visit, "its first configuration");
+        each_of_these(visit, "its first configuration");
     memset(held.plan, 0, sizeof held.plan);
     held.length = 0;
     each_phase(visit, "no plan");
     held.length = RIGTEMPLE_MOST_PLAN_ACTIONS;
     each_phase(visit, "a plan of 1,024 actions");
-    each_of_nine(visit, "a configuration in phase 3");
+    each_of_these(visit, "a configuration in phase 3");
     memset(held.beliefs, 0, sizeof held.beliefs);
     each_phase(visit, "a plan of 1,024 actions and no beliefs");
     held.length = 0;

@@ -1,14 +1,20 @@
 #!/usr/bin/env python3
 """Holds the proved programs against the independent one, on fresh cases by seed.
 
-    python3 tests/compare.py --seed 1 --cases 200000 --texts 20000 --programs 5000 --names 7000
+    python3 tests/compare.py --seed 1 --cases 200000 --texts 20000 --programs 5000 --names 7000 --cuts 50000 --next 50000
+    python3 tests/compare.py --seed 1 --cases 0 --cuts 50000      # deliberations that are cut, and no others
 
 A case is a request of drill.md about a card. With --texts so many cases of texts to be read and nodes to be printed are added, six texts
 and five nodes each; with --programs so many cases of programs to deliberate by, ten of them about a good card, three about a damaged
-one; with --names so many cases of names asked for, most of them sixteen. The cases and the answers to them come from oracle/ by the
-seed. Each request goes through target/bin/drill, and the answer is compared byte for byte; each card that the program of document 01
-can read whole goes through target/bin/rigtemple too, and the lines are compared with those of oracle/program.py. The first
-disagreement is told in words. The last line is 'N passed, M failed': requests and runs of the program on which both agree.
+one; with --names so many cases of names asked for, most of them sixteen. With --cuts so many deliberations are cut at random places,
+once to three times, and gone on with, each with the same deliberation in one beside it and with other numbers to go on with, right and
+wrong ones; with --next so many next moves are asked for, each with a run with budget 1 beside it. The oracle's parts of a deliberation
+have to be its one deliberation, and its next moves what its runs make, or nothing is compared.
+
+The cases and the answers to them come from oracle/ by the seed. Each request goes through target/bin/drill, and the answer is compared
+byte for byte; each card that the program of document 01 can read whole goes through target/bin/rigtemple too, and the lines are compared
+with those of oracle/program.py. The first disagreement is told in words. The last line is 'N passed, M failed': requests and runs of the
+program on which both agree.
 
 --drill COMMAND, which may stand more than once, puts other programs in the drill's place: each request goes through each of them, and
 target/bin/rigtemple is not run.
@@ -24,7 +30,7 @@ import shlex
 import shutil
 import subprocess
 import sys
-from typing import NamedTuple
+from typing import Callable, NamedTuple
 
 TOP = os.path.dirname(os.path.dirname(os.path.abspath(__file__)))
 sys.path.insert(0, os.path.join(TOP, "oracle"))
@@ -41,15 +47,34 @@ CASES_PER_CHUNK = 250
 SHOWN = 40
 
 
+class Sort(NamedTuple):
+    """A sort of cases: its option, the word for it in a chunk's seed, what makes so many of them by seed, the most bytes of a card or
+    text that they can have, and what is counted."""
+
+    option: str
+    word: str
+    generate: Callable
+    most: int
+    counted: str
+
+
+TEXT_LIMIT, CARD_LIMIT = drill.TEXT_LIMIT, cases.CARD_BYTES_LIMIT
+SORTS = (
+    Sort("texts", "text", cases.generate_texts, TEXT_LIMIT, "cases of texts and printed nodes"),
+    Sort("programs", "program", cases.generate_programs, CARD_LIMIT, "cases of programs"),
+    Sort("names", "name", cases.generate_names, CARD_LIMIT, "cases of names"),
+    Sort("cuts", "cut", cases.generate_cuts, CARD_LIMIT, "deliberations cut and gone on with"),
+    Sort("next", "next", cases.generate_next, CARD_LIMIT, "next moves"),
+)
+
+
 class Job(NamedTuple):
-    """A chunk: its seed, how many requests, or cases of texts, of programs or of names, the largest card, text or sheet, whether the
-    oracle is spoiled, and the commands that stand in the drill's place."""
+    """A chunk: its seed, the option of its sort of cases ('cases' for requests of document 01), how many of them, the largest card,
+    text or sheet, whether the oracle is spoiled, and the commands that stand in the drill's place."""
 
     seed: str
-    requests: int
-    texts: int
-    programs: int
-    names: int
+    option: str
+    count: int
     largest: int
     spoil: bool
     drills: tuple
@@ -101,15 +126,13 @@ def output(words, data):
 
 
 def cases_of(job):
-    """Cases with just as many requests, of which the last is cut; or cases of texts, of programs or of names."""
-    if job.requests == 0:
-        largest = min(job.largest, cases.CARD_BYTES_LIMIT)
-        yield from cases.generate_texts(job.seed, job.texts, job.largest)
-        yield from cases.generate_programs(job.seed, job.programs, largest)
-        yield from cases.generate_names(job.seed, job.names, largest)
-        return
-    left = job.requests
-    for case in cases.generate(job.seed, job.requests, job.largest):
+    """The cases of some sort; or cases with just as many requests, of which the last is cut."""
+    for sort in SORTS:
+        if sort.option == job.option:
+            yield from sort.generate(job.seed, job.count, min(job.largest, sort.most))
+            return
+    left = job.count
+    for case in cases.generate(job.seed, job.count, job.largest):
         yield case._replace(requests=case.requests[:left])
         left -= len(case.requests[:left])
         if left == 0:
@@ -127,7 +150,7 @@ def answered(job):
     for case in cases_of(job):
         answers = [drill.answer(case.card, request) for request in case.requests]
         for request, answer in zip(case.requests, answers):
-            met[request[0] - 1][guide.number(answer, 0)] += 1
+            met[cases.column(request)][guide.number(answer, 0)] += 1
         found.append((case, answers))
     return found, met
 
@@ -152,7 +175,7 @@ def requests_that_differ(job, drill_words, found):
         for request, answer in zip(case.requests, answers):
             got = output(drill_words, cases.request_card(case.card) + request)
             if got != answer:
-                call = cases.CALL_NAMES[request[0] - 1]
+                call = cases.CALL_NAMES[cases.column(request)]
                 yield (
                     f"seed {job.seed}, case '{case.name}', {call}:\n"
                     f"  request {shortened(request)}\n  drill   {shortened(got)}\n  oracle  {shortened(answer)}"
@@ -173,8 +196,8 @@ def hold_requests(job, drill_words, found):
 
 def hold_program(job, found):
     """The disagreements of the program, and how many cards it was run on: those "of at most 24,129 bytes" in cases that are not of
-    texts, programs or names."""
-    runs = job.requests and job.drills == (command("drill"),)
+    another sort."""
+    runs = job.option == "cases" and job.drills == (command("drill"),)
     read = [case for case, _ in found if len(case.card) <= program.INPUT_LIMIT and runs]
     differing = []
     for number, case in enumerate(read):
@@ -209,15 +232,14 @@ def arguments():
     parser = argparse.ArgumentParser(description=__doc__.split("\n")[0])
     parser.add_argument("--seed", default="1")
     parser.add_argument("--cases", type=int, default=200000, help="how many requests")
-    parser.add_argument("--texts", type=int, default=0, help="how many cases of texts and printed nodes")
-    parser.add_argument("--programs", type=int, default=0, help="how many cases of programs")
-    parser.add_argument("--names", type=int, default=0, help="how many cases of names")
+    for sort in SORTS:
+        parser.add_argument(f"--{sort.option}", type=int, default=0, help=f"how many {sort.counted}")
     parser.add_argument("--largest", type=int, default=65535, help="bytes of the largest card, text and sheet")
     parser.add_argument("--drill", action="append", default=[], help="another program in the drill's place, as a command")
     parser.add_argument("--spoil", action="store_true", help="change one answer and one line of the oracle's")
     options = parser.parse_args()
-    if options.cases < 1:
-        parser.error("--cases takes a number from 1 on")
+    if options.cases < 1 and (options.spoil or not any(getattr(options, sort.option) for sort in SORTS)):
+        parser.error("--cases takes a number from 1 on, where nothing else is asked for and with --spoil")
     return options
 
 
@@ -232,13 +254,10 @@ def jobs(options):
     drills = tuple(tuple(shlex.split(words)) for words in options.drill) or (command("drill"),)
     for number, begin in enumerate(range(0, options.cases, REQUESTS_PER_CHUNK)):
         count = min(REQUESTS_PER_CHUNK, options.cases - begin)
-        yield Job(f"{options.seed}.{number}", count, 0, 0, 0, options.largest, options.spoil and number == 0, drills)
-    for number, count in chunks(options.texts):
-        yield Job(f"{options.seed}.text.{number}", 0, count, 0, 0, options.largest, False, drills)
-    for number, count in chunks(options.programs):
-        yield Job(f"{options.seed}.program.{number}", 0, 0, count, 0, options.largest, False, drills)
-    for number, count in chunks(options.names):
-        yield Job(f"{options.seed}.name.{number}", 0, 0, 0, count, options.largest, False, drills)
+        yield Job(f"{options.seed}.{number}", "cases", count, options.largest, options.spoil and number == 0, drills)
+    for sort in SORTS:
+        for number, count in chunks(getattr(options, sort.option)):
+            yield Job(f"{options.seed}.{sort.word}.{number}", sort.option, count, options.largest, False, drills)
 
 
 def main():

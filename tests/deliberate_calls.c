@@ -1,7 +1,8 @@
 /*
- * rigtemple_deliberate of include/rigtemple.h by hand, on the stripe card: the programs of the two
- * sheds move by move, each kind of entry and each ending, programs whose parts are shared, the
- * refusals in their order, and what remains gone on with from a place.
+ * rigtemple_deliberate and rigtemple_go_on of include/rigtemple.h by hand, on the stripe card: the
+ * programs of the two sheds move by move, each kind of entry and each ending, programs whose parts
+ * are shared, the refusals in their order, which numbers are gone on with and which are refused,
+ * and a deliberation that is cut anywhere and gone on with from a place.
  */
 #include <stdio.h>
 #include <string.h>
@@ -100,6 +101,42 @@ static struct left deliberate(const struct program_bytes *program,
                               struct rigtemple_configuration *c, uint16_t budget)
 {
     return deliberate_on(&card, program, c, budget);
+}
+
+/* Entry numbers to go on from, with room for more than there may be. */
+struct numbers {
+    uint8_t bytes[4 * RIGTEMPLE_MOST_REMAINING];
+    size_t count;
+};
+
+/* The same from numbers, which are not written. */
+static struct left go_on_on(const struct card_bytes *of, const struct program_bytes *program,
+                            const struct numbers *given, struct rigtemple_configuration *c,
+                            uint16_t budget)
+{
+    struct left l;
+    struct numbers before = *given;
+    memset(&l, LENT, sizeof l);
+    l.answer = rigtemple_go_on(of->bytes, of->len, program->bytes, program->len, given->bytes,
+                               given->count, c, budget, &l.moves, &l.ending, l.remaining,
+                               &l.count);
+    if (memcmp(before.bytes, given->bytes, sizeof before.bytes) != 0)
+        expect(0, "numbers are only read");
+    return l;
+}
+
+static struct left go_on(const struct program_bytes *program, const struct numbers *given,
+                         struct rigtemple_configuration *c, uint16_t budget)
+{
+    return go_on_on(&card, program, given, c, budget);
+}
+
+/* The numbers that a call left, to go on from. */
+static struct numbers numbers_of(const struct left *l)
+{
+    struct numbers n = {.count = l->count};
+    memcpy(n.bytes, l->remaining, sizeof l->remaining);
+    return n;
 }
 
 /* Whether the call is done with so many moves and that ending, and just these numbers remain: all
@@ -445,16 +482,26 @@ static const struct refused {
 /* The same with all that they name there. */
 static const uint8_t kept[][3] = {APPLY(2), SELECT(0), WHILE_PLAN(1), WHILE_BELIEF(4, 2), OR(3, 0)};
 
-/* Whether a program is refused on a card with that answer: count 0, spent, none remains, and the
- * configuration as it came in. */
+/* Whether a call is refused with that answer: count 0, spent, none remains, and of the numbers lent
+ * no byte is written. */
+static int is_refused(const struct left *l, uint16_t answer)
+{
+    int lent = 1;
+    for (unsigned i = 0; i < RIGTEMPLE_MOST_REMAINING; i++)
+        lent &= l->remaining[i] == LENT;
+    return l->answer == answer && l->moves == 0 && l->ending == SPENT && l->count == 0 && lent;
+}
+
+/* Whether a program is refused on a card with that answer, by both calls, with the configuration as
+ * it came in. */
 static int refuses(const struct card_bytes *of, const struct program_bytes *program,
                    const struct rigtemple_configuration *c, uint16_t answer)
 {
+    static const struct numbers none;
     struct rigtemple_configuration given = *c;
     struct left l = deliberate_on(of, program, &given, 9);
-    int so = l.answer == answer;
-    l.answer = RIGTEMPLE_ANSWER_DONE;
-    return so && leaves_none(&l, 0, SPENT) && same(&given, c);
+    struct left gone_on = go_on_on(of, program, &none, &given, 9);
+    return is_refused(&l, answer) && is_refused(&gone_on, answer) && same(&given, c);
 }
 
 static void test_refused_programs(void)
@@ -497,7 +544,122 @@ static void test_order(void)
     expect(refuses(&bad, &wrong, &wild, RIGTEMPLE_ANSWER_SHORT), "1 before all");
 }
 
-/* ---- what remains, gone on with ---- */
+/* ---- numbers ---- */
+
+/* Whether numbers are accepted of a program: with budget 0 they remain as they are. */
+static int accepts(const struct program_bytes *program, const struct numbers *given)
+{
+    struct rigtemple_configuration c = after_run(4), before = c;
+    struct left l = go_on(program, given, &c, 0);
+    return comes_to(&l, 0, SPENT, given->bytes, (unsigned)given->count) && same(&c, &before);
+}
+
+static int refuses_numbers(const struct program_bytes *program, const struct numbers *given)
+{
+    struct rigtemple_configuration c = after_run(4), before = c;
+    struct left l = go_on(program, given, &c, 9);
+    return is_refused(&l, RIGTEMPLE_ANSWER_PROGRAM) && same(&c, &before);
+}
+
+/* The greatest that are accepted, so many of them, of a program of so many entries: the last is the
+ * last entry's number, and each before it one less. */
+static struct numbers greatest(unsigned count, unsigned entries)
+{
+    struct numbers n = {.count = count};
+    for (unsigned i = 0; i < count; i++)
+        n.bytes[i] = (uint8_t)(entries - count + i);
+    return n;
+}
+
+/* Numbers of each length: the greatest and the least are accepted, and each of the greatest by one
+ * more is refused; so is a number more than there are entries. */
+static void test_numbers(unsigned entries)
+{
+    struct program_bytes program = {.len = 0};
+    struct numbers n;
+    for (unsigned i = 0; i < entries; i++)
+        put_entry(&program, RIGTEMPLE_ENTRY_EXECUTE, 0, 0);
+    for (unsigned count = 0; count <= entries; count++) {
+        n = greatest(count, entries);
+        expect(accepts(&program, &n), "the greatest numbers are accepted");
+        for (unsigned i = 0; i < count; i++) {
+            n.bytes[i]++;
+            expect(refuses_numbers(&program, &n), "one more is refused");
+            n.bytes[i]--;
+        }
+        n = (struct numbers){.count = count};
+        expect(accepts(&program, &n), "zeros are accepted");
+    }
+    for (n = (struct numbers){.count = entries + 1}; n.count <= sizeof n.bytes; n.count++)
+        expect(refuses_numbers(&program, &n), "more numbers than entries are refused");
+    n = (struct numbers){.bytes = {255}, .count = 1};
+    expect(refuses_numbers(&program, &n), "the number 255");
+}
+
+/* Numbers of any length are refused, and not gone through. */
+static void test_many_numbers(void)
+{
+    static uint8_t many[1 << 20];
+    struct program_bytes program;
+    struct rigtemple_configuration c = after_run(4), before = c;
+    struct left l;
+    teaching_program(&program, 3);
+    for (size_t count = 256; count <= sizeof many; count *= 2) {
+        memset(&l, LENT, sizeof l);
+        l.answer = rigtemple_go_on(card.bytes, card.len, program.bytes, program.len, many, count,
+                                   &c, 9, &l.moves, &l.ending, l.remaining, &l.count);
+        expect(is_refused(&l, RIGTEMPLE_ANSWER_PROGRAM) && same(&c, &before), "many numbers");
+    }
+}
+
+/* Numbers that are refused come behind the card and before the configuration. */
+static void test_numbers_order(void)
+{
+    static const struct numbers ten = {.bytes = {10}, .count = 1};
+    static const struct numbers nine = {.bytes = {9}, .count = 1};
+    struct card_bytes bad = card;
+    struct program_bytes program;
+    struct rigtemple_configuration c = after_run(4), wild = c, before = c;
+    teaching_program(&program, 3); /* ten entries */
+    wild.phase = 3;
+    bad.bytes[48] = 1 << 4; /* the goals have an atom that there is not */
+    struct left l = go_on(&program, &ten, &wild, 9);
+    expect(is_refused(&l, RIGTEMPLE_ANSWER_PROGRAM), "19 for numbers before 13");
+    l = go_on(&program, &nine, &wild, 9);
+    expect(is_refused(&l, RIGTEMPLE_ANSWER_CONFIGURATION), "13 with numbers that are accepted");
+    l = go_on_on(&bad, &program, &ten, &c, 9);
+    expect(is_refused(&l, RIGTEMPLE_ANSWER_ATOM) && same(&c, &before), "9 before 19 for numbers");
+}
+
+/* No numbers: finished, or spent where there is no budget. The next number is the first. */
+static void test_given_numbers(void)
+{
+    static const uint8_t entries[][3] = {SELECT(0), APPLY(0), EXECUTE, WHILE_PLAN(2)};
+    static const struct numbers none, in_order = {.bytes = {0, 1, 2}, .count = 3};
+    static const struct numbers other_order = {.bytes = {1, 0}, .count = 2};
+    static const uint8_t rest[] = {1, 2};
+    struct program_bytes program;
+    struct rigtemple_configuration c = configuration(&(struct standing){0, BAND, NO_PLAN, 0, 7}), d;
+    struct rigtemple_configuration before = c;
+    set_program(&program, entries, 4);
+    struct left l = go_on(&program, &none, &c, 0);
+    expect(leaves_none(&l, 0, SPENT) && same(&c, &before), "no numbers and no budget: spent");
+    l = go_on(&program, &none, &c, 1);
+    expect(leaves_none(&l, 0, FINISHED) && same(&c, &before), "no numbers: finished");
+    l = go_on(&program, &other_order, &c, 9);
+    expect(comes_to(&l, 0, STUCK, other_order.bytes, 2) && same(&c, &before),
+           "the first number is the next: here it is stuck");
+    d = c;
+    l = go_on(&program, &in_order, &d, 1);
+    expect(comes_to(&l, 1, SPENT, rest, 2) && d.length == 1 && d.plan[0] == STRIPE,
+           "the first number is done, and the others remain");
+    l = go_on(&program, &in_order, &c, 9);
+    expect(leaves_none(&l, 3, FINISHED) && c.length == 1 && c.plan[0] == PICK &&
+               c.beliefs[0] == BOBBIN,
+           "all three are done, and the last entry is not");
+}
+
+/* ---- cut, and gone on with ---- */
 
 /* The screen is turned: only the place is kept of a configuration. Whether it is saved and
  * restored. */
@@ -512,48 +674,44 @@ static int turn(struct rigtemple_configuration *c)
     return rigtemple_restore(card.bytes, card.len, place, bytes, c) == RIGTEMPLE_ANSWER_DONE;
 }
 
-/* A program is left after so many moves and gone on with: it ends where it ends without that. */
+/* A program is cut after so many moves at most and gone on with: it comes to what it comes to
+ * without that. */
 static void test_gone_on(const struct program_bytes *program, struct rigtemple_configuration c,
                          uint16_t before, uint16_t budget)
 {
     struct rigtemple_configuration straight = c;
-    struct program_bytes rest;
     struct left all = deliberate(program, &straight, budget);
     struct left first = deliberate(program, &c, before);
-    if (first.moves < before || first.count == 0)
-        return;
-    expect(turn(&c) && remaining_program(&rest, program, first.remaining, first.count),
-           "there is room for what remains");
-    struct left second = deliberate(&rest, &c, (uint16_t)(budget - before));
-    expect(second.answer == RIGTEMPLE_ANSWER_DONE && first.moves + second.moves == all.moves &&
-               second.ending == all.ending && (second.count == 0) == (all.count == 0) &&
+    struct numbers kept = numbers_of(&first);
+    expect(turn(&c), "the place is kept");
+    struct left second = go_on(program, &kept, &c, (uint16_t)(budget - before));
+    expect(comes_to(&second, (unsigned)(all.moves - first.moves), all.ending, all.remaining,
+                    all.count) &&
                same(&c, &straight),
-           "what remains is gone on with");
+           "cut once, it comes to the same");
 }
 
-/* A program is left and gone on with after each move, until there is none. */
+/* A program is cut after each move and gone on with: after each it stands where the same moves
+ * without a cut come to. */
 static void test_turned(const struct program_bytes *program, struct rigtemple_configuration c,
                         uint16_t budget)
 {
-    struct rigtemple_configuration straight = c;
-    struct program_bytes now = *program, rest;
-    struct left all = deliberate(program, &straight, budget), one = {.count = 1};
-    unsigned moves = 0, kept = 1;
-    while (kept && one.count > 0 && one.ending == SPENT && moves < budget) {
-        one = deliberate(&now, &c, 1);
+    struct rigtemple_configuration start = c;
+    struct left one = deliberate(program, &c, 0);
+    unsigned moves = 0;
+    for (uint16_t made = 1; made <= budget; made++) {
+        struct rigtemple_configuration straight = start;
+        struct left all = deliberate(program, &straight, made);
+        struct numbers kept = numbers_of(&one);
+        expect(turn(&c), "the place is kept");
+        one = go_on(program, &kept, &c, 1);
         moves += one.moves;
-        kept = turn(&c) &&
-               (one.count == 0 || remaining_program(&rest, &now, one.remaining, one.count));
-        if (kept && one.count > 0)
-            now = rest;
+        expect(comes_to(&one, one.moves, all.ending, all.remaining, all.count) &&
+                   moves == all.moves && same(&c, &straight),
+               "cut after each move, it comes to the same");
     }
-    expect(kept, "there is room for what remains after each move");
-    expect(moves == all.moves && (one.count == 0) == (all.count == 0) &&
-               (one.count == 0 || one.ending == all.ending) && same(&c, &straight),
-           "what remains is gone on with after each move");
 }
 
-/* Programs of 64 entries at most. */
 static void test_turns(void)
 {
     static const uint8_t nested[][3] = {EXECUTE, THEN(0, 0), WHILE_PLAN(1), THEN(2, 1), OR(3, 0)};
@@ -570,10 +728,9 @@ static void test_turns(void)
         set_program(&program, longer, 4);
         test_gone_on(&program, repeated(PICK, 1024), before, 14);
         test_turned(&program, repeated(PICK, 1024), before);
-        for (unsigned kind = RIGTEMPLE_ENTRY_WHILE_PLAN; kind <= RIGTEMPLE_ENTRY_THEN; kind++) {
+        for (unsigned kind = RIGTEMPLE_ENTRY_WHILE_PLAN; kind <= RIGTEMPLE_ENTRY_OR; kind++) {
             tower_program(&program, kind);
-            program.len = RIGTEMPLE_ENTRY_BYTES * 64;
-            test_gone_on(&program, repeated(WIND, 70), (uint16_t)(10 * before), 200);
+            test_gone_on(&program, repeated(WIND, 70), (uint16_t)(20 * before), 300);
             test_turned(&program, repeated(WIND, 3), (uint16_t)(20 * before));
         }
     }
@@ -596,6 +753,12 @@ int main(void)
     test_whiles();
     test_refused_programs();
     test_order();
+    test_numbers(1);
+    test_numbers(5);
+    test_numbers(RIGTEMPLE_MOST_REMAINING);
+    test_many_numbers();
+    test_numbers_order();
+    test_given_numbers();
     test_turns();
     printf("%u passed, %u failed\n", passed, failed);
     return failed != 0;

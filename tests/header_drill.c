@@ -20,30 +20,35 @@
  *                                       remaining program: m numbers (1)
  *  12 name     length (2), bytes of the shed's sheet, length (2), bytes of the master's, action (2)
  *                                       number (2), sheet (1), start (2), length (2)
+ *  21 go on    length (2), bytes of program, m (2), m numbers (1), image, budget (2)
+ *                                       as 11
+ *  22 next     image                    number (2), ending (1), code (2)
  *
  * An image: beliefs (16), goals (16), plan length (2), phase (1), finished count (2), m (2), m
  * bytes of the plan's array; the rest of it is zero. In an answer m is the least that serves. The
  * node of a take is with 16 the one that settled the condition, else 0; the place of a text with 17
  * that of the first wrong byte, else 0; the sheet of a name is 0 the master's or 1 the shed's: the
- * one that it lies in, or with 20 the one that is refused. What a refused grading says beside its
- * number is written as 0. A request that breaks these rules ends the program, and so does what a
- * call leaves wrong and no answer shows.
+ * one that it lies in, or with 20 the one that is refused. What a refused grading and a refused
+ * "next" say beside their number is written as 0. A request that breaks these rules ends the
+ * program, and so does what a call leaves wrong and no answer shows.
  *
  * All that a call may write is lent filled with EE hex, with bytes of the same around it. They are
- * looked at after each call: one that is written ends the program.
+ * looked at after each call: one that is written ends the program. What a call may only read ends
+ * where a guard begins that cannot be read, so that reading past it faults; the card and what is
+ * beside it have to be the same afterwards.
  */
 #include <stdlib.h>
 #include <string.h>
+#include <sys/mman.h>
 #include <unistd.h>
 
 #include "../include/rigtemple.h"
 
 enum { CARD, CHECK, LOAD, GRADE, LIST, TAKE, RUN, SAVE, RESTORE, TEXT, PRINT, DELIBERATE, NAME };
+enum { GO_ON = 21, NEXT };
 enum { LIST_LIMIT = 1024, SAVE_LIMIT = 2048, PLACE_LIMIT = 4096, LENT = 0xEE };
 enum { TEXT_LIMIT = 65536, CARD_ROOM_LIMIT = 24200, PRINT_LIMIT = 2048, PROGRAM_LIMIT = 1024 };
-
-static uint8_t card[65535];
-static size_t card_len;
+enum { NUMBERS_LIMIT = 512 };
 
 /* ---- standard input and output ---- */
 
@@ -129,6 +134,45 @@ static void put_number(uint16_t value)
 {
     put_byte((uint8_t)value);
     put_byte((uint8_t)(value >> 8));
+}
+
+/* ---- what a call may only read ---- */
+
+/* The card, and what else is given with it: where each part ends, a guard begins. */
+enum { THE_CARD, FIRST, SECOND, READ_PARTS, ROOM = 1 << 17 };
+static uint8_t *guard[READ_PARTS], before[READ_PARTS][65536];
+static size_t given[READ_PARTS];
+static uint8_t *card;
+static size_t card_len;
+
+/* Lays the guards, each behind room for what is given. */
+static void lay_guards(void)
+{
+    for (unsigned part = 0; part < READ_PARTS; part++) {
+        uint8_t *at = mmap(NULL, 2 * ROOM, PROT_READ | PROT_WRITE, MAP_PRIVATE | MAP_ANONYMOUS, -1,
+                           0);
+        if (at == MAP_FAILED || mprotect(at + ROOM, ROOM, PROT_NONE) != 0)
+            end(2);
+        guard[part] = at + ROOM;
+    }
+    card = guard[THE_CARD];
+}
+
+/* So many bytes of the input, for a part. */
+static uint8_t *get_part(unsigned part, size_t count)
+{
+    given[part] = count;
+    get_bytes(before[part], count);
+    return memcpy(guard[part] - count, before[part], count);
+}
+
+/* Looks whether a call has changed what it may only read. */
+static void look_at_parts(void)
+{
+    for (unsigned part = 0; part < READ_PARTS; part++)
+        if (memcmp(guard[part] - given[part], before[part], given[part]) != 0)
+            end(3);
+    given[FIRST] = given[SECOND] = 0;
 }
 
 /* ---- lending ---- */
@@ -260,9 +304,8 @@ static void answer_save(void)
 
 static void answer_restore(void)
 {
-    uint8_t place[PLACE_LIMIT];
     size_t place_len = get_number(PLACE_LIMIT);
-    get_bytes(place, place_len);
+    const uint8_t *place = get_part(FIRST, place_len);
     struct rigtemple_configuration *c = lend(sizeof *c);
     put_number(rigtemple_restore(card, card_len, place, place_len, c));
     put_image(c);
@@ -270,9 +313,8 @@ static void answer_restore(void)
 
 static void answer_text(void)
 {
-    static uint8_t text[TEXT_LIMIT];
     size_t text_len = get_length(TEXT_LIMIT);
-    get_bytes(text, text_len);
+    const uint8_t *text = get_part(FIRST, text_len);
     size_t room = get_number(CARD_ROOM_LIMIT), *place = lend(sizeof *place);
     uint8_t *made = lend(room);
     uint16_t *count = lend(2);
@@ -294,43 +336,92 @@ static void answer_print(void)
     put_bytes(text, room);
 }
 
-/* What lies behind the numbers that remain is not in the answer: a byte that is not 0 ends the
- * program. */
+/* A configuration that is written ends the program, and so does a refusal that tells a move. */
+static void answer_next(void)
+{
+    struct rigtemple_configuration *c = get_image(), as_given;
+    uint8_t *coming = lend(1);
+    uint16_t *choice = lend(2);
+    memcpy(&as_given, c, sizeof as_given);
+    uint16_t number = rigtemple_next(card, card_len, c, coming, choice);
+    int done = number == RIGTEMPLE_ANSWER_DONE;
+    if (memcmp(c, &as_given, sizeof as_given) != 0 || (!done && *coming != RIGTEMPLE_NEXT_REST))
+        end(3);
+    put_number(number);
+    put_byte(done ? *coming : 0);
+    put_number(*choice);
+}
+
+/* What a deliberation may write beside the configuration. */
+struct left {
+    uint16_t *count;
+    uint8_t *ending, *remaining, *length;
+};
+
+static struct left lend_left(void)
+{
+    struct left l;
+    l.count = lend(2);
+    l.ending = lend(1);
+    l.remaining = lend(RIGTEMPLE_MOST_REMAINING);
+    l.length = lend(1);
+    return l;
+}
+
+/* What lies behind the numbers that remain is not in the answer: it is 0 if the call is done, and
+ * as it was lent if it is refused, when none remain; else the program ends. */
+static void put_left(uint16_t number, const struct rigtemple_configuration *c, const struct left *l)
+{
+    int done = number == RIGTEMPLE_ANSWER_DONE;
+    if (*l->length > (done ? RIGTEMPLE_MOST_REMAINING : 0))
+        end(3);
+    for (size_t i = *l->length; i < RIGTEMPLE_MOST_REMAINING; i++)
+        if (l->remaining[i] != (done ? 0 : LENT))
+            end(3);
+    put_number(number);
+    put_image(c);
+    put_number(*l->count);
+    put_byte(*l->ending);
+    put_number(*l->length);
+    put_bytes(l->remaining, *l->length);
+}
+
 static void answer_deliberate(void)
 {
-    uint8_t program[PROGRAM_LIMIT];
     size_t program_len = get_number(PROGRAM_LIMIT);
-    get_bytes(program, program_len);
+    const uint8_t *program = get_part(FIRST, program_len);
     struct rigtemple_configuration *c = get_image();
-    uint16_t *count = lend(2);
-    uint8_t *ending = lend(1), *remaining = lend(RIGTEMPLE_MOST_REMAINING);
-    uint8_t *remaining_length = lend(1);
-    put_number(rigtemple_deliberate(card, card_len, program, program_len, c, get_number(65535),
-                                    count, ending, remaining, remaining_length));
-    if (*remaining_length > RIGTEMPLE_MOST_REMAINING)
-        end(3);
-    for (size_t i = *remaining_length; i < RIGTEMPLE_MOST_REMAINING; i++)
-        if (remaining[i] != 0)
-            end(3);
-    put_image(c);
-    put_number(*count);
-    put_byte(*ending);
-    put_number(*remaining_length);
-    put_bytes(remaining, *remaining_length);
+    struct left l = lend_left();
+    uint16_t number =
+        rigtemple_deliberate(card, card_len, program, program_len, c, get_number(65535), l.count,
+                             l.ending, l.remaining, l.length);
+    put_left(number, c, &l);
+}
+
+static void answer_go_on(void)
+{
+    size_t program_len = get_number(PROGRAM_LIMIT);
+    const uint8_t *program = get_part(FIRST, program_len);
+    size_t numbers_len = get_number(NUMBERS_LIMIT);
+    const uint8_t *numbers = get_part(SECOND, numbers_len);
+    struct rigtemple_configuration *c = get_image();
+    struct left l = lend_left();
+    uint16_t number =
+        rigtemple_go_on(card, card_len, program, program_len, numbers, numbers_len, c,
+                        get_number(65535), l.count, l.ending, l.remaining, l.length);
+    put_left(number, c, &l);
 }
 
 /* The start is where the name lies behind its sheet's first byte. A name that does not lie in its
  * sheet, and what a refusal hands back beside an empty part of the master's, end the program. */
 static void answer_name(void)
 {
-    static uint8_t shed[RIGTEMPLE_MOST_SHEET_BYTES], master[RIGTEMPLE_MOST_SHEET_BYTES];
-    const uint8_t *name = card, *held = master;
     uint16_t *bytes = lend(2);
     uint8_t *sheet = lend(1);
-    size_t shed_len = get_number(sizeof shed);
-    get_bytes(shed, shed_len);
-    size_t master_len = get_number(sizeof master), held_len = master_len;
-    get_bytes(master, master_len);
+    size_t shed_len = get_number(RIGTEMPLE_MOST_SHEET_BYTES);
+    const uint8_t *shed = get_part(FIRST, shed_len);
+    size_t master_len = get_number(RIGTEMPLE_MOST_SHEET_BYTES), held_len = master_len;
+    const uint8_t *master = get_part(SECOND, master_len), *held = master, *name = card;
     uint16_t number = rigtemple_name(card, card_len, shed, shed_len, master, master_len,
                                      get_number(65535), &name, bytes, sheet);
     if (number == RIGTEMPLE_ANSWER_DONE && *sheet == RIGTEMPLE_SHEET_SHED) {
@@ -351,8 +442,8 @@ static void answer(uint8_t request)
 {
     switch (request) {
     case CARD:
-        card_len = get_number(sizeof card);
-        get_bytes(card, card_len);
+        card_len = get_number(65535);
+        card = get_part(THE_CARD, card_len);
         break;
     case CHECK:
         put_number(rigtemple_check(card, card_len));
@@ -390,6 +481,12 @@ static void answer(uint8_t request)
     case NAME:
         answer_name();
         break;
+    case GO_ON:
+        answer_go_on();
+        break;
+    case NEXT:
+        answer_next();
+        break;
     default:
         end(1);
     }
@@ -398,8 +495,10 @@ static void answer(uint8_t request)
 int main(void)
 {
     memset(arena, LENT, sizeof arena);
+    lay_guards();
     while (more()) {
         answer(get_byte());
+        look_at_parts();
         take_back();
     }
     end(0);

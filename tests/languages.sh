@@ -65,15 +65,14 @@ python() {
         -o "$room/machine.so" &&
         python3 -B "$root/examples/by_ctypes.py" "$room/machine.so" "$@"
 }
-stripe() {
-    python "$root/cards/stripe.card" >"$room/lines" &&
-        printf '%s\n' 'rest after 6 moves' 'bands finished: 1' \
-            'a place of 44 bytes, restored the same' | cmp - "$room/lines"
-}
-teaching() {
-    python "$root/cards/stripe.card" "$root/cards/teaching.program" >"$room/lines" &&
-        printf '%s\n' 'finished after 12 moves, remaining: nothing' 'bands finished: 1' \
-            'a place of 44 bytes, restored the same' | cmp - "$room/lines"
+# Each of the six moves is said to be made, and what is shown behind the last.
+woven() { # ENDING [PROGRAM]
+    ending=$1
+    shift
+    rm -f "$room/kept"
+    seq 6 | python "$root/cards/stripe.card" "$room/kept" "$@" >"$room/lines" &&
+        printf '%s\n' 'bands finished: 1' 'last: 6 act 0' "end: $ending" >"$room/wanted" &&
+        tail -n 3 "$room/lines" | cmp - "$room/wanted"
 }
 # The stripe card's sheets: in English, and in Swedish with two names left out.
 sheets() {
@@ -88,14 +87,16 @@ refused_sheet() {
     sheets && ! python "$root/cards/stripe.card" --names "$room/shed" &&
         grep -q 'name is refused with 20' "$room/said"
 }
-refused() { ! python "$root/cards/loop.card" && grep -q 'load is refused with 6' "$room/said"; }
+refused() {
+    ! python "$root/cards/loop.card" "$room/none" && grep -q 'load is refused with 6' "$room/said"
+}
 refused_program() {
-    ! python "$root/cards/stripe.card" "$root/cards/stripe.card" &&
+    ! python "$root/cards/stripe.card" "$room/none" "$root/cards/stripe.card" &&
         grep -q 'deliberate is refused with 19' "$room/said"
 }
 if [ -n "$linked" ]; then
-    expect 'Python runs the stripe card' stripe
-    expect 'Python runs the program of the teaching shed' teaching
+    expect 'Python guides through the stripe card' woven rest
+    expect 'Python guides by the program of the teaching shed' woven finished "$root/cards/teaching.program"
     expect 'Python is told of a refusal' refused
     expect 'Python is told of a refused program' refused_program
     expect "Python finds the stripe card's names" named

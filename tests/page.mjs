@@ -87,17 +87,72 @@ function shown(text, after) {
   return `data:text/javascript,${encodeURIComponent(code + after)}`;
 }
 
-await test("as docs/API.md and HOW-TO-LINK.txt show it", () => served(async (at) => {
-  const own = globalThis.fetch;
-  globalThis.fetch = (name) => own(at + name);
+/* What a browser has for the page of docs/API.md: two elements, and a database that outlives the page. `dies` says whether it does
+ * before a step is on the disk; every other request is answered later, as in a browser. */
+function browser(at) {
+  const [held, its] = [new Map(), { shown: {}, made: {}, dies: () => false }];
+  const later = (request, event) => (setTimeout(() => request[event]?.()), request);
+  const store = () => ({ get: (key) => later({ result: structuredClone(held.get(key)) }, "onsuccess") });
+  const step = (_, mode, options) => {
+    if (mode === undefined) return { objectStore: store };
+    assert.deepEqual([mode, options], ["readwrite", { durability: "strict" }]);
+    const begun = {};
+    const put = (value, key) => its.dies() || (held.set(key, structuredClone(value)), later(begun, "oncomplete"));
+    return Object.assign(begun, { objectStore: () => ({ put }) });
+  };
+  const made = new Set();
+  const database = { createObjectStore: (name) => made.add(name), transaction: step };
+  const open = () => {
+    const opening = { result: database };
+    setTimeout(() => (made.size === 0 && opening.onupgradeneeded(), opening.onsuccess()));
+    return opening;
+  };
+  const fetched = globalThis.fetch;
+  const document = { getElementById: (id) => its[id] };
+  return { held, its, globals: { indexedDB: { open }, document, fetch: (name) => fetched(at + name) } };
+}
+
+/* Does something with other globals. */
+async function having(globals, body) {
+  const own = Object.fromEntries(Object.keys(globals).map((name) => [name, globalThis[name]]));
   try {
-    const { place } = await import(shown(words(root, "docs", "API.md"), "\nexport { place };"));
-    assert.equal(place.length, 45);
+    Object.assign(globalThis, globals);
+    await body();
+  } finally {
+    Object.assign(globalThis, own);
+  }
+}
+
+let opened = 0;
+const reopen = (after = "") => import(shown(words(root, "docs", "API.md"), `\n// ${++opened}\n${after}`));
+
+await test("as docs/API.md and HOW-TO-LINK.txt show it", () => served(async (at) => {
+  const { held, its, globals } = browser(at);
+  await having(globals, async () => {
+    const told = ["none", 0, 512, 257, 513, 258, 256];
+    const seen = told.map((last, n) => `last ${n}: ${last}, next ${n < 6 ? `${n + 1}: ${told[n + 1]}` : "rest"}`);
+    for (let n = 0; n < 6; n++) {
+      await reopen();
+      assert.equal(its.shown.textContent, seen[n]);
+      its.dies = () => true;
+      its.made.onclick();
+      await new Promise((done) => setTimeout(done, 5));
+      assert.equal(its.shown.textContent, seen[n]);
+      its.dies = () => false;
+      await reopen();
+      assert.equal(its.shown.textContent, seen[n]);
+      const touch = its.made.onclick;
+      await touch();
+      assert.deepEqual([its.shown.textContent, touch === its.made.onclick], [seen[n + 1], false]);
+    }
+    assert.equal(its.made.onclick, null);
+    const one = guide.run(stripe, guide.load(stripe).configuration, 1000).configuration;
+    assert.deepEqual(held.get("weaving").place, guide.save(stripe, one).place);
+    held.get("weaving").fingerprint ^= 1;
+    await assert.rejects(reopen(), /of another card/);
     const { answer, name } = await import(shown(words(folder, "HOW-TO-LINK.txt"), "\nexport { answer, name };"));
     assert.deepEqual([answer, name], [0, "done"]);
-  } finally {
-    globalThis.fetch = own;
-  }
+  });
 }));
 
 // ---- docs/API.md: from a card to a saved place and back
@@ -130,6 +185,41 @@ await test("a program of the teaching shed", () => {
   assert.deepEqual([answer, moves, ending, remaining.length, configuration.finished], [0, 12, "finished", 0, 1]);
   const stopped = guide.deliberate(stripe, program, guide.load(stripe).configuration, 1);
   assert.deepEqual([stopped.ending, stopped.remaining.length > 0], ["spent", true]);
+});
+
+await test("what comes next, shown and taken, is one run", () => {
+  let c = guide.load(stripe).configuration;
+  const told = [];
+  for (;;) {
+    const { answer, name, coming, choice } = guide.next(stripe, c);
+    assert.deepEqual([answer, name], [0, "done"]);
+    told.push([coming, choice]);
+    if (coming !== "move") break;
+    c = guide.restore(stripe, guide.save(stripe, guide.take(stripe, c, choice).configuration).place).configuration;
+  }
+  const steps = [0, 512, 257, 513, 258, 256].map((choice) => ["move", choice]);
+  assert.deepEqual(told, [...steps, ["rest", 0]]);
+  assert.deepEqual(c, guide.run(stripe, guide.load(stripe).configuration, 1000).configuration);
+});
+
+await test("a move that does not fit", () => {
+  const c = { ...page.emptyConfiguration(), beliefs: atoms(3), plan: new Uint8Array(1024).fill(3), length: 1024 };
+  assert.deepEqual(guide.next(stripe, c), { answer: 0, name: "done", coming: "full", choice: 513 });
+});
+
+await test("a program that is cut after each move, saved, restored and gone on with is one", () => {
+  const program = read(root, "cards", "teaching.program");
+  const first = guide.load(stripe).configuration;
+  let [c, numbers, moves] = [first, Uint8Array.of(program.length / 4 - 1), 0];
+  for (let made = 1; made < 16; made++) {
+    const { moves: one, ...gone } = guide.goOn(stripe, program, numbers, c, 1);
+    const { moves: all, ...whole } = guide.deliberate(stripe, program, first, made);
+    moves += one;
+    assert.deepEqual([gone, moves], [whole, all]);
+    numbers = gone.remaining;
+    c = guide.restore(stripe, guide.save(stripe, gone.configuration).place).configuration;
+  }
+  assert.deepEqual([moves, numbers.length, c.finished], [12, 0, 1]);
 });
 
 await test("a verdict", () => {
@@ -189,9 +279,23 @@ await test("refusals have their names", () => {
   assert.deepEqual(guide.restore(stripe, stripe), { answer: 2, name: "mark", configuration: page.emptyConfiguration() });
   assert.deepEqual(guide.text(new TextEncoder().encode("atoms x")), { answer: 17, name: "text", card: new Uint8Array(), place: 6 });
   assert.deepEqual(guide.print(stripe, 999), { answer: 7, name: "rule", text: "" });
-  const refused = guide.deliberate(stripe, stripe, c, 5);
-  assert.deepEqual([refused.name, refused.moves, refused.ending, refused.remaining.length], ["program", 0, "spent", 0]);
-  assert.deepEqual(refused.configuration, c);
+  assert.deepEqual(guide.next(stripe, { ...c, phase: 3 }), { answer: 13, name: "configuration", coming: "rest", choice: 0 });
+});
+
+await test("a program is refused, and so are numbers that it cannot have left", () => {
+  const c = guide.load(stripe).configuration;
+  const [none, execute] = [new Uint8Array(), new Uint8Array(8)];
+  const refused = { answer: 19, name: "program", configuration: c, moves: 0, ending: "spent", remaining: none };
+  assert.deepEqual(guide.deliberate(stripe, stripe, c, 5), refused);
+  assert.deepEqual(guide.goOn(stripe, stripe, none, c, 5), refused);
+  for (const numbers of [[2], [255], [1, 0], [0, 2], [0, 0, 0], new Uint8Array(300)]) {
+    assert.deepEqual(guide.goOn(stripe, execute, Uint8Array.from(numbers), c, 5), refused);
+  }
+  for (const numbers of [[], [0], [1], [0, 1], [0, 0]]) {
+    const kept = guide.goOn(stripe, execute, Uint8Array.from(numbers), c, 0);
+    assert.deepEqual([kept.answer, kept.ending, [...kept.remaining]], [0, "spent", numbers]);
+  }
+  assert.equal(guide.goOn(stripe, execute, none, c, 1).ending, "finished");
 });
 
 await test("a false condition is told with its node", () => {
@@ -232,6 +336,9 @@ await test("what is no bytes or no such number throws", () => {
     assert.throws(() => guide.check(bad), TypeError);
     assert.throws(() => guide.list(stripe, { ...c, plan: bad }), TypeError);
     assert.throws(() => guide.deliberate(stripe, bad, c, 1), TypeError);
+    assert.throws(() => guide.goOn(stripe, bad, stripe, c, 1), TypeError);
+    assert.throws(() => guide.goOn(stripe, stripe, bad, c, 1), TypeError);
+    assert.throws(() => guide.next(bad, c), TypeError);
     assert.throws(() => guide.name(stripe, swedish, bad, 0), TypeError);
     if (bad != null) assert.throws(() => guide.name(stripe, bad, english, 0), TypeError);
   }
@@ -241,6 +348,8 @@ await test("what is no bytes or no such number throws", () => {
     assert.throws(() => guide.take(stripe, c, bad), RangeError);
     assert.throws(() => guide.run(stripe, c, bad), RangeError);
     assert.throws(() => guide.deliberate(stripe, stripe, c, bad), RangeError);
+    assert.throws(() => guide.goOn(stripe, stripe, stripe, c, bad), RangeError);
+    assert.throws(() => guide.next(stripe, { ...c, length: bad }), RangeError);
     assert.throws(() => guide.print(stripe, bad), RangeError);
     assert.throws(() => guide.name(stripe, swedish, english, bad), RangeError);
     assert.throws(() => guide.save(stripe, { ...c, finished: bad }), RangeError);
@@ -264,8 +373,9 @@ await test("one page of memory is enough for the largest card, and a long text g
   const program = new Uint8Array(512);
   for (const asked of [
     small.check(maximal), small.grade(maximal), small.list(maximal, full), small.take(maximal, full, 0), small.run(maximal, full, 1000),
-    small.deliberate(maximal, program, full, 10), small.save(maximal, full), small.restore(maximal, small.save(maximal, full).place),
-    small.print(maximal, 0), small.text(read(root, "cards", "stripe.text")), small.name(stripe, swedish, english, 0),
+    small.next(maximal, full), small.deliberate(maximal, program, full, 10), small.goOn(maximal, program, new Uint8Array(128), full, 10),
+    small.save(maximal, full), small.restore(maximal, small.save(maximal, full).place), small.print(maximal, 0),
+    small.text(read(root, "cards", "stripe.text")), small.name(stripe, swedish, english, 0),
   ]) {
     assert.ok([0, 14, 15, 16].includes(asked.answer), asked.name);
   }
@@ -307,7 +417,8 @@ await test("the header's version and sizes", () => {
 });
 
 await test("a call for each function of the header, and its type", () => {
-  const wanted = Object.keys(declaredIn(header)).map((name) => name.slice("rigtemple_".length, -"_parts".length));
+  const own = (name) => name.slice("rigtemple_".length, -"_parts".length).replace(/_(.)/g, (_, letter) => letter.toUpperCase());
+  const wanted = Object.keys(declaredIn(header)).map(own);
   assert.deepEqual(Object.keys(guide).sort(), wanted.sort());
   const [, body] = types.match(/export interface Guide \{([^}]*)\}/);
   assert.deepEqual([...body.matchAll(/^ {2}(\w+)\(/gm)].map(([, name]) => name).sort(), wanted);
@@ -316,8 +427,8 @@ await test("a call for each function of the header, and its type", () => {
 await test("what is exported has a type", () => {
   const typed = [...types.matchAll(/^export declare (?:const|function) (\w+)/gm)].map(([, name]) => name);
   assert.deepEqual(typed.sort(), Object.keys(page).sort());
-  for (const [name, list] of [["Kind", page.KINDS], ["Ending", page.ENDINGS], ["DeliberationEnding", page.DELIBERATION_ENDINGS],
-    ["Verdict", page.VERDICTS], ["Offender", page.OFFENDERS], ["Sheet", page.SHEETS]]) {
+  for (const [name, list] of [["Kind", page.KINDS], ["Ending", page.ENDINGS], ["Coming", page.COMINGS],
+    ["DeliberationEnding", page.DELIBERATION_ENDINGS], ["Verdict", page.VERDICTS], ["Offender", page.OFFENDERS], ["Sheet", page.SHEETS]]) {
     assert.ok(types.includes(`export type ${name} = ${list.map((word) => `"${word}"`).join(" | ")};`), name);
   }
 });

@@ -87,6 +87,18 @@ function end(status) {
 
 let card = new Uint8Array();
 
+/* What a deliberation answers. Behind the numbers that remain all is 0 if it is done, and as it was lent if it is refused. */
+function putDeliberated({ answer, configuration, moves, ending, remaining }) {
+  const behind = answer === 0 ? 0 : LENT;
+  if (guarded.lent.remaining.subarray(remaining.length).some((byte) => byte !== behind)) end(3);
+  putNumber(answer);
+  putImage(configuration);
+  putNumber(moves);
+  putWord(page.DELIBERATION_ENDINGS, ending);
+  putNumber(remaining.length);
+  put(remaining);
+}
+
 const requests = {
   0() {
     card = getBytes(getNumber());
@@ -152,16 +164,7 @@ const requests = {
     putLent(Buffer.from(text, "latin1"), "text");
   },
   11() {
-    const { answer, configuration, moves, ending, remaining } = guide.deliberate(
-      card, getBytes(getNumber(1024)), getImage(), getNumber(),
-    );
-    if (guarded.lent.remaining.subarray(remaining.length).some((byte) => byte !== 0)) end(3);
-    putNumber(answer);
-    putImage(configuration);
-    putNumber(moves);
-    putWord(page.DELIBERATION_ENDINGS, ending);
-    putNumber(remaining.length);
-    put(remaining);
+    putDeliberated(guide.deliberate(card, getBytes(getNumber(1024)), getImage(), getNumber()));
   },
   12() {
     const [shed, master] = [getBytes(getNumber()), getBytes(getNumber())];
@@ -173,6 +176,16 @@ const requests = {
     putWord(page.SHEETS, sheet);
     putNumber(start);
     putNumber(length);
+  },
+  21() {
+    putDeliberated(guide.goOn(card, getBytes(getNumber(1024)), getBytes(getNumber(512)), getImage(), getNumber()));
+  },
+  22() {
+    const { answer, coming, choice } = guide.next(card, getImage());
+    if (answer !== 0 && coming !== "rest") end(3);
+    putNumber(answer);
+    putWord(page.COMINGS, answer === 0 ? coming : "move");
+    putNumber(choice);
   },
 };
 

@@ -1,6 +1,6 @@
 /* The types of rigtemple.d.ts, as a page uses them: the compiler accepts every line, and tells each that is marked. */
 import { choice, guideOf, kindOf, numberOf, open } from "./rigtemple.js";
-import type { Configuration, Ending, Guide, Kind, Named, Sheet } from "./rigtemple.js";
+import type { Coming, Configuration, Ending, Guide, Kind, Named, Next, Sheet } from "./rigtemple.js";
 
 export async function moves(card: Uint8Array): Promise<[Ending, number, string]> {
   const guide: Guide = await open(fetch("rigtemple.wasm"));
@@ -14,6 +14,13 @@ export async function moves(card: Uint8Array): Promise<[Ending, number, string]>
   const remaining: Uint8Array = guide.deliberate(card, new Uint8Array(4), ran.configuration, 1).remaining;
   const made = guide.text(new TextEncoder().encode("atoms 1\n"));
   return [ran.ending, ran.moves + remaining.length + made.place, guide.print(made.card, 0).text];
+}
+
+export function shown(guide: Guide, card: Uint8Array, program: Uint8Array, numbers: Uint8Array, c: Configuration): [Coming, number] {
+  const next: Next = guide.next(card, c);
+  const own = guide.goOn(card, program, numbers, c, 1);
+  const kept: Uint8Array = own.remaining;
+  return [own.ending === "stuck" || kept.length === 0 ? "rest" : next.coming, next.choice];
 }
 
 export function inTwoLanguages(guide: Guide, card: Uint8Array, shed: Uint8Array | null, master: Uint8Array): [string, Sheet, Uint8Array] {
@@ -30,6 +37,10 @@ export async function wrong(module: WebAssembly.Module, card: Uint8Array) {
   guide.list(card, { length: 0, phase: 0, finished: 0 });
   // @ts-expect-error a run has no ending "stuck"
   if (guide.run(card, guide.load(card).configuration, 1).ending === "stuck") return;
+  // @ts-expect-error nothing comes that is "spent"
+  if (guide.next(card, guide.load(card).configuration).coming === "spent") return;
+  // @ts-expect-error numbers are bytes
+  guide.goOn(card, card, [0], guide.load(card).configuration, 1);
   // @ts-expect-error a master's sheet has to be there
   guide.name(card, card, null, 0);
   // @ts-expect-error there is no such sheet

@@ -1,6 +1,4 @@
-/* Programs for rigtemple_deliberate: entries, and the programs of the C programs. */
-#include <string.h>
-
+/* Programs of entries: how one is put together, and those of the C programs. */
 #include "programs.h"
 
 unsigned put_entry(struct program_bytes *program, unsigned kind, unsigned a, unsigned b)
@@ -59,22 +57,4 @@ void tower_program(struct program_bytes *program, unsigned kind)
     put_entry(program, RIGTEMPLE_ENTRY_EXECUTE, 0, 0);
     for (unsigned k = 1; k < 128; k++)
         put_entry(program, kind, kind < RIGTEMPLE_ENTRY_THEN ? 0 : k - 1, k - 1);
-}
-
-/* ---- what remains ---- */
-
-int remaining_program(struct program_bytes *to, const struct program_bytes *program,
-                      const uint8_t *remaining, unsigned count)
-{
-    unsigned greatest = 0, next;
-    for (unsigned i = 0; i < count; i++)
-        greatest = remaining[i] > greatest ? remaining[i] : greatest;
-    if (count == 0 || greatest + count > RIGTEMPLE_MOST_REMAINING)
-        return 0;
-    to->len = RIGTEMPLE_ENTRY_BYTES * (greatest + 1);
-    memcpy(to->bytes, program->bytes, to->len);
-    next = remaining[count - 1];
-    for (unsigned i = count - 1; i > 0; i--)
-        next = put_entry(to, RIGTEMPLE_ENTRY_THEN, remaining[i - 1], next);
-    return 1;
 }

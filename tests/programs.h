@@ -1,6 +1,6 @@
 /*
- * Programs for rigtemple_deliberate written in C, entry by entry, and those that the C programs
- * under tests/ and bench/ use.
+ * Programs for rigtemple_deliberate and rigtemple_go_on written in C, entry by entry, and those
+ * that the C programs under tests/ and bench/ use.
  */
 #ifndef RIGTEMPLE_TESTS_PROGRAMS_H
 #define RIGTEMPLE_TESTS_PROGRAMS_H
@@ -27,11 +27,5 @@ void fast_program(struct program_bytes *program, unsigned revisions);
  * of its parts, or for the body of a "while", on node 0 if on a belief. Of choices there are 2^127
  * where each is looked at by itself, of sequences 2^127 actions, and of "while" 128 can remain. */
 void tower_program(struct program_bytes *program, unsigned kind);
-
-/* The program that goes on with what remains of another, as the header has it: the entries up to
- * the greatest of the numbers, and those that join them. Whether there is room for it; with no
- * number there is none. */
-int remaining_program(struct program_bytes *to, const struct program_bytes *program,
-                      const uint8_t *remaining, unsigned count);
 
 #endif

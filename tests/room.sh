@@ -1,6 +1,6 @@
 #!/usr/bin/env bash
 # Measures the room that the guide needs: the deepest stack of each call through the header (tests/stack.sh), what an app lends with
-# the largest card, and the stack of the program. The last line is 'N passed, M failed': each call within 2,048 bytes, reading a text
+# the largest card, and the stack of the program. The last line is 'N passed, M failed': each call within 2,304 bytes, reading a text
 # within 33,792, and all together, and the program, within 65,536.
 #
 #   tests/room.sh
@@ -24,7 +24,7 @@ calls=$("$root/tests/stack.sh" | grep ' bytes of stack') || die "tests/stack.sh 
 deepest=0
 reading=0
 while read -r call bytes _; do
-    bound=2048
+    bound=2304
     [ "$call" != text ] || bound=33792
     within "the stack of $call" "$bytes" $bound
     [ "$call" != text ] || { reading=$bytes; continue; }
@@ -34,16 +34,16 @@ $calls
 END
 
 # What an app lends: the largest card, a configuration as the header lays it out, a list of every choice, the largest place, the
-# longest program and what remains of it. Names take two sheets of 65,535 bytes at most; here each has 40 bytes for each of 256 actions.
+# longest program, and what remains of it twice: to go on from, and then. Names take two sheets of 65,535 bytes at most; here each has 40 bytes for each of 256 actions.
 card=24128
 configuration=1062
 list=$((2 * 768))
 place=$((44 + 1024))
 longest=512
-remaining=128
+remaining=$((2 * 128))
 sheet=$((2 * 256 + 4 + 256 * 40))
 printf '%-42s %6d bytes\n' 'the largest card' "$card" 'a configuration' "$configuration" 'a list of 768 choices' "$list" \
-    'the largest place' "$place" 'the longest program' "$longest" 'what remains of it' "$remaining" \
+    'the largest place' "$place" 'the longest program' "$longest" 'what remains of it, twice' "$remaining" \
     'a sheet of 256 names, 40 bytes each' "$sheet"
 within 'all of it with the deepest stack' $((card + configuration + list + place + longest + remaining + deepest)) "$most"
 within 'the same with two such sheets' $((card + configuration + list + place + longest + remaining + 2 * sheet + deepest)) "$most"

@@ -6,13 +6,14 @@
 # call is measured, and what a page and an app for Android do is tried as far as it can be here. The
 # last line is 'N passed, M failed'.
 #
-#   tests/tablets.sh [--seed N] [--cases N] [--texts N] [--programs N] [--names N] [--emulated]
+#   tests/tablets.sh [--seed N] [--cases N] [--texts N] [--programs N] [--names N] [--cuts N]
+#                    [--next N] [--emulated]
 #
-# --cases, --texts, --programs and --names are those of tests/compare.py. --emulated takes Debian's
-# compiler and emulator for 64-bit Arm on an Arm machine too. Beside the kit and Python 3 it needs
-# Debian's packages nodejs and, on an Arm machine, gcc, elsewhere gcc-aarch64-linux-gnu,
-# libc6-dev-arm64-cross and qemu-user. Where there are tsc (node-typescript) and cmake, the types and
-# a build by CMake are tried too.
+# --cases, --texts, --programs, --names, --cuts and --next are those of tests/compare.py. --emulated
+# takes Debian's compiler and emulator for 64-bit Arm on an Arm machine too. Beside the kit and
+# Python 3 it needs Debian's packages nodejs and, on an Arm machine, gcc, elsewhere
+# gcc-aarch64-linux-gnu, libc6-dev-arm64-cross and qemu-user. Where there are tsc (node-typescript)
+# and cmake, the types and a build by CMake are tried too.
 set -eu
 
 die() { printf 'tablets.sh: %s\n' "$*" >&2; exit 2; }
@@ -22,6 +23,8 @@ cases=2000
 texts=50
 programs=50
 names=50
+cuts=200
+next=200
 emulated=
 while [ $# -gt 0 ]; do
     case $1 in
@@ -30,9 +33,11 @@ while [ $# -gt 0 ]; do
     --texts) texts=${2:?--texts takes a number}; shift ;;
     --programs) programs=${2:?--programs takes a number}; shift ;;
     --names) names=${2:?--names takes a number}; shift ;;
+    --cuts) cuts=${2:?--cuts takes a number}; shift ;;
+    --next) next=${2:?--next takes a number}; shift ;;
     --emulated) emulated=yes ;;
     *) die "usage: tablets.sh [--seed N] [--cases N] [--texts N] [--programs N] [--names N]" \
-        "[--emulated]" ;;
+        "[--cuts N] [--next N] [--emulated]" ;;
     esac
     shift
 done
@@ -159,7 +164,7 @@ run_arm() { # PROGRAM ARGUMENT...
 build_arm arm_drill "$tests/header_drill.c"
 stored_arm() { run_arm arm_drill <"$root/crates/drill/stdin" | cmp - "$root/crates/drill/stdout"; }
 expect 'the stored requests on 64-bit Arm' stored_arm
-for program in eight_calls text_calls deliberate_calls name_calls; do
+for program in eight_calls next_calls text_calls deliberate_calls name_calls; do
     build_arm "$program" "$tests/$program.c" "$tests/cards.c" "$tests/programs.c" "$tests/sheets.c"
     count "$program on 64-bit Arm" run_arm "$program"
 done
@@ -168,6 +173,11 @@ done
 build_arm arm_overrun -Wl,--wrap=rigtemple_list_parts "$tests/header_drill.c" "$tests/overrun.c"
 overrun() { ended=0; run_arm arm_overrun <"$root/crates/drill/stdin" || ended=$?; [ "$ended" -eq 3 ]; }
 expect 'a guard byte that is written is seen' overrun
+
+# Reading one number more than are given faults there (signal 11).
+build_arm arm_overread -Wl,--wrap=rigtemple_go_on_parts "$tests/header_drill.c" "$tests/overread.c"
+overread() { ended=0; run_arm arm_overread <"$root/crates/drill/stdin" || ended=$?; [ "$ended" -eq 139 ]; }
+expect 'a byte that is read past the numbers is seen' overread
 
 # ---- WebAssembly
 
@@ -190,9 +200,9 @@ fi
 # ---- stack and room
 
 # All that an app lends with the largest card: the card, a configuration, a list, a place, a program
-# and what remains of it. To read a text it lends the card alone, and the text; for a name two sheets
-# too, here with 40 bytes for each of 256 actions.
-lent=$((24128 + 1062 + 2 * 768 + 44 + 1024 + 512 + 128))
+# and what remains of it, twice to go on with that. To read a text it lends the card alone, and the
+# text; for a name two sheets too, here with 40 bytes for each of 256 actions.
+lent=$((24128 + 1062 + 2 * 768 + 44 + 1024 + 512 + 2 * 128))
 sheets=$((2 * (2 * 256 + 4 + 256 * 40)))
 stack_arm() {
     build_arm stack "$tests/stack.c" "$tests/calls.c" "$tests/cards.c" "$tests/programs.c" \
@@ -251,6 +261,7 @@ expect 'stack and room in a page' within page
 
 count "seed $seed, fresh requests through both" python3 -B "$tests/compare.py" --seed "$seed" \
     --cases "$cases" --texts "$texts" --programs "$programs" --names "$names" \
+    --cuts "$cuts" --next "$next" \
     --drill "${arm_run:+$arm_run }'$room/arm_drill'" --drill "node '$tests/page_drill.mjs' '$folder'"
 grep ' requests about ' "$room/said" || :
 

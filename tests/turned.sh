@@ -1,13 +1,15 @@
 #!/bin/sh
 # The turned screen through include/rigtemple.h (tests/turned.c): the screen is turned after every
-# single move of random cards, and each run is compared with the one that was never turned. A caller
-# that forgets the phase at a turn, and one that forgets the finished count, have to be found. The
-# last line is 'N passed, M failed'.
+# single move of random cards, and each run is compared with the one that was never turned, and what
+# comes next is told before each. Deliberations are cut anywhere, and gone on with from the numbers
+# that remain. A caller that forgets the phase at a turn, one that forgets the finished count, and
+# one that forgets the numbers have to be found. The last line is 'N passed, M failed'.
 #
 #   tests/turned.sh [--engine] [--seed N] [--cards N] [--largest BYTES]
 #
 # The cards are made by oracle/ from the seed: so many good ones, each with four configurations that
-# it accepts and one that it refuses, and a tenth as many damaged ones. --engine puts the C engine of
+# it accepts and one that it refuses, and three programs, now and then broken; and a tenth as many
+# damaged ones. --engine puts the C engine of
 # bench/ in the library's place.
 set -eu
 
@@ -36,7 +38,7 @@ mkdir -p "$work"
 archive=$("$tests/archive.sh" $engine)
 "$tests/build_c.sh" "$work/turned" "$tests/turned.c" "$archive"
 
-# The drill's requests 0 and 6: a card, and the runs on it.
+# The drill's requests 0, 6 and 11: a card, the runs on it, and the deliberations.
 PYTHONPATH=$root/oracle python3 -B - "$seed" "$cards" "$largest" >"$work/turned.requests" <<'END'
 import itertools
 import sys
@@ -47,6 +49,7 @@ import cases
 import damage
 import drill
 import guide
+import schemes
 
 seed, count, largest = sys.argv[1], int(sys.argv[2]), int(sys.argv[3])
 items = itertools.cycle(cases.damage_order(seed))
@@ -71,14 +74,24 @@ def put(random, card, held):
         sys.stdout.buffer.write(cases.request_about(random, drill.RUN, configuration, budget))
 
 
+def put_programs(random, card, accepted, held):
+    for _ in range(3):
+        whole, found = schemes.some_program(random, card, accepted, random.choice(held))
+        budget = random.choice((3, 10, 20, 40))
+        sys.stdout.buffer.write(cases.request_deliberate(random, whole, found, budget))
+
+
 for index in range(count):
     random = Random("%s turned %d" % (seed, index))
     card = cards.card(cards.good_card(random, largest))
     _, accepted = guide.judge(card)
     held = cases.some_configurations(random, card, accepted)
-    put(random, card, held + [damaged_configuration(random, accepted, held[0])])
+    refused = damaged_configuration(random, accepted, held[0])
+    put(random, card, held + [refused])
+    put_programs(random, card, accepted, held + [refused])
     if index % 10 == 0:
         put(random, damaged_card(random), [guide.EMPTY, held[0]])
+        put_programs(random, card, accepted, held)
 END
 
 said=$("$tests/run_c.sh" "$work/turned" <"$work/turned.requests") || true
@@ -93,7 +106,7 @@ failed=${last##*passed, }
 failed=${failed% failed}
 
 # The controls: what is forgotten at a turn is found.
-for forgotten in phase count; do
+for forgotten in phase count numbers; do
     found=$("$tests/run_c.sh" "$work/turned" "$forgotten" <"$work/turned.requests" | tail -n 1) || true
     case $found in
     *' passed, 0 failed' | '') failed=$((failed + 1)) what='is not found' ;;

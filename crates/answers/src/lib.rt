@@ -2,10 +2,11 @@
 ghost use mathlib.Core.Path.{_≡_};
 ghost use Prim.Native.Nat.{_<_};
 ghost use Rattle.meaning.specs.Refusals.{numberOf, answerNumber, carried, answerCarried};
-ghost use Rattle.meaning.specs.Numbers.{sheetNumber, endingNumber, verdictNumber, offenderNumber, offenderRule, verdictOffender, verdictRule};
+ghost use Rattle.meaning.specs.Numbers.{sheetNumber, endingNumber, comingNumber, comingChoice, verdictNumber, offenderNumber, offenderRule, verdictOffender, verdictRule};
 ghost use Rattle.deliberation.specs.Deliberate.{deliberationEndingNumber};
 use deliberation::DeliberationEnding;
 use meaning::Answer;
+use meaning::Coming;
 use meaning::Refusal;
 use runs::Ending;
 use runs::Offender;
@@ -92,6 +93,28 @@ pub fn ending_number(e: Ending) -> u8
         Ending::Spent => 0,
         Ending::Rest => 1,
         Ending::Full => 2,
+    }
+}
+
+// The number of what comes next.
+pub fn coming_number(k: Coming) -> u8
+    ensures { λ n. ⌜ n ≡ comingNumber k ⌝ }
+{
+    match k {
+        Coming::Move(_) => 0,
+        Coming::Rest => 1,
+        Coming::Full(_) => 2,
+    }
+}
+
+// The code of what comes next, 0 at rest.
+pub fn coming_choice(k: Coming) -> u16
+    ensures { λ n. ⌜ n ≡ comingChoice k ⌝ }
+{
+    match k {
+        Coming::Move(code) => code,
+        Coming::Rest => 0,
+        Coming::Full(code) => code,
     }
 }
 

@@ -1,4 +1,4 @@
--- The contract of each of the twelve functions for C, by the one name that its `ensures` cites, and that it leaves one answer
+-- The contract of each of the fourteen functions for C, by the one name that its `ensures` cites, and that it leaves one answer
 -- (proved in proofs/). n is the return value. What is lent to be written is named as it is left: c for a configuration's six
 -- parts, left for a list, a place, a card or a text, the others as in include/rigtemple.h. What is lent to be read stays as it is.
 use mathlib.Core.Path.{_≡_}
@@ -7,14 +7,14 @@ use Prim.Native.Nat.{ℕ}
 use Rattle.meaning.specs.declared.Answer.{Answer}
 use Rattle.meaning.specs.declared.Configuration.{Configuration}
 use Rattle.meaning.specs.Card.{Bytes}
-use Rattle.meaning.specs.Calls.{checks, loads, grades, lists, listLeaves, takes, runs, saves, saveLeaves, restores}
+use Rattle.meaning.specs.Calls.{checks, loads, grades, lists, listLeaves, takes, runs, nexts, saves, saveLeaves, restores}
 use Rattle.meaning.specs.Refusals.{answerNumber}
 use Rattle.meaning.specs.Numbers.{checkedNumber}
 use Rattle.notation.specs.Reading.{Reads}
 use Rattle.notation.specs.Printing as Printing
-use Rattle.deliberation.specs.Deliberate.{deliberates}
+use Rattle.deliberation.specs.Deliberate.{goesOn, deliberates}
 use Rattle.names.specs.Naming.{Question, names}
-use Rattle.board.specs.Header.{whole, replied, took, gradedAs, wrote, readAs, ranTo, deliberatedTo, namedAs}
+use Rattle.board.specs.Header.{whole, replied, took, gradedAs, wrote, readAs, ranTo, nextAs, deliberatedTo, namedAs}
 
 -- ---- the contracts
 
@@ -45,11 +45,20 @@ Takes card d choice n c node = took (takes card d choice) n c node
 abbrev pub Runs : Bytes → Configuration → ℕ → ℕ → Configuration → ℕ → ℕ → Type 0
 Runs card d budget n c count ending = ranTo (runs card d budget) n c count ending
 
+-- 00, the card: "The guide shows the next move.": of a configuration d, and which it is.
+abbrev pub Nexts : Bytes → Configuration → ℕ → ℕ → ℕ → Type 0
+Nexts card d n coming choice = nextAs (nexts card d) n coming choice
+
 -- 02, Wish 6: a program under a card, from a configuration d. "The answer holds the remaining program as entry numbers, the next
--- first": remaining, of which length are such, and zeros behind them.
-abbrev pub Deliberates : Bytes → Bytes → Configuration → ℕ → ℕ → Configuration → ℕ → ℕ → Bytes → ℕ → Type 0
-Deliberates card program d budget n c count ending remaining length =
-    deliberatedTo (deliberates card program d budget) n c count ending remaining length
+-- first": remaining, of which length are such, and zeros behind them. In a refusal none of the lent bytes is written.
+abbrev pub Deliberates : Bytes → Bytes → Configuration → ℕ → Bytes → ℕ → Configuration → ℕ → ℕ → Bytes → ℕ → Type 0
+Deliberates card program d budget lent n c count ending remaining length =
+    deliberatedTo (deliberates card program d budget lent) n c count ending remaining length
+
+-- the same from given numbers that remain of the program
+abbrev pub GoesOn : Bytes → Bytes → List ℕ → Configuration → ℕ → Bytes → ℕ → Configuration → ℕ → ℕ → Bytes → ℕ → Type 0
+GoesOn card program numbers d budget lent n c count ending remaining length =
+    deliberatedTo (goesOn card program numbers d budget lent) n c count ending remaining length
 
 -- 01, "What the guide does": "save a place": of a configuration d, into a place. "Saving writes 44 + L bytes and no others."
 abbrev pub Saves : Bytes → Configuration → Bytes → ℕ → Bytes → ℕ → Type 0
@@ -92,10 +101,17 @@ pub record DeterminedParts : Type 0 where
   pub run : (card : Bytes) (d : Configuration) (budget n n′ : ℕ) (c c′ : Configuration) (count count′ ending ending′ : ℕ)
       → Runs card d budget n c count ending → Runs card d budget n′ c′ count′ ending′
       → (n ≡ n′) × (c ≡ c′) × (count ≡ count′) × (ending ≡ ending′)
-  pub deliberate : (card program : Bytes) (d : Configuration) (budget n n′ : ℕ) (c c′ : Configuration) (count count′ ending ending′ : ℕ)
-      (remaining remaining′ : Bytes) (length length′ : ℕ)
-      → Deliberates card program d budget n c count ending remaining length
-      → Deliberates card program d budget n′ c′ count′ ending′ remaining′ length′
+  pub next : (card : Bytes) (d : Configuration) (n n′ coming coming′ choice choice′ : ℕ)
+      → Nexts card d n coming choice → Nexts card d n′ coming′ choice′ → (n ≡ n′) × (coming ≡ coming′) × (choice ≡ choice′)
+  pub deliberate : (card program : Bytes) (d : Configuration) (budget : ℕ) (lent : Bytes) (n n′ : ℕ) (c c′ : Configuration)
+      (count count′ ending ending′ : ℕ) (remaining remaining′ : Bytes) (length length′ : ℕ)
+      → Deliberates card program d budget lent n c count ending remaining length
+      → Deliberates card program d budget lent n′ c′ count′ ending′ remaining′ length′
+      → (n ≡ n′) × (c ≡ c′) × (count ≡ count′) × (ending ≡ ending′) × (remaining ≡ remaining′) × (length ≡ length′)
+  pub go-on : (card program : Bytes) (numbers : List ℕ) (d : Configuration) (budget : ℕ) (lent : Bytes) (n n′ : ℕ) (c c′ : Configuration)
+      (count count′ ending ending′ : ℕ) (remaining remaining′ : Bytes) (length length′ : ℕ)
+      → GoesOn card program numbers d budget lent n c count ending remaining length
+      → GoesOn card program numbers d budget lent n′ c′ count′ ending′ remaining′ length′
       → (n ≡ n′) × (c ≡ c′) × (count ≡ count′) × (ending ≡ ending′) × (remaining ≡ remaining′) × (length ≡ length′)
   pub save : (card : Bytes) (d : Configuration) (place left left′ : Bytes) (n n′ count count′ : ℕ)
       → Saves card d place n left count → Saves card d place n′ left′ count′ → (n ≡ n′) × (left ≡ left′) × (count ≡ count′)

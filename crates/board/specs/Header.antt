@@ -8,9 +8,10 @@ use Rattle.meaning.specs.declared.Reply.{Reply}
 use Rattle.meaning.specs.declared.Graded.{Graded}
 use Rattle.meaning.specs.declared.Written.{Written}
 use Rattle.meaning.specs.declared.Ran.{Ran}
+use Rattle.meaning.specs.declared.Next.{Next}
 use Rattle.meaning.specs.Card.{Bytes}
 use Rattle.meaning.specs.Refusals.{answerNumber, answerCarried}
-use Rattle.meaning.specs.Numbers.{sheetNumber, endingNumber, verdictNumber, verdictOffender, verdictRule}
+use Rattle.meaning.specs.Numbers.{sheetNumber, endingNumber, comingNumber, comingChoice, verdictNumber, verdictOffender, verdictRule}
 use Rattle.deliberation.specs.declared.Deliberated.{Deliberated}
 use Rattle.deliberation.specs.Deliberate.{deliberationEndingNumber}
 use Rattle.names.specs.declared.Named.{Named}
@@ -52,6 +53,10 @@ ranTo x n c count ending =
     × (c ≡ x .configuration)
     × (count ≡ x .count)
     × (ending ≡ endingNumber (x .ending))
+
+-- of `next`: what comes, and its code
+abbrev pub nextAs : Next → ℕ → ℕ → ℕ → Type 0
+nextAs x n coming choice = (n ≡ answerNumber (x .answer)) × (coming ≡ comingNumber (x .coming)) × (choice ≡ comingChoice (x .coming))
 
 -- of `deliberate`: how many moves, why it ended, and the numbers that remain, in 128 bytes, with how many they are
 abbrev pub deliberatedTo : Deliberated → ℕ → Configuration → ℕ → ℕ → Bytes → ℕ → Type 0

@@ -1,11 +1,13 @@
-// The board: the guide's twelve calls for C, as include/rigtemple.h declares them. A configuration is lent in its six parts;
+// The board: the guide's fourteen calls for C, as include/rigtemple.h declares them. A configuration is lent in its six parts;
 // the return value is the answer's number.
 ghost use mathlib.Core.Path.{_≡_};
 ghost use Rattle.names.specs.Naming.{asked};
 ghost use Rattle.board.specs.Header.{whole};
-ghost use Rattle.board.specs.Determined.{Checks, Loads, Grades, Lists, Takes, Runs, Deliberates, Saves, Restores, ReadsText, Prints, Names};
+ghost use Rattle.board.specs.Determined.{Checks, Loads, Grades, Lists, Takes, Runs, Nexts, Deliberates, GoesOn, Saves, Restores, ReadsText, Prints, Names};
 use answers::answer_carried;
 use answers::answer_number;
+use answers::coming_choice;
+use answers::coming_number;
 use answers::deliberation_ending_number;
 use answers::ending_number;
 use answers::refusal_number;
@@ -157,7 +159,7 @@ pub extern "C" fn rigtemple_run_parts(
 }
 
 // The configuration after at most budget moves of a deliberation program, how many they were, how it ended, and the numbers that
-// remain: all 128 are written, the next first, then zeros.
+// remain: all 128 are written, the next first, then zeros. A refusal writes none of them.
 #[no_mangle]
 pub extern "C" fn rigtemple_deliberate_parts(
     card: &[u8],
@@ -176,7 +178,7 @@ pub extern "C" fn rigtemple_deliberate_parts(
 ) -> u16
     ensures { λ r. ⌜ Deliberates (now (card .entry)) (now (program .entry))
         (whole (now (beliefs .entry)) (now (goals .entry)) (now (plan .entry)) (now (length .entry)) (now (phase .entry))
-        (now (finished .entry))) budget r
+        (now (finished .entry))) budget (now (remaining .entry)) r
         (whole (now (beliefs .exit)) (now (goals .exit)) (now (plan .exit)) (now (length .exit)) (now (phase .exit))
         (now (finished .exit)))
         (now (count .exit)) (now (ending .exit)) (now (remaining .exit)) (now («remaining_length» .exit)) ⌝ }
@@ -192,6 +194,43 @@ pub extern "C" fn rigtemple_deliberate_parts(
     let m = made.mind;
     put(m, beliefs, goals, length, phase, finished);
     *count = made.count;
+    *remaining_length = made.length;
+    let e = made.ending;
+    *ending = deliberation_ending_number(e);
+    let a = made.answer;
+    answer_number(a)
+}
+
+// The same from given numbers that remain of the program, the next first.
+#[no_mangle]
+pub extern "C" fn rigtemple_go_on_parts(
+    card: &[u8],
+    program: &[u8],
+    numbers: &[u8],
+    beliefs: &mut Set,
+    goals: &mut Set,
+    plan: &mut Plan,
+    length: &mut u16,
+    phase: &mut u8,
+    finished: &mut u16,
+    budget: u16,
+    moves: &mut u16,
+    ending: &mut u8,
+    remaining: &mut [u8; 128],
+    remaining_length: &mut u8,
+) -> u16
+    ensures { λ r. ⌜ GoesOn (now (card .entry)) (now (program .entry)) (now (numbers .entry))
+        (whole (now (beliefs .entry)) (now (goals .entry)) (now (plan .entry)) (now (length .entry)) (now (phase .entry))
+        (now (finished .entry))) budget (now (remaining .entry)) r
+        (whole (now (beliefs .exit)) (now (goals .exit)) (now (plan .exit)) (now (length .exit)) (now (phase .exit))
+        (now (finished .exit)))
+        (now (moves .exit)) (now (ending .exit)) (now (remaining .exit)) (now («remaining_length» .exit)) ⌝ }
+{
+    let before = mind(beliefs, goals, *length, *phase, *finished);
+    let made = deliberate::call::go_on(card, program, numbers, before, plan, budget, remaining);
+    let m = made.mind;
+    put(m, beliefs, goals, length, phase, finished);
+    *moves = made.count;
     *remaining_length = made.length;
     let e = made.ending;
     *ending = deliberation_ending_number(e);
@@ -247,6 +286,31 @@ pub extern "C" fn rigtemple_list_parts(
     );
     *count = listed.count;
     let a = listed.answer;
+    answer_number(a)
+}
+
+// The guide's own next move, which is not made: whether there is one, and its code. A refusal says rest.
+#[no_mangle]
+pub extern "C" fn rigtemple_next_parts(
+    card: &[u8],
+    beliefs: &Set,
+    goals: &Set,
+    plan: &Plan,
+    length: u16,
+    phase: u8,
+    finished: u16,
+    coming: &mut u8,
+    choice: &mut u16,
+) -> u16
+    ensures { λ r. ⌜ Nexts (now (card .entry))
+        (whole (now (beliefs .entry)) (now (goals .entry)) (now (plan .entry)) length phase finished) r
+        (now (coming .exit)) (now (choice .exit)) ⌝ }
+{
+    let next = moves::next::next(card, mind(beliefs, goals, length, phase, finished), plan);
+    let k = next.coming;
+    *coming = coming_number(k);
+    *choice = coming_choice(k);
+    let a = next.answer;
     answer_number(a)
 }
 

@@ -1,23 +1,23 @@
 -- What asking for a choice of a card answers, by the marks and the plan's bytes.
 use mathlib.Core.Path.{_≡_, refl, ap, ap₂, _∙_, sym}
-use mathlib.Core.Bool.{Bool, true, not, _&&_}
+use mathlib.Core.Bool.{Bool, true, false, not, _&&_}
 use mathlib.Core.List.{List}
 use Prim.Native.Nat.{ℕ, _<_}
 use native.Mathlib.Omega.{arith}
 use borrow.Author.Tests.{lt-ltb}
 use lib.Dec.{eqb}
 use lib.ListN.{take, getD}
-use Rattle.paper.specs.Language.{Letter, 𝐁, 𝐆}
+use Rattle.paper.specs.Language.{Letter, 𝐁, 𝐆, Config}
 use Rattle.paper.specs.Transitions.{Choice, select, act, revise}
-use Rattle.paper.specs.Next.{isPrefix}
+use Rattle.paper.specs.Next.{isPrefix, enabled}
 use Rattle.meaning.specs.declared.Layout.{Layout}
 use Rattle.meaning.specs.declared.Configuration.{Configuration}
-use Rattle.meaning.specs.Card.{Bytes, plan, specificationAt, selectionAt, revisionAt}
+use Rattle.meaning.specs.Card.{Bytes, plan, specificationAt, selectionAt, revisionAt, agentFor}
 use Rattle.meaning.specs.Configurations.{stateOf}
 use Rattle.meaning.specs.Refusals.{other}
 use Rattle.card.specs.GoodCard.{GoodCondition}
 use Rattle.door.specs.Asking.{judging, both, isThere, frontFits, conditionsOf, askedBy, asked}
-use Rattle.door.proofs.Asking.{empty-exactly, first-exactly}
+use Rattle.door.proofs.Asking.{isEnabled, asked-is, empty-exactly, first-exactly}
 use Rattle.choices.specs.Judged.{markAt, Judged}
 use Rattle.choices.proofs.OnePass.{one-pass-of}
 
@@ -61,3 +61,84 @@ module _ (l : Layout) (b : Bytes) (c : Configuration) (marks : List ℕ) (j : Ju
         → askedBy true (isPrefix (plan l b (revisionAt l b i .head)) (take n d)) (markAt marks (revisionAt l b i .node)) ≡ asked l b (stateOf c .mental) (revise i)
     unfolding stateOf
     asks-revision h = asks (revise i) _ _ (lt-ltb i (l .revisions .count) h) refl (marked 𝐁 _ (j .ready .card .revisions i h .belief))
+
+-- a choice of the card is enabled if its front fits and its conditions hold
+module _ (l : Layout) (b : Bytes) (s : Config) (k : Choice) (front : Bool) (p : Bool × ℕ) (e : askedBy true front p ≡ asked l b s k) where
+  enabled-so : (front && p .0) ≡ enabled (agentFor l b) s k
+  enabled-so = by-both front (p .0) (p .1) ∙ asked-is l b s k _ _ e refl
+    where
+      by-both : (f h : Bool) (n : ℕ) → (f && h) ≡ isEnabled (askedBy true f (h, n))
+      by-both true true n = refl
+      by-both true false n = refl
+      by-both false h n = refl
+
+  no-front : front ≡ false → false ≡ enabled (agentFor l b) s k
+  no-front f = ap (λ t. t && p .0) (sym f) ∙ enabled-so
+
+  not-held : p .0 ≡ false → false ≡ enabled (agentFor l b) s k
+  not-held f = sym (and-false front) ∙ ap (λ t. front && t) (sym f) ∙ enabled-so
+    where
+      and-false : (t : Bool) → (t && false) ≡ false
+      and-false true = refl
+      and-false false = refl
+
+  held : p .0 ≡ true → front ≡ enabled (agentFor l b) s k
+  held f = sym (and-true front) ∙ ap (λ t. front && t) (sym f) ∙ enabled-so
+    where
+      and-true : (t : Bool) → (t && true) ≡ t
+      and-true true = refl
+      and-true false = refl
+
+  fitting : front ≡ true → p .0 ≡ enabled (agentFor l b) s k
+  fitting f = ap (λ t. t && p .0) (sym f) ∙ enabled-so
+
+-- of a specification: whether there is an action at all, and whether the first is its own
+module _ (l : Layout) (b : Bytes) (s : Config) (k : Choice) (some same : Bool) (p : Bool × ℕ) (e : askedBy true (some && same) p ≡ asked l b s k) where
+  other-action : same ≡ false → false ≡ enabled (agentFor l b) s k
+  other-action f = no-front l b s k (some && same) p e (ap (λ t. some && t) f ∙ and-false some)
+    where
+      and-false : (t : Bool) → (t && false) ≡ false
+      and-false true = refl
+      and-false false = refl
+
+  same-action : same ≡ true → (some && p .0) ≡ enabled (agentFor l b) s k
+  same-action f = ap (λ t. t && p .0) (sym (ap (λ t. some && t) f ∙ and-true some)) ∙ enabled-so l b s k (some && same) p e
+    where
+      and-true : (t : Bool) → (t && true) ≡ t
+      and-true true = refl
+      and-true false = refl
+
+-- the same of each kind, by the marks and the plan's bytes
+module _ (l : Layout) (b : Bytes) (c : Configuration) (marks : List ℕ) (j : Judged l b c marks) (i : ℕ) where
+  abbrev now-enabled : Choice → Bool
+  now-enabled = enabled (agentFor l b) (stateOf c .mental)
+
+  module _ (h : i < l .selections .count) where
+    abbrev holding : Bool × ℕ
+    holding = both (markAt marks (selectionAt l b i .belief)) (markAt marks (selectionAt l b i .goal))
+
+    pub selection-shut : eqb (c .mind .length) 0 ≡ false → false ≡ now-enabled (select i)
+    selection-shut = no-front l b (stateOf c .mental) (select i) (eqb (c .mind .length) 0) holding (asks-selection l b c marks j i h)
+
+    pub selection-by : eqb (c .mind .length) 0 ≡ true → holding .0 ≡ now-enabled (select i)
+    selection-by = fitting l b (stateOf c .mental) (select i) (eqb (c .mind .length) 0) holding (asks-selection l b c marks j i h)
+
+  module _ (h : i < l .specifications .count) where
+    abbrev own : Bool
+    own = eqb (specificationAt l b i .action) (getD (c .plan) 0 0)
+
+    pub specification-shut : own ≡ false → false ≡ now-enabled (act i)
+    specification-shut = other-action l b (stateOf c .mental) (act i) (not (eqb (c .mind .length) 0)) own (markAt marks (specificationAt l b i .node)) (asks-specification l b c marks j i h)
+
+    pub specification-by : own ≡ true → (not (eqb (c .mind .length) 0) && markAt marks (specificationAt l b i .node) .0) ≡ now-enabled (act i)
+    specification-by = same-action l b (stateOf c .mental) (act i) (not (eqb (c .mind .length) 0)) own (markAt marks (specificationAt l b i .node)) (asks-specification l b c marks j i h)
+
+  module _ (h : i < l .revisions .count) where
+    abbrev starting : Bool
+    starting = isPrefix (plan l b (revisionAt l b i .head)) (take (c .mind .length) (c .plan))
+
+    pub revision-shut : markAt marks (revisionAt l b i .node) .0 ≡ false → false ≡ now-enabled (revise i)
+    revision-shut = not-held l b (stateOf c .mental) (revise i) starting (markAt marks (revisionAt l b i .node)) (asks-revision l b c marks j i h)
+
+    pub revision-by : markAt marks (revisionAt l b i .node) .0 ≡ true → starting ≡ now-enabled (revise i)
+    revision-by = held l b (stateOf c .mental) (revise i) starting (markAt marks (revisionAt l b i .node)) (asks-revision l b c marks j i h)

@@ -2,10 +2,11 @@
 use mathlib.Core.Path.{_≡_, ap, sym, _∙_}
 use mathlib.Core.Bool.{Bool, true, false, not, _&&_, _||_}
 use mathlib.Core.List.{List}
-use Prim.Native.Nat.{ℕ, _+_, _/_, _%_, _<_}
+use Prim.Native.Nat.{ℕ, _+_, _%_, _<_}
 use native.Mathlib.Omega.{arith}
 use borrow.Author.Count.{below-more}
-use lib.Dec.{eqb}
+use lib.Dec.{leb}
+use borrow.Author.Tests.{le-leb, lt-leb}
 use lib.ListN.{length, set}
 use lib.Seq.{getD-set-same, getD-set-other}
 use Rattle.paper.specs.Next.{if}
@@ -15,15 +16,15 @@ use Rattle.choices.specs.Judged.{ofMark, markAt, either}
 module _ (v : Bool) (n : ℕ) (h : n < 256) where
   pub tells-true : v ≡ true → ofMark (256 + n) ≡ (v, n)
   tells-true e =
-      let d : (256 + n) / 256 ≡ 1 = omega arith in
+      let d : leb 256 (256 + n) ≡ true = le-leb 256 (256 + n) (omega arith) in
       let m : (256 + n) % 256 ≡ n = omega arith in
-      (λ i. (eqb (d i) 1, m i)) ∙ ap (λ v. (v, n)) (sym e)
+      (λ i. (d i, m i)) ∙ ap (λ v. (v, n)) (sym e)
 
   pub tells-false : v ≡ false → ofMark n ≡ (v, n)
   tells-false e =
-      let d : n / 256 ≡ 0 = omega arith in
+      let d : leb 256 n ≡ false = lt-leb 256 n h in
       let m : n % 256 ≡ n = omega arith in
-      (λ i. (eqb (d i) 1, m i)) ∙ ap (λ v. (v, n)) (sym e)
+      (λ i. (d i, m i)) ∙ ap (λ v. (v, n)) (sym e)
 
 module _ (p q : Bool × ℕ) where
   abbrev bothBy : Bool → Bool × ℕ

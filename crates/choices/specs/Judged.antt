@@ -2,8 +2,8 @@
 use mathlib.Core.Path.{_≡_}
 use mathlib.Core.Bool.{Bool, false, _||_}
 use mathlib.Core.List.{List}
-use Prim.Native.Nat.{ℕ, _/_, _%_, _<_}
-use lib.Dec.{eqb}
+use Prim.Native.Nat.{ℕ, _%_, _<_}
+use lib.Dec.{leb}
 use lib.ListN.{getD}
 use Rattle.paper.specs.Next.{if}
 use Rattle.meaning.specs.declared.Layout.{Layout}
@@ -16,7 +16,7 @@ use Rattle.choices.specs.OnePass.{kept}
 -- 02, Wish 3: "one mark and the settling atom", by their number: that of the node that settled it, and 256 more where the mark
 -- is true
 abbrev pub ofMark : ℕ → Bool × ℕ
-ofMark mark = (eqb (mark / 256) 1, mark % 256)
+ofMark mark = (leb 256 mark, mark % 256)
 
 -- of a node
 abbrev pub markAt : List ℕ → ℕ → Bool × ℕ

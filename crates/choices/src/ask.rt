@@ -106,6 +106,56 @@ pub fn ask(card: &[u8], l: Layout, m: Mind, plan: &Plan, marks: &Marks, kind: u8
     ask_entry(card, l, m, plan, marks, kind, i)
 }
 
+// Whether selection rule i is enabled: the plan is looked at first.
+fn selection_enabled(card: &[u8], l: Layout, m: Mind, plan: &Plan, marks: &Marks, i: usize) -> bool
+    requires { ⌜ Judged l (now card) (configured m (now plan)) (now marks) × (i < l .selections .count) ⌝ }
+    ensures { λ r. ⌜ r ≡ enabled (agentFor l (now (card .entry))) (stateOf (configured m (now (plan .entry))) .mental) (select i) ⌝ }
+{
+    if m.length != 0 {
+        return false;
+    }
+    let e = read_selection(card, l, i);
+    let belief = marks[e.belief as usize];
+    let goal = marks[e.goal as usize];
+    is_true(belief) & is_true(goal)
+}
+
+// Whether specification i is enabled: its action is looked at first.
+fn specification_enabled(
+    card: &[u8],
+    l: Layout,
+    m: Mind,
+    plan: &Plan,
+    marks: &Marks,
+    i: usize,
+) -> bool
+    requires { ⌜ Judged l (now card) (configured m (now plan)) (now marks) × (i < l .specifications .count) ⌝ }
+    ensures { λ r. ⌜ r ≡ enabled (agentFor l (now (card .entry))) (stateOf (configured m (now (plan .entry))) .mental) (act i) ⌝ }
+{
+    let e = read_specification(card, l, i);
+    let first = plan[0];
+    if e.action != first {
+        return false;
+    }
+    let belief = marks[e.node as usize];
+    (m.length != 0) & is_true(belief)
+}
+
+// Whether revision rule i is enabled: its condition is looked at first.
+fn revision_enabled(card: &[u8], l: Layout, m: Mind, plan: &Plan, marks: &Marks, i: usize) -> bool
+    requires { ⌜ Judged l (now card) (configured m (now plan)) (now marks) × (i < l .revisions .count) ⌝ }
+    ensures { λ r. ⌜ r ≡ enabled (agentFor l (now (card .entry))) (stateOf (configured m (now (plan .entry))) .mental) (revise i) ⌝ }
+{
+    let e = read_revision(card, l, i);
+    let belief = marks[e.node as usize];
+    if !is_true(belief) {
+        return false;
+    }
+    let head = e.head;
+    let at = pool_at(l, head.start);
+    plans::starts_with(card, at, head.length, plan, m.length as usize)
+}
+
 // Whether a choice that the card has is enabled.
 pub fn is_enabled(
     card: &[u8],
@@ -119,12 +169,10 @@ pub fn is_enabled(
     requires { ⌜ Judged l (now card) (configured m (now plan)) (now marks) × (kind < 3) × (i < countOf l kind) ⌝ }
     ensures { λ r. ⌜ r ≡ enabled (agentFor l (now (card .entry))) (stateOf (configured m (now (plan .entry))) .mental) (choiceAt kind i) ⌝ }
 {
-    let answer = ask_entry(card, l, m, plan, marks, kind, i);
-    match answer {
-        Asked::Enabled => true,
-        Asked::NoRule => false,
-        Asked::Front => false,
-        Asked::Condition(_) => false,
+    match kind {
+        0 => selection_enabled(card, l, m, plan, marks, i),
+        1 => specification_enabled(card, l, m, plan, marks, i),
+        _ => revision_enabled(card, l, m, plan, marks, i),
     }
 }
 
@@ -143,15 +191,10 @@ pub fn first_of_kind(
     let n = count_of(l, kind);
     let mut i: usize = 0;
     while i < n {
-        let answer = ask_entry(card, l, m, plan, marks, kind, i);
-        match answer {
-            Asked::Enabled => {
-                return Chosen::At(kind, i);
-            }
-            Asked::NoRule => i += 1,
-            Asked::Front => i += 1,
-            Asked::Condition(_) => i += 1,
+        if is_enabled(card, l, m, plan, marks, kind, i) {
+            return Chosen::At(kind, i);
         }
+        i += 1;
     }
     Chosen::Nothing
 }

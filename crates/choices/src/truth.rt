@@ -1,9 +1,10 @@
 // Conditions, judged in one pass over the nodes from the lowest upward. 02, Wish 3: "keeping one mark and the settling atom for
 // each node".
 ghost use mathlib.Core.Path.{_≡_};
-ghost use mathlib.Core.Bool.{Bool};
-ghost use Prim.Native.Nat.{ℕ, _≤_};
+ghost use mathlib.Core.Bool.{Bool, not};
+ghost use Prim.Native.Nat.{ℕ, _≤_, _<_};
 ghost use lib.ListN.{length, replicate};
+ghost use Rattle.paper.specs.Atoms.{_∈_};
 ghost use Rattle.meaning.specs.Kinds.{nodeKind};
 ghost use Rattle.card.specs.GoodCard.{GoodCard};
 ghost use Rattle.door.specs.Asking.{both};
@@ -13,6 +14,7 @@ use layout::entries::read_node;
 use meaning::Layout;
 use meaning::Mind;
 use meaning::Node;
+use meaning::Set;
 
 // Of each node one mark and the settling atom, in one number: the number of the node that settled it, and 256 more where its
 // condition holds.
@@ -22,7 +24,7 @@ pub type Marks = [u16; 256];
 pub fn is_true(mark: u16) -> bool
     ensures { λ r. ⌜ r ≡ ofMark mark .0 ⌝ }
 {
-    mark / 256 == 1
+    256 <= mark
 }
 
 // The node that settled it.
@@ -57,27 +59,38 @@ fn one_of(left: u16, right: u16) -> u16
     if is_true(left) { left } else { right }
 }
 
-// 02, Wish 1: "Judging a condition should also name the atom that settled it: for an atom or "true", that node; for "not", its
-// child's": node i, by the marks of the lower nodes.
-fn judge(i: u8, x: Node, m: Mind, marks: &Marks) -> u16
-    requires { ⌜ x .kind ≤ 5 ⌝ }
-    ensures { λ r. ⌜ ofMark r ≡ keptOf i (nodeKind (x .kind)) (x .a) (x .b) (m .beliefs) (m .goals) (markAt (now (marks .entry))) ⌝ }
+// Whether an atom is in a set, read where the set stands.
+fn has_atom(s: &Set, k: u8) -> bool
+    requires { ⌜ k < 128 ⌝ }
+    ensures { λ r. ⌜ r ≡ (k ∈ now (s .entry)) ⌝ }
+{
+    let i = (k / 8) as usize;
+    (s[i] >> (k % 8)) % 2 == 1
+}
+
+// "for "not", its child's", of the child's mark.
+fn not_of(mark: u16) -> u16
+    ensures { λ r. ⌜ _≡_ {A = Bool × ℕ} (ofMark r) (not (ofMark mark .0), ofMark mark .1) ⌝ }
+{
+    mark_of(!is_true(mark), settler(mark))
+}
+
+// 02, Wish 1: "Judging a condition should also name the atom that settled it: for an atom or "true", that node": node i, by the
+// marks of the lower nodes.
+fn judge(i: u8, x: Node, beliefs: &Set, goals: &Set, marks: &Marks) -> u16
+    requires { ⌜ (x .kind ≤ 5) × (1 ≤ x .kind → x .kind ≤ 2 → x .a < 128) ⌝ }
+    ensures { λ r. ⌜ ofMark r ≡ keptOf i (nodeKind (x .kind)) (x .a) (x .b) (now (beliefs .entry)) (now (goals .entry)) (markAt (now (marks .entry))) ⌝ }
 {
     let kind = x.kind;
     let a = x.a;
     let b = x.b;
-    let beliefs = m.beliefs;
-    let goals = m.goals;
-    let left = marks[a as usize];
-    let right = marks[b as usize];
-    let child = settler(left);
     match kind {
         0 => mark_of(true, i),
-        1 => mark_of(sets::member(beliefs, a), i),
-        2 => mark_of(sets::member(goals, a), i),
-        3 => mark_of(!is_true(left), child),
-        4 => both_of(left, right),
-        _ => one_of(left, right),
+        1 => mark_of(has_atom(beliefs, a), i),
+        2 => mark_of(has_atom(goals, a), i),
+        3 => not_of(marks[a as usize]),
+        4 => both_of(marks[a as usize], marks[b as usize]),
+        _ => one_of(marks[a as usize], marks[b as usize]),
     }
 }
 
@@ -88,9 +101,11 @@ pub fn judge_nodes(card: &[u8], l: Layout, m: Mind, marks: &mut Marks)
 {
     let nodes = l.nodes;
     let n = nodes.count;
+    let beliefs = m.beliefs;
+    let goals = m.goals;
     let mut i: usize = 0;
     while i < n {
-        let mark = judge(i as u8, read_node(card, l, i), m, marks);
+        let mark = judge(i as u8, read_node(card, l, i), &beliefs, &goals, marks);
         marks[i] = mark;
         i += 1;
     }

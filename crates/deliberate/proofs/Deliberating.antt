@@ -1,5 +1,6 @@
 -- A deliberation so far, over plain values.
 use mathlib.Core.Path.{_≡_, refl, ap, ap₂, _∙_, sym, subst}
+use mathlib.Core.Bool.{Bool, true, false}
 use mathlib.Core.List.{List, [], _∷_, _++_}
 use mathlib.Core.Option.{Option, none, some}
 use Prim.Native.Nat.{ℕ, suc, _+_, _-_, _%_, _≤_, _<_}
@@ -8,6 +9,7 @@ use native.Mathlib.Omega.{arith}
 use lib.ListN.{length, drop, getD, drop-of-length-le}
 use Rattle.paper.specs.Language.{𝐁, Agent, Config}
 use Rattle.paper.specs.Transitions.{Choice, Step}
+use Rattle.paper.specs.Next.{if}
 use Rattle.runs.specs.Order.{State, kind}
 use Rattle.runs.specs.Step.{after, Reached, step}
 use Rattle.runs.proofs.Step.{StepsTo, none-there, too-long, taken, steps-to}
@@ -32,7 +34,7 @@ use Rattle.program.specs.GoodProgram.{GoodProgram}
 use Rattle.deliberate.specs.declared.made.MoveMade.{MoveMade}
 use Rattle.deliberate.specs.declared.made.AfterMove.{AfterMove}
 use Rattle.deliberate.specs.Made.{configurationAfter, numbersAfter, Makes, MakesNext, Remains}
-use Rattle.deliberate.specs.Ran.{RanTo}
+use Rattle.deliberate.specs.Ran.{RanTo, stoppedBy}
 use Rattle.deliberate.proofs.Next.{next-first}
 use Rattle.deliberation.specs.Deliberate as Deliberate
 
@@ -58,6 +60,10 @@ module _ (A : Agent) (s : State) where
   led (taking k) ns ns′ t e = led-by k ns ns′ t refl (steps-to A s k) e
 
 -- ---- the deliberation so far
+
+pub at-most-one : (t : Bool) → if t 0 1 ≤ 1
+at-most-one true = omega arith
+at-most-one false = omega arith
 
 -- an outcome with so many moves before it
 abbrev counted : ℕ → Outcome → Outcome
@@ -150,7 +156,7 @@ module _ (l : Layout) (b p : Bytes) where
             let m = made-so o q in
             ends e (from-here ∙ r ∙ ap (λ rs. ended e rs (stateOf c)) (sym first)) (configured (x .mind) plan) (x .top) left (m .configuration ∙ g) (m .numbers ∙ f) (m .within) (m .room)
 
-        pub is-stuck : x .made ≡ MoveMade.Stuck → Answered DeliberationEnding.Stuck (configured (x .mind) plan) (x .top) left
+        is-stuck : x .made ≡ MoveMade.Stuck → Answered DeliberationEnding.Stuck (configured (x .mind) plan) (x .top) left
         is-stuck e = by comes refl
           where
             by : (o : MoveResult) → comes ≡ o → Answered DeliberationEnding.Stuck (configured (x .mind) plan) (x .top) left
@@ -158,13 +164,22 @@ module _ (l : Layout) (b p : Bytes) where
             by Deliberate.too-long q = absurd (let u = sym (made-so _ q .made) ∙ e in let z : _≡_ {A = ℕ} 0 1 = cc in omega arith)
             by (on ms t) q = absurd (let u = sym (made-so _ q .made) ∙ e in let z : _≡_ {A = ℕ} 0 1 = cc in omega arith)
 
-        pub is-full : x .made ≡ MoveMade.Full → Answered DeliberationEnding.Full (configured (x .mind) plan) (x .top) left
+        is-full : x .made ≡ MoveMade.Full → Answered DeliberationEnding.Full (configured (x .mind) plan) (x .top) left
         is-full e = by comes refl
           where
             by : (o : MoveResult) → comes ≡ o → Answered DeliberationEnding.Full (configured (x .mind) plan) (x .top) left
             by stuck q = absurd (let u = sym (made-so _ q .made) ∙ e in let z : _≡_ {A = ℕ} 0 1 = cc in omega arith)
             by Deliberate.too-long q = stopped DeliberationEnding.Full Deliberate.too-long q refl refl (run-full (agentFor l b) (conditions 𝐁 l b) (entriesOf p) (budget - (count + 1)) n ns (stateOf c) q)
             by (on ms t) q = absurd (let u = sym (made-so _ q .made) ∙ e in let z : _≡_ {A = ℕ} 0 1 = cc in omega arith)
+
+        -- either, by which it is not made
+        pub is-stopped : (x .made ≡ MoveMade.On → ⊥) → Answered (stoppedBy (x .made)) (configured (x .mind) plan) (x .top) left
+        is-stopped off = by (x .made) refl
+          where
+            by : (t : MoveMade) → x .made ≡ t → Answered (stoppedBy t) (configured (x .mind) plan) (x .top) left
+            by MoveMade.On e = absurd (off e)
+            by MoveMade.Stuck e = is-stuck e
+            by MoveMade.Full e = is-full e
 
         ready-there : {t : State} → Led (agentFor l b) (stateOf c) t → Ready l b (configurationOf t) × (stateOf (configurationOf t) ≡ t)
         unfolding after
@@ -176,16 +191,16 @@ module _ (l : Layout) (b p : Bytes) where
             let g : t .phase ≤ 2 = (let z : (kind k′ + 1) % 3 < 3 = mod-lt (kind k′ + 1) (omega arith) in omega arith) in
             (ready-after l b (d .ready .card) t f g, configuration-laws .of-state t f)
 
-        stacked-there : (g : GoodProgram l b p) (ms : List ℕ) (t : State) → comes ≡ on ms t → Stacked (entryCount p - 1) ms × Led (agentFor l b) (stateOf c) t
+        stacked-there : (g : GoodProgram l b p) (ms : List ℕ) (t : State) → comes ≡ on ms t → Stacked (entryCount p) ms × Led (agentFor l b) (stateOf c) t
         stacked-there g ms t = by (moveAt l b p (stateOf c .mental) n) refl
           where
-            by : (o : Option (Move (List ℕ))) → moveAt l b p (stateOf c .mental) n ≡ o → moveResult (agentFor l b) (stateOf c) o ns ≡ on ms t → Stacked (entryCount p - 1) ms × Led (agentFor l b) (stateOf c) t
+            by : (o : Option (Move (List ℕ))) → moveAt l b p (stateOf c .mental) n ≡ o → moveResult (agentFor l b) (stateOf c) o ns ≡ on ms t → Stacked (entryCount p) ms × Led (agentFor l b) (stateOf c) t
             by none q e = absurd (let z : _≡_ {A = ℕ} 0 1 = cc in omega arith)
             by (some m) q e =
                 let (f, w) = led (agentFor l b) (stateOf c) (m .label) (m .remaining ++ ns) ms t e in
-                let v : entryCount p - 1 < entryCount p = (let some = g .some in omega arith) in (
-                  subst (Stacked (entryCount p - 1)) (sym f)
-                      (move-within (agentFor l b) (conditions 𝐁 l b) (stateOf c .mental) (containing 2 l b) l p (g .good) (entryCount p - 1) n ns m v (subst (Stacked (entryCount p - 1)) first (d .remains .stacked)) q),
+                let v : entryCount p ≤ entryCount p = omega arith in (
+                  subst (Stacked (entryCount p)) (sym f)
+                      (move-within (agentFor l b) (conditions 𝐁 l b) (stateOf c .mental) (containing 2 l b) l p (g .good) (entryCount p) n ns m v (subst (Stacked (entryCount p)) first (d .remains .stacked)) q),
                   w,
                 )
 
@@ -206,7 +221,7 @@ module _ (l : Layout) (b p : Bytes) where
                 record {
                   within = omega arith;
                   ready = subst (Ready l b) (sym (m .configuration)) r;
-                  remains = record { room = m .room; within = m .within; stacked = subst (Stacked (entryCount p - 1)) (sym (m .numbers)) w };
+                  remains = record { room = m .room; within = m .within; stacked = subst (Stacked (entryCount p)) (sym (m .numbers)) w };
                   same = ap₂ (λ rs z. counted (count + 1) (outcome (budget - (count + 1)) rs z)) (m .numbers) (ap stateOf (m .configuration) ∙ s)
                       ∙ (λ j. record { state = o .state; count = u j; ending = o .ending; remaining = o .remaining }) ∙ whole;
                 }

@@ -10,7 +10,7 @@ use lib.ListN.{length, drop, set, getD, length-set, length-drop}
 use borrow.Author.Tests.{eqb-false, not-true}
 use Rattle.paper.specs.Language.{𝐁, Query, Agent, Config}
 use Rattle.paper.specs.Transitions.{Choice}
-use Rattle.paper.specs.Next.{isSome, enabled}
+use Rattle.paper.specs.Next.{enabled}
 use Rattle.paper.proofs.Relation.{none≢some, some-inj, false≢true}
 use Rattle.runs.specs.Order.{State, kind, number, first, ofKind}
 use Rattle.runs.specs.Step.{after, Reached, nothing, full, step}
@@ -50,7 +50,7 @@ use Rattle.deliberate.specs.declared.made.MoveMade.{MoveMade}
 use Rattle.deliberate.specs.declared.made.AfterMove.{AfterMove}
 use Rattle.deliberate.specs.declared.descent.Leaf.{Leaf}
 use Rattle.deliberate.specs.Descent.{AtLeaf}
-use Rattle.deliberate.specs.Made.{madeOf, configurationAfter, numbersAfter, Makes, stayed, movedBy, madeBy, knownAfter, HoldsBy, by-plan, by-mark, again}
+use Rattle.deliberate.specs.Made.{madeOf, configurationAfter, numbersAfter, Makes, stayed, movedBy, madeBy, knownAfter, HoldsBy, by-plan, by-mark, again, ifOpen}
 use Rattle.deliberate.proofs.Descending.{pushed, stacked-room}
 use Rattle.moves.specs.Steps as Steps
 use Rattle.deliberation.specs.Deliberate as Deliberate
@@ -133,14 +133,11 @@ module _ (A : Agent) (s : Config) where
       go true h = let q : ifEnabled A s k ≡ some k = rw (h, ifEnabled) in ap (enabled A s) (some-inj (sym e ∙ q)) ∙ h
       go false h = let q : ifEnabled A s k ≡ none = rw (h, ifEnabled) in absurd (none≢some (sym q ∙ e))
 
-  -- a rule that is named is taken, where it is enabled
-  pub named-some : (k : Choice) → isSome (ifEnabled A s k) ≡ true → chosen (ifEnabled A s k) ≡ chosen (some k)
+  -- a rule that is named is taken, if it is enabled
+  pub named-chosen : (k : Choice) (t : Bool) → t ≡ enabled A s k → ifOpen t (kind k) (number k) ≡ chosen (ifEnabled A s k)
   unfolding ifEnabled
-  named-some k e = go (enabled A s k) refl
-    where
-      go : (t : Bool) → enabled A s k ≡ t → chosen (ifEnabled A s k) ≡ chosen (some k)
-      go true h = rw (h, ifEnabled)
-      go false h = let q : ifEnabled A s k ≡ none = rw (h, ifEnabled) in absurd (false≢true (sym (ap isSome q) ∙ e))
+  named-chosen k true e = let h = sym e in rw (h, ifEnabled)
+  named-chosen k false e = let h = sym e in rw (h, ifEnabled)
 
   taken-enabled : (κ : EntryKind) (a : ℕ) (k : Choice) → Made-specs.taken A s κ a ≡ some k → enabled A s k ≡ true
   unfolding lowestAction
@@ -170,9 +167,13 @@ module _ (l : Layout) (b : Bytes) (c : Configuration) where
           let t = taken-enabled (agentFor l b) (stateOf c .mental) κ a k e in
           (subst (λ x. x < 3) m (kind-lt k), subst (Enabled l b c) (sym q) t, e ∙ ap some (sym q))
 
-pub taken-at-all : (o : Option Choice) → isSome o ≡ true → chosen o ≡ Chosen.Nothing → ⊥
-taken-at-all none e f = false≢true e
-taken-at-all (some k) e f = let z : _≡_ {A = ℕ} 0 1 = cc in omega arith
+-- where there is none, all stays as it was
+pub none-taken : (l : Layout) (b : Bytes) (c : Configuration) (o : Option Choice) → chosen o ≡ Chosen.Nothing → (top : ℕ) (stack : Bytes) → top ≤ 128 → length stack ≡ 128
+    → (r : AfterMove) → r ≡ stayed (c .mind) MoveMade.Stuck top → Makes l b c (drop top stack) (moveResult (agentFor l b) (stateOf c) (byChoice o []) (drop top stack)) r (c .plan) stack
+none-taken l b c none e top stack h s r f =
+    subst (λ y. Makes l b c (drop top stack) stuck y (c .plan) stack) (sym f)
+    (record { made = refl; configuration = refl; numbers = refl; within = h; room = s; keeps = λ _ marks v. v })
+none-taken l b c (some k) e top stack h s r f = absurd (let z : _≡_ {A = ℕ} 0 1 = cc in omega arith)
 
 -- ---- an idle move
 
@@ -250,7 +251,7 @@ module _ (l : Layout) (b p : Bytes) (c : Configuration) (good : GoodProgram l b 
   leaf-known : leaf .at < entryCount p
   leaf-known = let h = stacked-room (a .stacked .stacked) in let k = good .some in omega arith
 
-  leaf-good : GoodEntry l b (leaf .at) x
+  pub leaf-good : GoodEntry l b (leaf .at) x
   leaf-good = subst (GoodEntry l b (leaf .at)) (sym (a .entry)) (good .entries (leaf .at) leaf-known)
 
   at-leaf : moveAt l b p (stateOf c .mental) (leaf .at)

@@ -1,29 +1,24 @@
 -- The next of the numbers that remain, and what is left of them where its move is not made.
 use mathlib.Core.Path.{_≡_, refl, ap, _∙_, sym, subst}
-use mathlib.Core.Bool.{false}
-use mathlib.Core.List.{List, _∷_}
-use mathlib.Core.Option.{Option, none, some}
-use Prim.Native.Nat.{ℕ, _+_, _-_, _≤_, _<_}
+use mathlib.Core.List.{_∷_}
+use mathlib.Core.Option.{some}
+use Prim.Native.Nat.{ℕ, _+_, _≤_, _<_}
 use native.Mathlib.Numerals.{add-one}
 use native.Mathlib.Omega.{arith}
 use lib.ListN.{length, drop, set, getD, length-set, length-drop}
 use lib.Seq.{drop-cons}
-use Rattle.paper.specs.Next.{isSome}
-use Rattle.paper.proofs.Relation.{false≢true}
 use Rattle.meaning.specs.declared.Layout.{Layout}
 use Rattle.meaning.specs.declared.Configuration.{Configuration}
-use Rattle.meaning.specs.Card.{Bytes, agentFor}
-use Rattle.meaning.specs.Configurations.{stateOf}
+use Rattle.meaning.specs.Card.{Bytes}
 use Rattle.choices.specs.Judged.{Marked}
-use Rattle.deliberation.specs.FirstMove.{Move}
-use Rattle.deliberation.specs.Entries.{entryCount, moveAt}
-use Rattle.deliberation.specs.Deliberate.{MoveResult, stuck, too-long, on, moveResult}
+use Rattle.deliberation.specs.Entries.{entryCount}
+use Rattle.deliberation.specs.Deliberate.{MoveResult, stuck, too-long, on}
 use Rattle.deliberation.specs.Stacked.{Stacked}
 use Rattle.program.specs.GoodProgram.{GoodProgram}
 use Rattle.deliberate.specs.declared.made.MoveMade.{MoveMade}
 use Rattle.deliberate.specs.declared.made.AfterMove.{AfterMove}
 use Rattle.deliberate.specs.Descent.{Stack}
-use Rattle.deliberate.specs.Made.{madeOf, configurationAfter, numbersAfter, Makes, MakesNext, Remains, stayed, keptAs, keptIn}
+use Rattle.deliberate.specs.Made.{madeOf, configurationAfter, numbersAfter, Makes, Remains, stayed, keptAs, keptIn}
 use Rattle.deliberate.proofs.Descending.{pushed, later-kept, stacked-room}
 
 module _ (p stack : Bytes) (top : ℕ) (r : Remains p stack top) (h : top < 128) where
@@ -31,7 +26,7 @@ module _ (p stack : Bytes) (top : ℕ) (r : Remains p stack top) (h : top < 128)
   next-first = let s = r .room in drop-cons stack top 0 (omega arith) ∙ ap (λ n. getD stack top 0 ∷ drop n stack) (sym (add-one top))
 
   pub next-stack : Stack p stack (getD stack top 0) (top + 1)
-  next-stack = record { room = r .room; within = omega arith; stacked = subst (Stacked (entryCount p - 1)) next-first (r .stacked) }
+  next-stack = record { room = r .room; within = omega arith; stacked = subst (Stacked (entryCount p)) next-first (r .stacked) }
 
   pub next-known : (l : Layout) (b : Bytes) → GoodProgram l b p → (getD stack top 0 < entryCount p) × (getD stack top 0 < 128)
   next-known l b g =
@@ -76,17 +71,3 @@ module _ (l : Layout) (b p : Bytes) (c : Configuration) (stack : Bytes) (top : �
     pub kept-so : (o : MoveResult) → Makes l b c (drop rest down) o x plan left → (y : AfterMove) (end : Bytes) → y ≡ keptAs (x .made) x top
         → end ≡ keptIn (x .made) left top next → Makes l b c (drop top stack) o y plan end
     kept-so o k y end e f = subst (λ z. Makes l b c (drop top stack) o z plan end) (sym e) (subst (λ z. Makes l b c (drop top stack) o (keptAs (x .made) x top) plan z) (sym f) (by-made o k))
-
--- a number that has no first move is stuck, and all stays as it was
-module _ (l : Layout) (b p : Bytes) (c : Configuration) (stack : Bytes) (top : ℕ) (r : Remains p stack top) where
-  came-none : (o : Option (Move (List ℕ))) (ns : List ℕ) → isSome o ≡ false → moveResult (agentFor l b) (stateOf c) o ns ≡ stuck
-  came-none none ns e = refl
-  came-none (some m) ns e = absurd (false≢true (sym e))
-
-  pub stuck-so : isSome (moveAt l b p (stateOf c .mental) (getD stack top 0)) ≡ false → (y : AfterMove) → y ≡ stayed (c .mind) MoveMade.Stuck top
-      → MakesNext l b p c stack top y (c .plan) stack
-  stuck-so e y f =
-      let o = came-none (moveAt l b p (stateOf c .mental) (getD stack top 0)) (drop (top + 1) stack) e in
-      subst (λ z. Makes l b c (drop top stack) z y (c .plan) stack) (sym o)
-      (subst (λ z. Makes l b c (drop top stack) stuck z (c .plan) stack) (sym f)
-      (record { made = refl; configuration = refl; numbers = refl; within = r .within; room = r .room; keeps = λ _ marks v. v }))

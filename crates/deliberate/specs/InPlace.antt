@@ -1,8 +1,18 @@
--- What the call answers where the plan and the numbers are lent, together with what these hold, as one answer.
+-- What the calls answer where the plan and the numbers are lent, together with what these hold, as one answer.
+use mathlib.Core.Path.{_≡_}
+use mathlib.Core.List.{List}
 use Prim.Native.Nat.{ℕ}
+use Rattle.meaning.specs.declared.Refusal.{Refusal}
 use Rattle.meaning.specs.declared.Answer.{Answer}
+use Rattle.meaning.specs.declared.Answer.the-variants.{Refused}
+use Rattle.meaning.specs.declared.Layout.{Layout}
+use Rattle.meaning.specs.declared.Checked.{Checked}
+use Rattle.meaning.specs.declared.Configuration.{Configuration}
 use Rattle.meaning.specs.declared.Mind.{Mind}
 use Rattle.meaning.specs.Card.{Bytes}
+use Rattle.meaning.specs.Calls.{checks}
+use Rattle.deliberation.specs.Entries.{goOnAnswer}
+use Rattle.program.specs.GoodProgram.{GoodProgram}
 use Rattle.layout.specs.PlaceParts.{configured}
 use Rattle.deliberation.specs.declared.DeliberationEnding.{DeliberationEnding}
 use Rattle.deliberation.specs.declared.Remaining.{Remaining}
@@ -26,3 +36,9 @@ deliberatedWith r plan numbers = record {
 -- of a refusal: 01, "Numbers the guide may answer": "Any count in a refusal is 0."; 02, Wish 6: "none when refused"
 abbrev pub refusedWith : Answer → Mind → DeliberatedInPlace
 refusedWith a m = record { answer = a; count = 0; ending = DeliberationEnding.Spent; mind = m; length = 0 }
+
+-- what is found of a card and a program: both are good; or one is not, and the call is refused with its number, whatever the
+-- numbers and the configuration
+pub record Admits (b p : Bytes) (x : Checked) : Type 0 where
+  pub good : (l : Layout) → x ≡ Checked.Good l → (checks b ≡ Checked.Good l) × GoodProgram l b p
+  pub bad : (q : Refusal) → x ≡ Checked.Refused q → (ns : List ℕ) (c : Configuration) → goOnAnswer b p ns c ≡ Refused q

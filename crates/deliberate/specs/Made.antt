@@ -3,7 +3,7 @@ use mathlib.Core.Path.{_≡_}
 use mathlib.Core.Bool.{Bool, true, false, not}
 use mathlib.Core.List.{List, _∷_}
 use mathlib.Core.Option.{Option, none}
-use Prim.Native.Nat.{ℕ, _+_, _-_, _≤_}
+use Prim.Native.Nat.{ℕ, _+_, _≤_}
 use lib.Dec.{eqb}
 use lib.ListN.{length, drop, set, getD}
 use Rattle.paper.specs.Language.{Agent, Config}
@@ -22,6 +22,10 @@ use Rattle.deliberation.specs.FirstMove.{lowestAction, ifEnabled}
 use Rattle.deliberation.specs.Entries.{entryCount, moveAt}
 use Rattle.deliberation.specs.Deliberate.{MoveResult, stuck, too-long, on, moveResult}
 use Rattle.deliberation.specs.Stacked.{Stacked}
+use Rattle.door.specs.declared.asked.Chosen.{Chosen}
+use Rattle.door.specs.Asking.{firstOfKind}
+use Rattle.deliberate.specs.declared.made.Reached.{Reached}
+use Rattle.deliberate.specs.Descent.{AtLeaf}
 use Rattle.deliberate.specs.declared.made.MoveMade.{MoveMade}
 use Rattle.deliberate.specs.declared.made.AfterMove.{AfterMove}
 
@@ -58,7 +62,7 @@ pub record Makes (l : Layout) (b : Bytes) (c : Configuration) (ns : List ℕ) (o
 pub record Remains (p stack : Bytes) (top : ℕ) : Type 0 where
   pub room : length stack ≡ 128
   pub within : top ≤ 128
-  pub stacked : Stacked (entryCount p - 1) (drop top stack)
+  pub stacked : Stacked (entryCount p) (drop top stack)
 
 -- the first move of the number at top, and those behind it
 abbrev pub MakesNext : Layout → Bytes → Bytes → Configuration → Bytes → ℕ → AfterMove → Bytes → Bytes → Type 0
@@ -80,6 +84,19 @@ taken A s WhilePlan a = none
 taken A s WhileBelief a = none
 taken A s Then a = none
 taken A s Or a = none
+
+-- a choice of a kind and a number, if it is open
+abbrev pub ifOpen : Bool → ℕ → ℕ → Chosen
+ifOpen true k n = Chosen.At k n
+ifOpen false k n = Chosen.Nothing
+
+-- the entry in which the first move of entry n is made, which has numbers behind it as ns stand behind n, and the lowest enabled
+-- action where it is an execute
+pub record Found (l : Layout) (b p : Bytes) (c : Configuration) (n : ℕ) (ns : List ℕ) (r : Reached) (stack : Bytes) : Type 0 where
+  pub leaf : AtLeaf p stack (r .leaf)
+  pub same : moveResult (agentFor l b) (stateOf c) (moveAt l b p (stateOf c .mental) n) ns
+      ≡ moveResult (agentFor l b) (stateOf c) (moveAt l b p (stateOf c .mental) (r .leaf .at)) (drop (r .leaf .top) stack)
+  pub action : r .leaf .entry .kind ≡ 0 → r .action ≡ firstOfKind l b c 1
 
 -- what a transition comes to, as a move
 abbrev pub madeBy : Transition → MoveMade

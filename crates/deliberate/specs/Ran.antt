@@ -6,6 +6,8 @@ use Rattle.meaning.specs.Card.{Bytes}
 use Rattle.meaning.specs.Configurations.{configurationOf}
 use Rattle.layout.specs.PlaceParts.{configured}
 use Rattle.deliberation.specs.Deliberate.{Outcome}
+use Rattle.deliberation.specs.declared.DeliberationEnding.{DeliberationEnding}
+use Rattle.deliberate.specs.declared.made.MoveMade.{MoveMade}
 use Rattle.deliberate.specs.declared.run.RanMoves.{RanMoves}
 
 pub record RanTo (o : Outcome) (r : RanMoves) (plan stack : Bytes) : Type 0 where
@@ -15,3 +17,9 @@ pub record RanTo (o : Outcome) (r : RanMoves) (plan stack : Bytes) : Type 0 wher
   pub numbers : drop (r .top) stack ≡ o .remaining
   pub within : r .top ≤ 128
   pub room : length stack ≡ 128
+
+-- why a move that is not made ends a deliberation
+abbrev pub stoppedBy : MoveMade → DeliberationEnding
+stoppedBy MoveMade.On = DeliberationEnding.Spent
+stoppedBy MoveMade.Stuck = DeliberationEnding.Stuck
+stoppedBy MoveMade.Full = DeliberationEnding.Full

@@ -1,27 +1,32 @@
-// The call `deliberate` (02, Wish 6), where the plan and the remaining program are lent: the card, the program and the
-// configuration checked in this order, each by one function that calls the next.
+// The calls `deliberate` and `go on` (02, Wish 6), where the plan and the numbers that remain are lent: the card, the program, the
+// given numbers and the configuration are checked in this order. A refusal writes to no lent buffer.
 ghost use mathlib.Core.Path.{_≡_};
+ghost use mathlib.Core.Bool.{true};
 ghost use mathlib.Core.List.{[], _∷_};
-ghost use Prim.Native.Nat.{_-_, _≤_};
-ghost use lib.ListN.{length, drop, replicate};
+ghost use Prim.Native.Nat.{_-_, _/_, _≤_};
+ghost use lib.ListN.{length, drop};
 ghost use Rattle.door.specs.Words.{𝐁, conditions, agentFor, stateOf, configured, Ready};
 ghost use Rattle.meaning.specs.declared.Checked.{Checked};
 ghost use Rattle.meaning.specs.Calls.{checks};
-ghost use Rattle.deliberation.specs.Entries.{entriesOf};
-ghost use Rattle.deliberation.specs.Deliberate.{deliberate, remainingOf, deliberated, whole, deliberates};
+ghost use Rattle.deliberation.specs.Entries.{entryCount, entriesOf, numbersGood};
+ghost use Rattle.deliberation.specs.Deliberate.{deliberate, remainingOf, deliberated, goesOn, deliberates};
 ghost use Rattle.program.specs.GoodProgram.{GoodProgram};
-ghost use Rattle.deliberate.specs.InPlace.{remains, refusedWith, deliberatedWith};
+ghost use Rattle.deliberate.specs.InPlace.{remains, refusedWith, deliberatedWith, Admits};
 use crate::run::run_moves;
 use card::check::answer_of;
 use card::check::check;
 use deliberation::DeliberationEnding;
 use door::configuration::judge_configuration;
+use layout::bytes::byte_below;
+use layout::bytes::copy;
 use layout::bytes::down;
+use layout::bytes::size;
 use meaning::Answer;
 use meaning::Checked;
 use meaning::Layout;
 use meaning::Mind;
 use meaning::Plan;
+use meaning::Refusal;
 use plans::clear;
 use program::judge_program;
 
@@ -32,13 +37,6 @@ pub struct DeliberatedInPlace {
     pub ending: DeliberationEnding,
     pub mind: Mind,
     pub length: u8,
-}
-
-// 128 zeros.
-fn no_numbers() -> [u8; 128]
-    ensures { λ r. ⌜ r ≡ replicate 128 0 ⌝ }
-{
-    [0u8; 128]
 }
 
 // A refusal: count 0, none remains, the mind as it came in.
@@ -54,13 +52,48 @@ fn refused(answer: Answer, m: Mind) -> DeliberatedInPlace
     }
 }
 
-// 02, Wish 6: "the last one the whole": the number that remains before the first move, at the end of the lent ones, which are
-// zeros.
-fn put_whole(remaining: &mut [u8; 128], entries: usize)
-    requires { ⌜ (1 ≤ entries) × (entries ≤ 128) × (now remaining ≡ replicate 128 0) ⌝ }
-    ensures { λ r. ⌜ (drop 127 (now (remaining .exit)) ≡ (entries - 1) ∷ []) × (length (now (remaining .exit)) ≡ 128) ⌝ }
+// Rows 1 to 9, of the card, then 19, of the program.
+fn check_program(card: &[u8], program: &[u8]) -> Checked
+    ensures { λ r. ⌜ Admits (now (card .entry)) (now (program .entry)) r ⌝ }
 {
-    remaining[127] = (entries - 1) as u8;
+    let checked = check(card);
+    let Checked::Good(l) = checked else {
+        return checked;
+    };
+    let judged = judge_program(card, l, program);
+    let Answer::Done = judged else {
+        return Checked::Refused(Refusal::Program);
+    };
+    checked
+}
+
+// Whether a deliberation may go on from given numbers: each, plus how many stand behind it, is below the number of entries.
+fn numbers_good(given: &[u8], entries: usize) -> bool
+    ensures { λ r. ⌜ r ≡ numbersGood entries (now (given .entry)) ⌝ }
+{
+    let n = given.len();
+    if entries < n {
+        return false;
+    }
+    let mut i: usize = 0;
+    while i < n {
+        if !byte_below(given[i], entries - (n - i - 1)) {
+            return false;
+        }
+        i += 1;
+    }
+    true
+}
+
+// The given numbers, at the end of the lent ones.
+fn put_numbers(remaining: &mut [u8; 128], given: &[u8])
+    requires { ⌜ length (now given) ≤ 128 ⌝ }
+    ensures { λ r. ⌜ (drop (128 - length (now (given .entry))) (now (remaining .exit)) ≡ now (given .entry))
+        × (length (now (remaining .exit)) ≡ 128) ⌝ }
+{
+    let n = given.len();
+    let room = size(remaining);
+    copy(remaining, room - n, given, 0, n);
 }
 
 // The numbers from top on to the front, and zeros behind them.
@@ -74,23 +107,34 @@ fn hand_out(remaining: &mut [u8; 128], top: usize) -> u8
     n as u8
 }
 
-// The moves of an accepted card, program and configuration.
+// The moves of an accepted card, program and configuration, from accepted numbers.
 fn from_moves(
     card: &[u8],
     l: Layout,
     m: Mind,
     plan: &mut Plan,
     program: &[u8],
+    given: &[u8],
     budget: u16,
     remaining: &mut [u8; 128],
 ) -> DeliberatedInPlace
-    requires { ⌜ Ready l (now card) (configured m (now plan)) × GoodProgram l (now card) (now program) × (now remaining ≡ replicate 128 0) ⌝ }
+    requires { ⌜ Ready l (now card) (configured m (now plan)) × GoodProgram l (now card) (now program)
+        × (numbersGood (entryCount (now program)) (now given) ≡ true) ⌝ }
     ensures { λ r. ⌜ deliberatedWith r (now (plan .exit)) (now (remaining .exit))
         ≡ deliberated (deliberate (agentFor l (now (card .entry))) (conditions 𝐁 l (now (card .entry))) (entriesOf (now (program .entry)))
-        budget (whole (now (program .entry))) (stateOf (configured m (now (plan .entry))))) ⌝ }
+        budget (now (given .entry)) (stateOf (configured m (now (plan .entry))))) ⌝ }
 {
-    put_whole(remaining, program.len() / 4);
-    let ran = run_moves(card, l, m, plan, program, budget, remaining, 127);
+    put_numbers(remaining, given);
+    let ran = run_moves(
+        card,
+        l,
+        m,
+        plan,
+        program,
+        budget,
+        remaining,
+        128 - given.len(),
+    );
     let n = hand_out(remaining, ran.top);
     let after = ran.mind;
     let ending = ran.ending;
@@ -110,43 +154,33 @@ fn from_configuration(
     m: Mind,
     plan: &mut Plan,
     program: &[u8],
+    given: &[u8],
     budget: u16,
     remaining: &mut [u8; 128],
 ) -> DeliberatedInPlace
-    requires { ⌜ (checks (now card) ≡ Checked.Good l) × GoodProgram l (now card) (now program) × (now remaining ≡ replicate 128 0) ⌝ }
+    requires { ⌜ (checks (now card) ≡ Checked.Good l) × GoodProgram l (now card) (now program)
+        × (numbersGood (entryCount (now program)) (now given) ≡ true) ⌝ }
     ensures { λ r. ⌜ deliberatedWith r (now (plan .exit)) (now (remaining .exit))
-        ≡ deliberates (now (card .entry)) (now (program .entry)) (configured m (now (plan .entry))) budget ⌝ }
+        ≡ goesOn (now (card .entry)) (now (program .entry)) (now (given .entry)) (configured m (now (plan .entry))) budget
+        (now (remaining .entry)) ⌝ }
 {
     let judged = judge_configuration(l, m, plan);
     let Answer::Done = judged else {
         return refused(judged, m);
     };
-    from_moves(card, l, m, plan, program, budget, remaining)
+    from_moves(card, l, m, plan, program, given, budget, remaining)
 }
 
-// Row 19, then 13: "after 9 and before 13".
-fn from_program(
-    card: &[u8],
-    l: Layout,
-    m: Mind,
-    plan: &mut Plan,
-    program: &[u8],
-    budget: u16,
-    remaining: &mut [u8; 128],
-) -> DeliberatedInPlace
-    requires { ⌜ (checks (now card) ≡ Checked.Good l) × (now remaining ≡ replicate 128 0) ⌝ }
-    ensures { λ r. ⌜ deliberatedWith r (now (plan .exit)) (now (remaining .exit))
-        ≡ deliberates (now (card .entry)) (now (program .entry)) (configured m (now (plan .entry))) budget ⌝ }
+// The whole program, as the numbers that remain before the first move.
+fn whole_program(entries: usize) -> [u8; 1]
+    requires { ⌜ (1 ≤ entries) × (entries ≤ 128) ⌝ }
+    ensures { λ r. ⌜ r ≡ (entries - 1) ∷ [] ⌝ }
 {
-    let judged = judge_program(card, l, program);
-    let Answer::Done = judged else {
-        return refused(judged, m);
-    };
-    from_configuration(card, l, m, plan, program, budget, remaining)
+    [(entries - 1) as u8]
 }
 
 // The mind reached, how many moves were made, why it ended, and how many numbers remain; the plan is changed in place, and all of
-// the lent numbers are written.
+// the lent numbers are written, unless it is refused.
 pub fn deliberate(
     card: &[u8],
     program: &[u8],
@@ -156,13 +190,36 @@ pub fn deliberate(
     remaining: &mut [u8; 128],
 ) -> DeliberatedInPlace
     ensures { λ r. ⌜ deliberatedWith r (now (plan .exit)) (now (remaining .exit))
-        ≡ deliberates (now (card .entry)) (now (program .entry)) (configured m (now (plan .entry))) budget ⌝ }
+        ≡ deliberates (now (card .entry)) (now (program .entry)) (configured m (now (plan .entry))) budget (now (remaining .entry)) ⌝ }
 {
-    let none = no_numbers();
-    *remaining = none;
-    let checked = check(card);
+    let checked = check_program(card, program);
     let Checked::Good(l) = checked else {
         return refused(answer_of(checked), m);
     };
-    from_program(card, l, m, plan, program, budget, remaining)
+    let given = whole_program(program.len() / 4);
+    from_configuration(card, l, m, plan, program, &given, budget, remaining)
+}
+
+// The same from given numbers that remain: 19 for those that cannot, in its place.
+pub fn go_on(
+    card: &[u8],
+    program: &[u8],
+    given: &[u8],
+    m: Mind,
+    plan: &mut Plan,
+    budget: u16,
+    remaining: &mut [u8; 128],
+) -> DeliberatedInPlace
+    ensures { λ r. ⌜ deliberatedWith r (now (plan .exit)) (now (remaining .exit))
+        ≡ goesOn (now (card .entry)) (now (program .entry)) (now (given .entry)) (configured m (now (plan .entry))) budget
+        (now (remaining .entry)) ⌝ }
+{
+    let checked = check_program(card, program);
+    let Checked::Good(l) = checked else {
+        return refused(answer_of(checked), m);
+    };
+    if !numbers_good(given, program.len() / 4) {
+        return refused(Answer::Refused(Refusal::Program), m);
+    }
+    from_configuration(card, l, m, plan, program, given, budget, remaining)
 }

@@ -1,8 +1,8 @@
-// Which entries of a program have a first move: in one pass from the lowest upward, with one bit an entry, for parts are shared.
+// Which entries of a program have a first move: in one pass from the lowest upward, with one mark an entry, for parts are shared.
 ghost use mathlib.Core.Path.{_≡_};
 ghost use Prim.Native.Nat.{ℕ, _≤_, _<_};
-ghost use lib.ListN.{replicate};
-ghost use Rattle.paper.specs.Atoms.{_∈_};
+ghost use mathlib.Core.Bool.{false};
+ghost use lib.ListN.{replicate, getD};
 ghost use Rattle.paper.specs.Next.{isSome};
 ghost use Rattle.door.specs.Words.{agentFor, stateOf, configured, firstOfKind};
 ghost use Rattle.choices.specs.Judged.{Judged};
@@ -19,7 +19,6 @@ use meaning::Mind;
 use meaning::Node;
 use meaning::Plan;
 use program::read_entry;
-use sets::add_member;
 
 // Whether there is a choice.
 fn is_at(c: Chosen) -> bool
@@ -31,20 +30,11 @@ fn is_at(c: Chosen) -> bool
     }
 }
 
-// No entry.
-fn no_moves() -> [u8; 16]
-    ensures { λ r. ⌜ r ≡ replicate 16 0 ⌝ }
+// No entry is marked.
+fn no_moves() -> [bool; 128]
+    ensures { λ r. ⌜ r ≡ replicate 128 false ⌝ }
 {
-    [0u8; 16]
-}
-
-// Whether an entry is in a set of entries, read where the set stands.
-fn is_marked(movable: &[u8; 16], n: u8) -> bool
-    requires { ⌜ n < 128 ⌝ }
-    ensures { λ r. ⌜ r ≡ (n ∈ now (movable .entry)) ⌝ }
-{
-    let i = (n / 8) as usize;
-    (movable[i] >> (n % 8)) % 2 == 1
+    [false; 128]
 }
 
 // Whether an entry has a first move: an execute where an action is enabled, an apply and a select whose rule is enabled, a while
@@ -57,12 +47,12 @@ fn has_move(
     marks: &Marks,
     acts: bool,
     e: Node,
-    movable: &[u8; 16],
+    movable: &[bool; 128],
 ) -> bool
     requires { ⌜ Judged l (now card) (configured m (now plan)) (now marks) × ((i : ℕ) × ((i < 128) × GoodEntry l (now card) i e)) ⌝ }
     requires { ⌜ acts ≡ isSome (lowestAction (agentFor l (now card)) (stateOf (configured m (now plan)) .mental)) ⌝ }
     ensures { λ r. ⌜ r ≡ movableOf (agentFor l (now (card .entry))) (stateOf (configured m (now (plan .entry))) .mental)
-        (entryKind (e .kind)) (e .a) (e .b) (λ j. j ∈ now (movable .entry)) ⌝ }
+        (entryKind (e .kind)) (e .a) (e .b) (λ j. getD (now (movable .entry)) j false) ⌝ }
 {
     let kind = e.kind;
     let a = e.a;
@@ -72,8 +62,8 @@ fn has_move(
         1 => is_enabled(card, l, m, plan, marks, 2, a as usize),
         2 => is_enabled(card, l, m, plan, marks, 0, a as usize),
         3..=4 => true,
-        5 => is_marked(movable, a),
-        _ => is_marked(movable, a) | is_marked(movable, b),
+        5 => movable[a as usize],
+        _ => movable[a as usize] | movable[b as usize],
     }
 }
 
@@ -87,7 +77,7 @@ pub fn mark_moves(
     program: &[u8],
     action: Chosen,
     n: usize,
-) -> [u8; 16]
+) -> [bool; 128]
     requires { ⌜ Judged l (now card) (configured m (now plan)) (now marks) × GoodProgram l (now card) (now program) ⌝ }
     requires { ⌜ (action ≡ firstOfKind l (now card) (configured m (now plan)) 1) × (n ≤ entryCount (now program)) ⌝ }
     ensures { λ r. ⌜ Movable l (now (card .entry)) (now (program .entry)) (configured m (now (plan .entry))) n r ⌝ }
@@ -97,9 +87,8 @@ pub fn mark_moves(
     let mut i: usize = 0;
     while i < n {
         let e = read_entry(program, i);
-        if has_move(card, l, m, plan, marks, acts, e, &movable) {
-            add_member(&mut movable, i);
-        }
+        let has = has_move(card, l, m, plan, marks, acts, e, &movable);
+        movable[i] = has;
         i += 1;
     }
     movable

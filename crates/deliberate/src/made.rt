@@ -1,25 +1,25 @@
 // A move is made: the first move of the next of the numbers that remain. 02, Wish 6: "Each move is one of the document's
 // meta-level transitions, with selection added".
 ghost use mathlib.Core.Path.{_≡_};
-ghost use mathlib.Core.Bool.{Bool, true};
+ghost use mathlib.Core.Bool.{Bool};
 ghost use mathlib.Core.List.{[]};
-ghost use Prim.Native.Nat.{_≤_, _<_};
+ghost use Prim.Native.Nat.{ℕ, _≤_, _<_};
 ghost use lib.ListN.{length, drop};
-ghost use Rattle.paper.specs.Language.{Agent, Config};
-ghost use Rattle.paper.specs.Next.{isSome};
 ghost use Rattle.door.specs.Words.{Bytes, agentFor, stateOf, configured, Ready, chosen, firstOfKind};
 ghost use Rattle.choices.specs.Judged.{markAt, Judged};
-ghost use Rattle.deliberation.specs.Kinds.{entryKind};
-ghost use Rattle.deliberation.specs.FirstMove.{byChoice, lowestAction};
+ghost use Rattle.deliberation.specs.Kinds.{EntryKind, entryKind};
+ghost use Rattle.deliberation.specs.FirstMove.{byChoice};
 ghost use Rattle.deliberation.specs.Entries.{moveAt};
 ghost use Rattle.deliberation.specs.Deliberate.{moveResult};
-ghost use Rattle.program.specs.GoodProgram.{GoodProgram};
-ghost use Rattle.deliberate.specs.Descent.{AtLeaf};
-ghost use Rattle.deliberate.specs.Made.{Makes, MakesNext, Remains, stayed, taken, movedBy, HoldsBy, again, keptAs, keptIn};
+ghost use Rattle.program.specs.GoodProgram.{GoodEntry, GoodProgram};
+ghost use Rattle.deliberate.specs.Descent.{Stack, AtLeaf};
+ghost use Rattle.deliberate.specs.Made.{Makes, MakesNext, Remains, stayed, taken, ifOpen, Found, movedBy, HoldsBy, again, keptAs, keptIn};
 use crate::descent::Leaf;
 use crate::descent::descend;
+use crate::descent::lead;
 use crate::first::mark_moves;
 use choices::ask::first_of_kind;
+use choices::ask::is_enabled;
 use choices::truth::Marks;
 use choices::truth::is_true;
 use door::asked::Chosen;
@@ -30,7 +30,6 @@ use meaning::Plan;
 use moves::step::Stepped;
 use moves::step::Transition;
 use moves::step::step;
-use sets::member;
 
 // What a move comes to: it is made; there is none; or the plan that it leaves is too long.
 pub enum MoveMade {
@@ -59,18 +58,37 @@ fn stays(m: Mind, made: MoveMade, top: usize) -> AfterMove
     }
 }
 
-// The choice of an execute, an apply or a select that has one: "Execute takes the lowest enabled specification."
-fn choice_of(e: Node, action: Chosen) -> Chosen
-    requires { ⌜ e .kind < 3 ⌝ }
-    ensures { λ r. ⌜ ((A : Agent) (s : Config) → action ≡ chosen (lowestAction A s)
-        → isSome (taken A s (entryKind (e .kind)) (e .a)) ≡ true → r ≡ chosen (taken A s (entryKind (e .kind)) (e .a))) ⌝ }
+// A choice of a kind and a number, if it is open.
+fn if_open(enabled: bool, kind: u8, i: usize) -> Chosen
+    ensures { λ r. ⌜ r ≡ ifOpen enabled kind i ⌝ }
+{
+    if enabled {
+        return Chosen::At(kind, i);
+    }
+    Chosen::Nothing
+}
+
+// The choice of an execute, an apply or a select, if it has one: "Execute takes the lowest enabled specification."
+fn choice_of(
+    card: &[u8],
+    l: Layout,
+    m: Mind,
+    plan: &Plan,
+    marks: &Marks,
+    e: Node,
+    action: Chosen,
+) -> Chosen
+    requires { ⌜ Judged l (now card) (configured m (now plan)) (now marks) × (e .kind < 3) × ((i : ℕ) × GoodEntry l (now card) i e) ⌝ }
+    requires { ⌜ (e .kind ≡ 0 → action ≡ firstOfKind l (now card) (configured m (now plan)) 1) ⌝ }
+    ensures { λ r. ⌜ r ≡ chosen (taken (agentFor l (now (card .entry))) (stateOf (configured m (now (plan .entry))) .mental)
+        (entryKind (e .kind)) (e .a)) ⌝ }
 {
     let kind = e.kind;
     let a = e.a as usize;
     match kind {
         0 => action,
-        1 => Chosen::At(2, a),
-        _ => Chosen::At(0, a),
+        1 => if_open(is_enabled(card, l, m, plan, marks, 2, a), 2, a),
+        _ => if_open(is_enabled(card, l, m, plan, marks, 0, a), 0, a),
     }
 }
 
@@ -92,27 +110,26 @@ fn moved_by(s: Stepped, top: usize) -> AfterMove
     }
 }
 
-// The transition of an execute, an apply or a select that has one.
+// The transition of an execute, an apply or a select, by its choice.
 fn make_choice(
     card: &[u8],
     l: Layout,
     m: Mind,
     plan: &mut Plan,
-    e: Node,
-    action: Chosen,
+    choice: Chosen,
     top: usize,
 ) -> AfterMove
-    requires { ⌜ Ready l (now card) (configured m (now plan)) × (e .kind < 3) × (action ≡ firstOfKind l (now card) (configured m (now plan)) 1) ⌝ }
-    requires { ⌜ isSome (taken (agentFor l (now card)) (stateOf (configured m (now plan)) .mental) (entryKind (e .kind)) (e .a)) ≡ true ⌝ }
-    ensures { λ r. ⌜ ((stack : Bytes) → top ≤ 128 → length stack ≡ 128
+    requires { ⌜ Ready l (now card) (configured m (now plan))
+        × ((κ : EntryKind) × ((a : ℕ) × (choice ≡ chosen (taken (agentFor l (now card)) (stateOf (configured m (now plan)) .mental) κ a)))) ⌝ }
+    ensures { λ r. ⌜ ((κ : EntryKind) (a : ℕ)
+        → choice ≡ chosen (taken (agentFor l (now (card .entry))) (stateOf (configured m (now (plan .entry))) .mental) κ a)
+        → (stack : Bytes) → top ≤ 128 → length stack ≡ 128
         → Makes l (now (card .entry)) (configured m (now (plan .entry))) (drop top stack)
         (moveResult (agentFor l (now (card .entry))) (stateOf (configured m (now (plan .entry))))
-        (byChoice (taken (agentFor l (now (card .entry))) (stateOf (configured m (now (plan .entry))) .mental) (entryKind (e .kind)) (e .a)) [])
-        (drop top stack))
+        (byChoice (taken (agentFor l (now (card .entry))) (stateOf (configured m (now (plan .entry))) .mental) κ a) []) (drop top stack))
         r (now (plan .exit)) stack) ⌝ }
 {
-    let chosen = choice_of(e, action);
-    let Chosen::At(kind, i) = chosen else {
+    let Chosen::At(kind, i) = choice else {
         return stays(m, MoveMade::Stuck, top);
     };
     let s = step(card, l, m, plan, kind, i);
@@ -147,7 +164,7 @@ fn turn(e: Node, i: usize, m: Mind, marks: &Marks, stack: &mut [u8; 128], top: u
     stays(m, MoveMade::On, top - 2)
 }
 
-// The move of an entry without parts, or of a while, that has one: where a descent ends.
+// The move of an entry without parts, or of a while: where a descent ends.
 fn move_leaf(
     card: &[u8],
     l: Layout,
@@ -158,9 +175,9 @@ fn move_leaf(
     leaf: Leaf,
     stack: &mut [u8; 128],
 ) -> AfterMove
-    requires { ⌜ Judged l (now card) (configured m (now plan)) (now marks) × (action ≡ firstOfKind l (now card) (configured m (now plan)) 1) ⌝ }
-    requires { ⌜ ((p : Bytes) × (GoodProgram l (now card) p × (AtLeaf p (now stack) leaf
-        × (isSome (moveAt l (now card) p (stateOf (configured m (now plan)) .mental) (leaf .at)) ≡ true)))) ⌝ }
+    requires { ⌜ Judged l (now card) (configured m (now plan)) (now marks)
+        × (leaf .entry .kind ≡ 0 → action ≡ firstOfKind l (now card) (configured m (now plan)) 1) ⌝ }
+    requires { ⌜ ((p : Bytes) × (GoodProgram l (now card) p × AtLeaf p (now stack) leaf)) ⌝ }
     ensures { λ r. ⌜ ((p : Bytes) → GoodProgram l (now (card .entry)) p → AtLeaf p (now (stack .entry)) leaf
         → Makes l (now (card .entry)) (configured m (now (plan .entry))) (drop (leaf .top) (now (stack .entry)))
         (moveResult (agentFor l (now (card .entry))) (stateOf (configured m (now (plan .entry))))
@@ -171,7 +188,8 @@ fn move_leaf(
     if 3 <= e.kind {
         return turn(e, leaf.at, m, marks, stack, leaf.top);
     }
-    make_choice(card, l, m, plan, e, action, leaf.top)
+    let choice = choice_of(card, l, m, plan, marks, e, action);
+    make_choice(card, l, m, plan, choice, leaf.top)
 }
 
 // A move that is not made leaves the numbers as they were: `next` stands at top again.
@@ -194,6 +212,59 @@ fn kept(moved: AfterMove, stack: &mut [u8; 128], top: usize, next: u8) -> AfterM
     }
 }
 
+// The entry in which a first move is made, and the lowest enabled action where that is an execute.
+pub struct Reached {
+    pub leaf: Leaf,
+    pub action: Chosen,
+}
+
+// The lowest enabled action, where an entry of this kind is an execute.
+fn action_for(card: &[u8], l: Layout, m: Mind, plan: &Plan, marks: &Marks, kind: u8) -> Chosen
+    requires { ⌜ Judged l (now card) (configured m (now plan)) (now marks) ⌝ }
+    ensures { λ r. ⌜ (kind ≡ 0 → r ≡ firstOfKind l (now (card .entry)) (configured m (now (plan .entry))) 1) ⌝ }
+{
+    if kind == 0 {
+        return first_of_kind(card, l, m, plan, marks, 1);
+    }
+    Chosen::Nothing
+}
+
+// Down from an entry to the one in which its first move is made. An entry without parts and a while are asked about themselves
+// alone; the others are marked for a choice, whose left part is taken if it has a first move.
+fn reach(
+    card: &[u8],
+    l: Layout,
+    m: Mind,
+    plan: &Plan,
+    marks: &Marks,
+    program: &[u8],
+    stack: &mut [u8; 128],
+    from: usize,
+    top: usize,
+) -> Reached
+    requires { ⌜ Judged l (now card) (configured m (now plan)) (now marks) × GoodProgram l (now card) (now program)
+        × Stack (now program) (now stack) from top ⌝ }
+    ensures { λ r. ⌜ Found l (now (card .entry)) (now (program .entry)) (configured m (now (plan .entry))) from (drop top (now (stack .entry)))
+        r (now (stack .exit)) × (r .leaf .top ≤ top) × (drop top (now (stack .exit)) ≡ drop top (now (stack .entry))) ⌝ }
+{
+    let first = lead(program, stack, from, top);
+    let kind = first.entry.kind;
+    if kind < 5 {
+        let action = action_for(card, l, m, plan, marks, kind);
+        return Reached {
+            leaf: first,
+            action: action,
+        };
+    }
+    let action = first_of_kind(card, l, m, plan, marks, 1);
+    let movable = mark_moves(card, l, m, plan, marks, program, action, first.at);
+    let leaf = descend(program, &movable, stack, first.at, first.top);
+    Reached {
+        leaf: leaf,
+        action: action,
+    }
+}
+
 // The first move of the number at top, where every node's truth is known.
 pub fn make_move(
     card: &[u8],
@@ -210,14 +281,20 @@ pub fn make_move(
     ensures { λ r. ⌜ MakesNext l (now (card .entry)) (now (program .entry)) (configured m (now (plan .entry))) (now (stack .entry)) top
         r (now (plan .exit)) (now (stack .exit)) ⌝ }
 {
-    let action = first_of_kind(card, l, m, plan, marks, 1);
     let next = stack[top];
-    let from = next as usize;
-    let movable = mark_moves(card, l, m, plan, marks, program, action, from + 1);
-    if !member(movable, next) {
-        return stays(m, MoveMade::Stuck, top);
-    }
-    let leaf = descend(program, movable, stack, from, top + 1);
+    let reached = reach(
+        card,
+        l,
+        m,
+        plan,
+        marks,
+        program,
+        stack,
+        next as usize,
+        top + 1,
+    );
+    let leaf = reached.leaf;
+    let action = reached.action;
     let moved = move_leaf(card, l, m, plan, marks, action, leaf, stack);
     kept(moved, stack, top, next)
 }

@@ -1,20 +1,23 @@
 // A deliberation: moves one after the other, at most as many as the budget says.
 ghost use mathlib.Core.Path.{_≡_};
-ghost use lib.ListN.{drop};
-ghost use Rattle.door.specs.Words.{𝐁, conditions, agentFor, stateOf, configured, Ready};
+ghost use mathlib.Core.Bool.{true};
+ghost use lib.ListN.{length, drop};
+ghost use Rattle.door.specs.Words.{𝐁, conditions, agentFor, stateOf, configured, GoodCard, Ready};
+ghost use Rattle.choices.specs.Judged.{Marked};
 ghost use Rattle.deliberation.specs.Entries.{entriesOf};
 ghost use Rattle.deliberation.specs.Deliberate.{deliberate};
 ghost use Rattle.program.specs.GoodProgram.{GoodProgram};
 ghost use Rattle.deliberate.specs.Made.{Remains};
-ghost use Rattle.deliberate.specs.Ran.{RanTo};
+ghost use Rattle.deliberate.specs.Ran.{RanTo, stoppedBy};
 use crate::made::MoveMade;
 use crate::made::make_move;
+use choices::truth::Marks;
+use choices::truth::judge_nodes;
 use choices::truth::no_marks;
 use deliberation::DeliberationEnding;
 use meaning::Layout;
 use meaning::Mind;
 use meaning::Plan;
-use moves::run::refresh;
 
 // What a deliberation comes to beside the plan and the numbers that remain: where these begin.
 pub struct RanMoves {
@@ -34,6 +37,26 @@ fn ended(m: Mind, count: u16, ending: DeliberationEnding, top: usize) -> RanMove
         ending: ending,
         top: top,
     }
+}
+
+// Why a move that is not made ends a deliberation.
+fn stopped(made: MoveMade) -> DeliberationEnding
+    ensures { λ r. ⌜ r ≡ stoppedBy made ⌝ }
+{
+    match made {
+        MoveMade::On => DeliberationEnding::Spent,
+        MoveMade::Stuck => DeliberationEnding::Stuck,
+        MoveMade::Full => DeliberationEnding::Full,
+    }
+}
+
+// The nodes are judged: their marks are known to be true.
+fn judged(card: &[u8], l: Layout, m: Mind, marks: &mut Marks) -> bool
+    requires { ⌜ GoodCard l (now card) × (length (now marks) ≡ 256) ⌝ }
+    ensures { λ r. ⌜ Marked l (now (card .entry)) m (now (marks .exit)) × (length (now (marks .exit)) ≡ 256) × (r ≡ true) ⌝ }
+{
+    judge_nodes(card, l, m, marks);
+    true
 }
 
 // "Endings, in this order: spent, finished, stuck, full." The nodes are judged at most once a move: their marks stay true until an
@@ -61,19 +84,18 @@ pub fn run_moves(
         if rest == 128 {
             return ended(cur, count, DeliberationEnding::Finished, rest);
         }
-        refresh(card, l, cur, known, &mut marks);
-        let moved = make_move(card, l, cur, plan, &marks, program, stack, rest);
-        let made = moved.made;
-        let after = moved.mind;
-        match made {
-            MoveMade::On => {
-                known = moved.known;
-                cur = after;
-                rest = moved.top;
-                count += 1;
-            }
-            MoveMade::Stuck => return ended(after, count, DeliberationEnding::Stuck, moved.top),
-            MoveMade::Full => return ended(after, count, DeliberationEnding::Full, moved.top),
+        if !known {
+            known = judged(card, l, cur, &mut marks);
+        } else {
+            let moved = make_move(card, l, cur, plan, &marks, program, stack, rest);
+            let made = moved.made;
+            let MoveMade::On = made else {
+                return ended(moved.mind, count, stopped(made), moved.top);
+            };
+            known = moved.known;
+            cur = moved.mind;
+            rest = moved.top;
+            count += 1;
         }
     }
     ended(cur, count, DeliberationEnding::Spent, rest)

@@ -7,12 +7,12 @@ use Rattle.meaning.specs.Cases.{loaded}
 use Rattle.meaning.proofs.Computing.{computing}
 use Rattle.deliberation.specs.Programs.{𝒲}
 use Rattle.deliberation.specs.FirstMove.{lowestAction, ifEnabled}
-use Rattle.deliberation.specs.Entries.{entryOf, entriesOf, programGood, programTable, deliberateAnswer, firstMoveOf}
-use Rattle.deliberation.specs.Deliberate.{leads, deliberate, remainingOf, deliberates, deliberationEndingNumber}
-use Rattle.deliberation.specs.Cases.{entry, inNumbers, teaching, twoActions, twoActionsAgain, doubling, withPlan, long, wrong, DeliberationCases}
+use Rattle.deliberation.specs.Entries.{entryOf, entriesOf, programGood, programTable, numbersTable, goOnAnswer, firstMoveOf}
+use Rattle.deliberation.specs.Deliberate.{leads, deliberate, remainingOf, goesOn, deliberationEndingNumber}
+use Rattle.deliberation.specs.Cases.{entry, inNumbers, teaching, twoActions, twoActionsAgain, doubling, nested, lent, onFrom, withPlan, long, wrong, DeliberationCases}
 
 pub cases : DeliberationCases
-unfolding computing flatten assembled set specification selection revision stripeWith stripe loaded 𝒲 lowestAction ifEnabled entryOf entriesOf programGood programTable deliberateAnswer firstMoveOf leads deliberate remainingOf deliberates deliberationEndingNumber entry inNumbers teaching twoActions twoActionsAgain doubling withPlan long wrong
+unfolding computing flatten assembled set specification selection revision stripeWith stripe loaded 𝒲 lowestAction ifEnabled entryOf entriesOf programGood programTable numbersTable goOnAnswer firstMoveOf leads deliberate remainingOf goesOn deliberationEndingNumber entry inNumbers teaching twoActions twoActionsAgain doubling nested lent onFrom withPlan long wrong
 cases =
     record {
       finished = refl;
@@ -40,4 +40,19 @@ cases =
       goal-condition = refl;
       before-13 = refl;
       then-13 = refl;
+      gone-on = refl;
+      from-wrong-end = refl;
+      all-remain = refl;
+      all-gone-on = refl;
+      all-from-wrong-end = refl;
+      none-remain = refl;
+      none-no-budget = refl;
+      just-known = refl;
+      one-behind = refl;
+      not-known-behind = refl;
+      not-known = refl;
+      numbers-before-13 = refl;
+      lent-left = refl;
+      lent-left-by-program = refl;
+      lent-written = refl;
     }

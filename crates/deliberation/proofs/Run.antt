@@ -1,9 +1,10 @@
 -- A deliberation makes the first move of what remains, again and again, counts them, and ends for the reason that it gives.
-use mathlib.Core.Path.{_≡_, refl, ap, sym, subst}
+use mathlib.Core.Path.{_≡_, refl, ap, _∙_, sym, subst}
 use mathlib.Core.Bool.{Bool, true}
 use mathlib.Core.List.{List, [], _∷_, _++_}
 use mathlib.Core.Option.{Option, none, some}
-use Prim.Native.Nat.{ℕ, zero, suc, _<_}
+use Prim.Native.Nat.{ℕ, zero, suc, _+_, _≤_, _<_}
+use native.Mathlib.Nat.{zero-add}
 use native.Mathlib.Omega.{arith}
 use lib.ListN.{length}
 use Rattle.paper.specs.Language.{𝐁, Query, Agent}
@@ -21,7 +22,7 @@ use Rattle.deliberation.specs.FirstMove.{Move, firstMove}
 use Rattle.deliberation.specs.Entries.{entryCount, entriesOf, programGood, standing, firstMoveOf}
 use Rattle.deliberation.specs.Deliberate.{MoveResult, stuck, on, leads, moveResult, Outcome, ended, oneMore, deliberate, deliberationEndingNumber}
 use Rattle.deliberation.specs.Deliberate as Deliberate
-use Rattle.deliberation.specs.Theorems.{NoTransition, parts, partsOf, Goes, stays, goes, Followed, no-move, one-move, FollowedNumbers, as-they-are, next-moves, Overflows, EndsExactly}
+use Rattle.deliberation.specs.Theorems.{NoTransition, parts, partsOf, Goes, stays, goes, Followed, no-move, one-move, FollowedNumbers, as-they-are, next-moves, Overflows, EndsExactly, counted, DeliberationStops}
 use Rattle.deliberation.specs.Stacked.{Stacked, put}
 use Rattle.deliberation.proofs.Room.{move-within}
 use Rattle.deliberation.proofs.First.{is-one, none-exactly}
@@ -62,7 +63,7 @@ module _ (A : Agent) (βs : List (Query 𝐁)) (es : List Node) (b n : ℕ) (ns 
 
 -- ---- what a move comes to
 
-module _ (gs : List Bool) (l : Layout) (p : Bytes) (good : programGood gs l p ≡ true) (A : Agent) (βs : List (Query 𝐁)) (j : ℕ) (known : j < entryCount p) where
+module _ (gs : List Bool) (l : Layout) (p : Bytes) (good : programGood gs l p ≡ true) (A : Agent) (βs : List (Query 𝐁)) (j : ℕ) (known : j ≤ entryCount p) where
   -- what the first move of a program comes to, and of the numbers that stand for it, n and those behind it
   pub data Comes (P : Prog) (n : ℕ) (behind : List ℕ) (s : State) : MoveResult → Type 0 where
     no-move-there : NoTransition A P (s .mental) → Comes P n behind s stuck
@@ -165,7 +166,7 @@ ends-exactly (is-full {P = P} h x) =
 
 -- ---- the run
 
-module _ (gs : List Bool) (l : Layout) (p : Bytes) (good : programGood gs l p ≡ true) (A : Agent) (βs : List (Query 𝐁)) (k : ℕ) (known : k < entryCount p) where
+module _ (gs : List Bool) (l : Layout) (p : Bytes) (good : programGood gs l p ≡ true) (A : Agent) (βs : List (Query 𝐁)) (k : ℕ) (known : k ≤ entryCount p) where
   pub record Walked (b : ℕ) (R : Rest) (ns : List ℕ) (s : State) (o : Outcome) : Type 0 where
     pub labels : List Label
     pub rest : Rest
@@ -217,3 +218,49 @@ module _ (gs : List Bool) (l : Layout) (p : Bytes) (good : programGood gs l p �
             stacked = r .stacked;
             because = one-later (r .because);
           })
+
+-- ---- a deliberation that is stopped goes on
+
+from-zero : (o : Outcome) → o ≡ counted 0 o
+from-zero o = λ i. record { state = o .state; count = sym (zero-add (o .count)) i; ending = o .ending; remaining = o .remaining }
+
+one-more : (n : ℕ) (o : Outcome) → oneMore (counted n o) ≡ counted (suc n) o
+one-more n o =
+    let e : suc (n + o .count) ≡ suc n + o .count = omega arith in
+    λ i. record { state = o .state; count = e i; ending = o .ending; remaining = o .remaining }
+
+module _ (A : Agent) (βs : List (Query 𝐁)) (es : List Node) where
+  abbrev go-on : ℕ → List ℕ → State → Outcome
+  go-on = deliberate A βs es
+
+  -- a deliberation with k from what an outcome leaves, counted on from it
+  abbrev after-it : ℕ → Outcome → Outcome
+  after-it k o = counted (o .count) (go-on k (o .remaining) (o .state))
+
+  -- where the first one ends by itself, the second ends so too
+  ended-twice : (j k : ℕ) (e : DeliberationEnding) (ns : List ℕ) (s : State) → ((b : ℕ) → go-on (suc b) ns s ≡ ended e ns s)
+      → go-on (suc j + suc k) ns s ≡ after-it (suc k) (go-on (suc j) ns s)
+  ended-twice j k e ns s w =
+      let both-budgets : suc j + suc k ≡ suc (j + suc k) = omega arith in
+      ap (λ n. go-on n ns s) both-budgets ∙ w (j + suc k) ∙ from-zero (ended e ns s) ∙ sym (ap (after-it (suc k)) (w j) ∙ ap (counted 0) (w k))
+
+  stops : (j k : ℕ) (ns : List ℕ) (s : State) → 1 ≤ k → go-on (j + k) ns s ≡ after-it k (go-on j ns s)
+  unfolding deliberate
+  stops zero k ns s h = ap (λ n. go-on n ns s) (zero-add k) ∙ from-zero (go-on k ns s)
+  stops (suc j) zero ns s h = absurd (omega arith)
+  stops (suc j) (suc k) [] s h = ended-twice j k DeliberationEnding.Finished [] s (λ b. refl)
+  stops (suc j) (suc k) (n ∷ ns) s h = go (what-comes A βs es j n ns s) refl (stops j (suc k))
+    where
+      go : (c : MoveResult) → what-comes A βs es j n ns s ≡ c
+          → ((ns : List ℕ) (s : State) → 1 ≤ suc k → go-on (j + suc k) ns s ≡ after-it (suc k) (go-on j ns s))
+          → go-on (suc j + suc k) (n ∷ ns) s ≡ after-it (suc k) (go-on (suc j) (n ∷ ns) s)
+      go stuck e ih = ended-twice j k DeliberationEnding.Stuck (n ∷ ns) s (λ b. run-stuck A βs es b n ns s e)
+      go Deliberate.too-long e ih = ended-twice j k DeliberationEnding.Full (n ∷ ns) s (λ b. run-full A βs es b n ns s e)
+      go (on ns′ s′) e ih =
+          let both-budgets : suc j + suc k ≡ suc (j + suc k) = omega arith in
+          let o = go-on j ns′ s′ in
+          ap (λ m. go-on m (n ∷ ns) s) both-budgets ∙ run-on A βs es (j + suc k) n ns s ns′ s′ e ∙ ap oneMore (ih ns′ s′ (omega arith))
+          ∙ one-more (o .count) (go-on (suc k) (o .remaining) (o .state)) ∙ sym (ap (after-it (suc k)) (run-on A βs es j n ns s ns′ s′ e))
+
+pub deliberation-stops : DeliberationStops
+deliberation-stops = stops

@@ -1,4 +1,4 @@
--- What the call `deliberate` answers, on all bytes and numbers, refusals too (02, Wish 6).
+-- What the calls `deliberate` and `go on` answer, on all bytes and numbers, refusals too (02, Wish 6).
 use mathlib.Core.List.{List, [], _∷_, _++_}
 use mathlib.Core.Option.{Option, none, some}
 use Prim.Native.Nat.{ℕ, zero, suc, _-_}
@@ -6,6 +6,7 @@ use lib.ListN.{length, replicate}
 use Rattle.paper.specs.Language.{𝐁, Query, Agent}
 use Rattle.runs.specs.Order.{State}
 use Rattle.runs.specs.Step.{nothing, full, to, step}
+use Rattle.meaning.specs.declared.Refusal.{Refusal}
 use Rattle.meaning.specs.declared.Answer.the-variants.{Done, Refused}
 use Rattle.meaning.specs.declared.Node.{Node}
 use Rattle.meaning.specs.declared.Configuration.{Configuration}
@@ -16,7 +17,7 @@ use Rattle.deliberation.specs.declared.Remaining.{Remaining}
 use Rattle.deliberation.specs.declared.Deliberated.{Deliberated}
 use Rattle.deliberation.specs.MetaTransitions.{Label, idle, taking}
 use Rattle.deliberation.specs.FirstMove.{Move}
-use Rattle.deliberation.specs.Entries.{entryCount, entriesOf, deliberateAnswer, firstMoveOf}
+use Rattle.deliberation.specs.Entries.{entriesOf, firstMoveOf, goOnAnswer, whole}
 
 -- ---- a move
 
@@ -76,7 +77,7 @@ deliberate A βs es (suc budget) (n ∷ ns) s = elim (moveResult A s (firstMoveO
 unfoldable pub remainingOf : List ℕ → Remaining
 remainingOf ns = record { length = length ns; numbers = ns ++ replicate (128 - length ns) 0 }
 
--- A deliberation's outcome as it is answered. Serves deliberates.
+-- A deliberation's outcome as it is answered. Serves goesOn.
 abbrev pub deliberated : Outcome → Deliberated
 deliberated o = record {
   answer = Done;
@@ -86,19 +87,30 @@ deliberated o = record {
   remaining = remainingOf (o .remaining);
 }
 
--- 02, Wish 6: "A program is 1 to 128 entries …, the last one the whole": what remains before the first move.
-abbrev pub whole : Bytes → List ℕ
-whole p = (entryCount p - 1) ∷ []
+-- A deliberation that is refused with q. 01, "Numbers the guide may answer": "the configuration as it came in", "Any count in a
+-- refusal is 0."; 02, Wish 6: "none when refused"; 00, demand 1: "writes to no lent buffer": the bytes that were lent for what
+-- remains are as they were. It ends spent, as a refused run does (docs/DECISIONS.md, "What a refused run says beside its number").
+-- Serves goesOn.
+abbrev pub refused : Refusal → Configuration → Bytes → Deliberated
+refused q c lent = record {
+  answer = Refused q;
+  count = 0;
+  ending = DeliberationEnding.Spent;
+  configuration = c;
+  remaining = record { length = 0; numbers = lent };
+}
 
--- 02, Wish 6, of a card, a program, a configuration and a budget. Refused: 01, "Numbers the guide may answer": "the
--- configuration as it came in", "Any count in a refusal is 0."; 02, Wish 6: "none when refused"; and it ends spent, as a refused
--- run does (docs/DECISIONS.md, "What a refused run says beside its number").
-unfoldable pub deliberates : Bytes → Bytes → Configuration → ℕ → Deliberated
-deliberates b p c budget = elim (deliberateAnswer b p c) [
-  | Done ↦ deliberated (deliberate (agent b) (conditions 𝐁 (layout b) b) (entriesOf p) budget (whole p) (stateOf c))
-  | Refused r ↦
-      record { answer = Refused r; count = 0; ending = DeliberationEnding.Spent; configuration = c; remaining = remainingOf [] }
+-- 02, Wish 6, of a card, a program, the numbers that remain of it, a configuration, a budget, and the 128 bytes that are lent for
+-- what then remains: the deliberation goes on from these numbers.
+unfoldable pub goesOn : Bytes → Bytes → List ℕ → Configuration → ℕ → Bytes → Deliberated
+goesOn b p ns c budget lent = elim (goOnAnswer b p ns c) [
+  | Done ↦ deliberated (deliberate (agent b) (conditions 𝐁 (layout b) b) (entriesOf p) budget ns (stateOf c))
+  | Refused q ↦ refused q c lent
 ]
+
+-- 02, Wish 6, of a card, a program, a configuration and a budget: from the whole program.
+abbrev pub deliberates : Bytes → Bytes → Configuration → ℕ → Bytes → Deliberated
+deliberates b p c budget lent = goesOn b p (whole p) c budget lent
 
 -- drill.md: "ending (1: 0 spent, 1 finished, 2 stuck, 3 full)"
 unfoldable pub deliberationEndingNumber : DeliberationEnding → ℕ

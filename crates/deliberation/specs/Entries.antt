@@ -1,8 +1,8 @@
 -- A program's bytes: its entries, when they are refused (row 19), the programs that they stand for, and their first moves.
-use mathlib.Core.Bool.{Bool, not, _&&_}
+use mathlib.Core.Bool.{Bool, true, not, _&&_}
 use mathlib.Core.List.{List, [], _∷_, _++_, map}
 use mathlib.Core.Option.{Option, none}
-use Prim.Native.Nat.{ℕ, _*_, _/_, _%_}
+use Prim.Native.Nat.{ℕ, _+_, _*_, _-_, _/_, _%_}
 use lib.Dec.{ltb, eqb}
 use lib.ListN.{length, getD}
 use Rattle.paper.specs.Language.{𝐁, Query, Agent, Config}
@@ -62,9 +62,28 @@ programGood gs l p = lengthGood (length p) && every (entryCount p) (λ i. entryG
 unfoldable pub programTable : Bytes → List (Row Bytes)
 programTable b = (Refusal.Program given-when (λ p. not (programGood (containing 2 (layout b) b) (layout b) p))) ∷ []
 
--- 02, Wish 6: "19 …, after 9 and before 13."
-unfoldable pub deliberateAnswer : Bytes → Bytes → Configuration → Answer
-deliberateAnswer b p c = andThen (cardAnswer b) (andThen (firstGiven (programTable b) p) (firstGiven (configurationTable (layout b)) c))
+-- Numbers that a deliberation may go on from, where there are so many entries: each, and how many stand behind it, come to less
+-- than that (docs/DECISIONS.md, "Numbers that are gone on from"). No number at all is good.
+abbrev pub numbersGood : ℕ → List ℕ → Bool
+numbersGood entries [] = true
+numbersGood entries (n ∷ ns) = ltb (n + length ns) entries && numbersGood entries ns
+
+-- 02, Wish 6: "19 a program breaking these rules", of the numbers of program p that are given with it.
+unfoldable pub numbersTable : Bytes → List (Row (List ℕ))
+numbersTable p = (Refusal.Program given-when (λ ns. not (numbersGood (entryCount p) ns))) ∷ []
+
+-- 02, Wish 6: "19 …, after 9 and before 13.", of a program and of the numbers that are given with it.
+unfoldable pub goOnAnswer : Bytes → Bytes → List ℕ → Configuration → Answer
+goOnAnswer b p ns c =
+    andThen (cardAnswer b) (andThen (firstGiven (programTable b) p) (andThen (firstGiven (numbersTable p) ns) (firstGiven (configurationTable (layout b)) c)))
+
+-- 02, Wish 6: "A program is 1 to 128 entries …, the last one the whole": what remains before the first move.
+abbrev pub whole : Bytes → List ℕ
+whole p = (entryCount p - 1) ∷ []
+
+-- The same of the whole program.
+abbrev pub deliberateAnswer : Bytes → Bytes → Configuration → Answer
+deliberateAnswer b p c = goOnAnswer b p (whole p) c
 
 -- ---- what the entries stand for
 

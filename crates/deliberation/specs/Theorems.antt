@@ -6,7 +6,7 @@ use mathlib.Core.List.{List, [], _∷_, _++_, List·Memᴰ}
 use mathlib.Core.Option.{Option, none, some}
 use Prim.Native.Nat.{ℕ, _+_, _*_, _-_, _≤_, _<_}
 use lib.ListN.{length, take}
-use Rattle.paper.specs.Language.{𝐁, Agent, Config}
+use Rattle.paper.specs.Language.{𝐁, Query, Agent, Config}
 use Rattle.paper.specs.Transitions.{Choice, Step}
 use Rattle.runs.specs.Limits.{longestPlan, heaviestPlan}
 use Rattle.runs.specs.declared.Verdict.{Verdict}
@@ -16,6 +16,7 @@ use Rattle.runs.specs.Run.{Chain}
 use Rattle.runs.specs.Weight.{weigh, verdict, selections}
 use Rattle.meaning.specs.declared.Refusal.{Refusal}
 use Rattle.meaning.specs.declared.Answer.the-variants.{Done, Refused}
+use Rattle.meaning.specs.declared.Node.{Node}
 use Rattle.meaning.specs.declared.Configuration.{Configuration}
 use Rattle.meaning.specs.Card.{Bytes, layout, condition, conditions, agent, weight, initialPlan}
 use Rattle.meaning.specs.Configurations.{stateOf}
@@ -28,8 +29,8 @@ use Rattle.deliberation.specs.Programs.{notEmptyPlan, holds, Prog, execu
 use Rattle.deliberation.specs.MetaTransitions.{Label, idle, taking, MetaStep, Computation, notIdle}
 use Rattle.deliberation.specs.Kinds.{EntryKind, Execute, Apply, Select, WhilePlan, WhileBelief, Then, Or, entryKind}
 use Rattle.deliberation.specs.FirstMove.{Move, firstMove}
-use Rattle.deliberation.specs.Entries.{entryOf, entryCount, entriesOf, programGood, deliberateAnswer, program, standing, moveAt}
-use Rattle.deliberation.specs.Deliberate.{whole, deliberates}
+use Rattle.deliberation.specs.Entries.{entryOf, entryCount, entriesOf, programGood, numbersGood, goOnAnswer, whole, deliberateAnswer, program, standing, moveAt}
+use Rattle.deliberation.specs.Deliberate.{Outcome, deliberate, goesOn}
 
 -- ---- the first move
 
@@ -239,6 +240,16 @@ pub record EndsExactly (A : Agent) (budget n : ℕ) (R : Rest) (s : State) (e : 
   -- "full": with budget left, the first move of what remains leaves too long a plan
   pub full : (e ≡ DeliberationEnding.Full) ↔ ((n < budget) × ((P : Prog) × ((R ≡ still P) × Overflows A s P)))
 
+-- The same outcome, counted on from n.
+abbrev pub counted : ℕ → Outcome → Outcome
+counted n o = record { state = o .state; count = n + o .count; ending = o .ending; remaining = o .remaining }
+
+-- A deliberation with j and one with k, at least 1, from what then remains are one with both budgets. (With no budget it says spent
+-- wherever it stands.)
+abbrev pub DeliberationStops : Type 0
+DeliberationStops = (A : Agent) (βs : List (Query 𝐁)) (es : List Node) (j k : ℕ) (ns : List ℕ) (s : State) → 1 ≤ k
+    → deliberate A βs es (j + k) ns s ≡ (let o = deliberate A βs es j ns s in counted (o .count) (deliberate A βs es k (o .remaining) (o .state)))
+
 -- 02, Wish 6: "the last one the whole": the program that a program's bytes stand for under a card.
 abbrev pub wholeOf : Bytes → Bytes → Prog
 wholeOf b p = program (conditions 𝐁 (layout b) b) (entriesOf p) (entryCount p - 1)
@@ -249,43 +260,64 @@ numbersIn r = take (r .length) (r .numbers)
 
 -- ---- the call
 
--- What the contract of `deliberate` says of an answer r.
-abbrev pub Deliberates : Bytes → Bytes → Configuration → ℕ → Deliberated → Type 0
-Deliberates b p c budget r = r ≡ deliberates b p c budget
+-- What the contract of `go on` says of an answer r, from the numbers ns of program p, where 128 bytes are lent for what remains.
+abbrev pub GoesOn : Bytes → Bytes → List ℕ → Configuration → ℕ → Bytes → Deliberated → Type 0
+GoesOn b p ns c budget lent r = r ≡ goesOn b p ns c budget lent
 
--- What the answer to an accepted card, program and configuration tells.
-pub record Tells (b p : Bytes) (c : Configuration) (budget : ℕ) (r : Deliberated) : Type 0 where
+-- What the contract of `deliberate` says: all that is proved of `go on` is proved of it, from the whole.
+abbrev pub Deliberates : Bytes → Bytes → Configuration → ℕ → Bytes → Deliberated → Type 0
+Deliberates b p c budget lent r = GoesOn b p (whole p) c budget lent r
+
+-- The numbers that may be gone on from, by each of them and those behind it: they come to less than there are entries.
+abbrev pub NumbersExactly : Type 0
+NumbersExactly = (entries : ℕ) (ns : List ℕ)
+    → (numbersGood entries ns ≡ true) ↔ ((before : List ℕ) (n : ℕ) (behind : List ℕ) → ns ≡ before ++ (n ∷ behind) → n + length behind < entries)
+
+-- 02, Wish 6: "the last one the whole": `deliberate` is `go on` from the last entry's number.
+pub record WholeLaws (b p : Bytes) : Type 0 where
+  -- it stands for the program that the bytes stand for
+  pub stands-for : standFor b p (whole p) ≡ still (wholeOf b p)
+  -- 02, Wish 6: "19 a program breaking these rules or naming an unknown rule or node": and for nothing else
+  pub refused-exactly : cardAnswer b ≡ Done → (c : Configuration)
+      → (answerNumber (deliberateAnswer b p c) ≡ 19) ↔ (programGood (containing 2 (layout b) b) (layout b) p ≡ false)
+
+abbrev pub WholeLaw : Type 0
+WholeLaw = (b p : Bytes) → WholeLaws b p
+
+-- What the answer to an accepted card, program, numbers and configuration tells.
+pub record Tells (b p : Bytes) (ns : List ℕ) (c : Configuration) (budget : ℕ) (r : Deliberated) : Type 0 where
   pub done : r .answer ≡ Done
   -- the labels of the moves that were made, and the program that then remains
   pub labels : List Label
   pub rest : Rest
   -- 02, Wish 6: "Each move is one of the document's meta-level transitions, with selection added"
-  pub computation : Computation (agent b) (still (wholeOf b p)) (stateOf c .mental) labels rest (stateOf (r .configuration) .mental)
+  pub computation : Computation (agent b) (standFor b p ns) (stateOf c .mental) labels rest (stateOf (r .configuration) .mental)
   -- each is the first move of what remains, and an idle one leaves the whole configuration
-  pub followed : Followed (agent b) (still (wholeOf b p)) (stateOf c) labels rest (stateOf (r .configuration))
+  pub followed : Followed (agent b) (standFor b p ns) (stateOf c) labels rest (stateOf (r .configuration))
   -- 02, Wish 6: "the budget counts idle moves"
   pub counted : r .count ≡ length labels
   -- 02, Wish 6: "Endings, in this order"
   pub ends : EndsExactly (agent b) budget (r .count) rest (stateOf (r .configuration)) (r .ending)
   -- 02, Wish 6: "The answer holds the remaining program as entry numbers, the next first"
   pub remains : rest ≈ standFor b p (numbersIn (r .remaining))
-  -- 02, Wish 6: "a sequence is one number until a move is made in it": they are what these moves leave of the last entry's number
-  pub numbered : FollowedNumbers (agent b) (moveAt (layout b) b p) (whole p) (stateOf c) labels (numbersIn (r .remaining)) (stateOf (r .configuration))
-  -- there is room for the numbers, and each is one of the program's
+  -- 02, Wish 6: "a sequence is one number until a move is made in it": they are what these moves leave of the numbers given
+  pub numbered : FollowedNumbers (agent b) (moveAt (layout b) b p) ns (stateOf c) labels (numbersIn (r .remaining)) (stateOf (r .configuration))
+  -- there is room for the numbers, each is one of the program's, and they may be gone on from
   pub room : r .remaining .length ≤ 128
   pub known : (n : ℕ) → List·Memᴰ n (numbersIn (r .remaining)) → n < entryCount p
+  pub accepted : numbersGood (entryCount p) (numbersIn (r .remaining)) ≡ true
   -- the moves that are not idle are a chain of 004's Definitions 9 to 11
   pub chain : Chain (agent b) (stateOf c .mental) (notIdle labels) (stateOf (r .configuration) .mental)
 
 -- The same of every answer that meets the contract.
 abbrev pub TellsLaw : Type 0
-TellsLaw = (b p : Bytes) (c : Configuration) (budget : ℕ) → deliberateAnswer b p c ≡ Done → (r : Deliberated) → Deliberates b p c budget r
-    → Tells b p c budget r
+TellsLaw = (b p : Bytes) (ns : List ℕ) (c : Configuration) (budget : ℕ) (lent : Bytes) → goOnAnswer b p ns c ≡ Done → (r : Deliberated)
+    → GoesOn b p ns c budget lent r → Tells b p ns c budget r
 
 -- 02, Wish 6: "Demand 3 holds for transitions that are not idle.": under a card that is graded bounded, from a plan that weighs W,
 -- at most 1,024.
-pub record BoundedMoves (b p : Bytes) (c : Configuration) (budget : ℕ) (r : Deliberated) (w : ℕ) : Type 0 where
-  pub tells : Tells b p c budget r
+pub record BoundedMoves (b p : Bytes) (ns : List ℕ) (c : Configuration) (budget : ℕ) (r : Deliberated) (w : ℕ) : Type 0 where
+  pub tells : Tells b p ns c budget r
   -- 00, demand 3: "no run of more than W transitions without a plan selection exists"
   pub without-selection : selections (notIdle (tells .labels)) ≡ 0 → length (notIdle (tells .labels)) ≤ w
   -- 00, demand 3: "a run with S selections has at most W plus 1,025 times S transitions"
@@ -295,30 +327,34 @@ pub record BoundedMoves (b p : Bytes) (c : Configuration) (budget : ℕ) (r : De
 
 -- The same of every answer that meets the contract.
 abbrev pub BoundedMovesLaw : Type 0
-BoundedMovesLaw = (b p : Bytes) (c : Configuration) (budget : ℕ) → deliberateAnswer b p c ≡ Done → (r : Deliberated) → Deliberates b p c budget r
-    → verdict (weight b) (agent b) (initialPlan b) ≡ Verdict.Bounded → weigh (weight b) (stateOf c .mental .π) ≤ heaviestPlan
-    → BoundedMoves b p c budget r (weigh (weight b) (stateOf c .mental .π))
+BoundedMovesLaw = (b p : Bytes) (ns : List ℕ) (c : Configuration) (budget : ℕ) (lent : Bytes) → goOnAnswer b p ns c ≡ Done → (r : Deliberated)
+    → GoesOn b p ns c budget lent r → verdict (weight b) (agent b) (initialPlan b) ≡ Verdict.Bounded
+    → weigh (weight b) (stateOf c .mental .π) ≤ heaviestPlan → BoundedMoves b p ns c budget r (weigh (weight b) (stateOf c .mental .π))
 
 -- 02, Wish 6: "Refusals: 19 …, after 9 and before 13.", of every answer that meets the contract.
-pub record RefusalLaws (b p : Bytes) (c : Configuration) (budget : ℕ) (r : Deliberated) : Type 0 where
+pub record RefusalLaws (b p : Bytes) (ns : List ℕ) (c : Configuration) (lent : Bytes) (r : Deliberated) : Type 0 where
   -- "after 9": the card's own refusals
   pub by-card : (q : Refusal) → cardAnswer b ≡ Refused q → r .answer ≡ Refused q
-  -- "19 a program breaking these rules or naming an unknown rule or node", whatever the configuration
+  -- "19 a program breaking these rules or naming an unknown rule or node", whatever the numbers and the configuration
   pub by-program : cardAnswer b ≡ Done → programGood (containing 2 (layout b) b) (layout b) p ≡ false → answerNumber (r .answer) ≡ 19
+  -- the same of numbers that it cannot have left, whatever the configuration
+  pub by-numbers : cardAnswer b ≡ Done → numbersGood (entryCount p) ns ≡ false → answerNumber (r .answer) ≡ 19
   -- "before 13"
   pub by-configuration : cardAnswer b ≡ Done → programGood (containing 2 (layout b) b) (layout b) p ≡ true
-      → configurationGood (layout b) c ≡ false → answerNumber (r .answer) ≡ 13
+      → numbersGood (entryCount p) ns ≡ true → configurationGood (layout b) c ≡ false → answerNumber (r .answer) ≡ 13
   -- "done" otherwise
   pub otherwise : cardAnswer b ≡ Done → programGood (containing 2 (layout b) b) (layout b) p ≡ true
-      → configurationGood (layout b) c ≡ true → r .answer ≡ Done
+      → numbersGood (entryCount p) ns ≡ true → configurationGood (layout b) c ≡ true → r .answer ≡ Done
   -- 00, demand 1: "A refusal hands back the configuration it was given"; 01, "Numbers the guide may answer": "Any count in a
-  -- refusal is 0."; 02, Wish 6: "none when refused"
-  pub hands-back : (q : Refusal) → r .answer ≡ Refused q → (r .configuration ≡ c) × ((r .count ≡ 0) × (r .remaining .length ≡ 0))
+  -- refusal is 0."; 02, Wish 6: "none when refused"; 00, demand 1: "writes to no lent buffer"
+  pub hands-back : (q : Refusal) → r .answer ≡ Refused q
+      → (r .configuration ≡ c) × ((r .count ≡ 0) × ((r .remaining .length ≡ 0) × (r .remaining .numbers ≡ lent)))
 
 abbrev pub RefusalLaw : Type 0
-RefusalLaw = (b p : Bytes) (c : Configuration) (budget : ℕ) (r : Deliberated) → Deliberates b p c budget r → RefusalLaws b p c budget r
+RefusalLaw = (b p : Bytes) (ns : List ℕ) (c : Configuration) (budget : ℕ) (lent : Bytes) (r : Deliberated) → GoesOn b p ns c budget lent r
+    → RefusalLaws b p ns c lent r
 
 -- 01, "What the contracts settle": "equality of any two conforming answers is proved"
 abbrev pub DeterminedLaw : Type 0
-DeterminedLaw = (b p : Bytes) (c : Configuration) (budget : ℕ) (r r′ : Deliberated) → Deliberates b p c budget r → Deliberates b p c budget r′
-    → r ≡ r′
+DeterminedLaw = (b p : Bytes) (ns : List ℕ) (c : Configuration) (budget : ℕ) (lent : Bytes) (r r′ : Deliberated)
+    → GoesOn b p ns c budget lent r → GoesOn b p ns c budget lent r′ → r ≡ r′

@@ -19,3 +19,5 @@ pub mod Striking
 pub mod Keeping
 pub mod Demands
 pub mod Turning
+pub mod Telling
+pub mod Weaving

@@ -48,7 +48,7 @@ refused-then Done z = (z, refl)
 refused-then (Refused q) z = (q, refl)
 
 module _ (b : Bytes) (c : Configuration) (t : Turn b c) where
-  turn-done : OnAccepted b c → Shaped c → TurnDone c t
+  pub turn-done : OnAccepted b c → Shaped c → TurnDone c t
   turn-done on h =
       let s : t .saved .answer ≡ Done = demand-2 .saved-room b c h on (t .out) (t .left) (t .saved) (t .saves) .done-exactly .1 (t .room) in
       let (r, w) = demand-2 .saved-restored b c h (t .out) (t .left) (t .saved) (t .saves) s (t .restored) (t .restores) in
@@ -86,13 +86,13 @@ module _ (b : Bytes) (c : Configuration) (j : ℕ) (r : Ran) (w : Runs b c j r) 
   run-done : OnAccepted b c → r .answer ≡ Done
   run-done on = ap (λ (x : Ran). x .answer) (w ∙ runs-good b c on j)
 
-  run-accepted : OnAccepted b c → OnAccepted b (r .configuration)
+  pub run-accepted : OnAccepted b c → OnAccepted b (r .configuration)
   run-accepted on = again .run b c j r w (run-done on)
 
   run-refused : (q : Refusal) → configurationAnswer b c ≡ Refused q → r ≡ refusedRun q c
   run-refused q e = w ∙ runs-refused b c j q e
 
-  run-shaped : Shaped c → Shaped (r .configuration)
+  pub run-shaped : Shaped c → Shaped (r .configuration)
   run-shaped h = ran-shaped b c j r (running b c j r w) h
 
 -- ---- a run that is stopped, and goes on from what it reached
@@ -119,7 +119,7 @@ module _ (b : Bytes) (c : Configuration) (shaped : Shaped c) (j k : ℕ) (least 
       let f : second ≡ refusedRun q c = w′ ∙ ap (λ (x : Ran). runs b (x .configuration) k) e ∙ runs-refused b c k q h in
       rw (e, f, run-refused b c (j + k) one v q h) (record { answer = refl; configuration = refl; ending = refl; count = refl })
 
-  stopped : AsOneRun second (first .count + second .count) one
+  pub stopped : AsOneRun second (first .count + second .count) one
   stopped = go (configurationAnswer b c) refl
     where
       go : (a : Answer) → configurationAnswer b c ≡ a → AsOneRun second (first .count + second .count) one

@@ -1,5 +1,5 @@
--- What the contract of each of the eight calls says of an answer r, and of what a lent buffer holds afterwards (left). The
--- definitions are meaning's.
+-- What the contract of each of the eight calls and of next says of an answer r, and of what a lent buffer holds afterwards (left).
+-- The definitions are meaning's.
 use mathlib.Core.Path.{_≡_}
 use mathlib.Core.List.{List}
 use Prim.Native.Nat.{ℕ, _≤_}
@@ -11,9 +11,10 @@ use Rattle.meaning.specs.declared.Reply.{Reply}
 use Rattle.meaning.specs.declared.Graded.{Graded}
 use Rattle.meaning.specs.declared.Written.{Written}
 use Rattle.meaning.specs.declared.Ran.{Ran}
+use Rattle.meaning.specs.declared.Next.{Next}
 use Rattle.meaning.specs.Sizes.{edition1Set}
 use Rattle.meaning.specs.Card.{Bytes}
-use Rattle.meaning.specs.Calls.{checks, loads, grades, lists, listLeaves, takes, runs, saves, saveLeaves, restores}
+use Rattle.meaning.specs.Calls.{checks, loads, grades, lists, listLeaves, takes, runs, nexts, saves, saveLeaves, restores}
 
 -- 01, "What the guide does": "check a card"
 abbrev pub Checks : Bytes → Checked → Type 0
@@ -46,6 +47,10 @@ Saves b c out r left = (r ≡ saves b c out) × (left ≡ saveLeaves b c out)
 -- 01, "What the guide does": "and restore it"
 abbrev pub Restores : Bytes → Bytes → Reply → Type 0
 Restores b p r = r ≡ restores b p
+
+-- 00, the card: "The guide shows the next move."
+abbrev pub Nexts : Bytes → Configuration → Next → Type 0
+Nexts b c r = r ≡ nexts b c
 
 -- What the types of its fields say of any configuration: how long its sets and its plan are, and that the count is a number of two
 -- bytes. Load, take, run and restore ensure it of what they answer, and save of what it is handed.

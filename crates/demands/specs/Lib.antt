@@ -6,3 +6,4 @@ pub mod Shown
 pub mod Closed
 pub mod TestOrder
 pub mod TurnedScreen
+pub mod Next

@@ -1,11 +1,13 @@
 // The drill: requests on standard input, an answer for each on standard output, so that any other program can be compared with the
-// twelve calls byte for byte. Numbers of two or four bytes are low byte first. "A request that breaks these rules, or is not there
-// yet, ends the program."
+// fourteen calls byte for byte. Numbers of two or four bytes are low byte first. "A request that breaks these rules, or is not
+// there yet, ends the program."
 ghost use mathlib.Core.Path.{_≡_};
 ghost use Prim.Native.Nat.{_≤_};
 ghost use lib.ListN.{length};
 use answers::answer_carried;
 use answers::answer_number;
+use answers::coming_choice;
+use answers::coming_number;
 use answers::deliberation_ending_number;
 use answers::ending_number;
 use answers::refusal_number;
@@ -13,6 +15,7 @@ use answers::sheet_number;
 use answers::verdict_number;
 use answers::verdict_offender;
 use answers::verdict_rule;
+use deliberation::Deliberated;
 use layout::bytes::set_at;
 use meaning::Answer;
 use meaning::Checked;
@@ -340,6 +343,31 @@ fn run(card: &[u8]) -> bool {
     true
 }
 
+// "ending (1: 0 a move, 1 rest, 2 full), the code of the guide's own next choice (2; …)"
+fn tell_coming(coming: u8, choice: u16) {
+    let three = [coming, low(choice), high(choice)];
+    io::write_all(1, &three);
+}
+
+// Request 22. "What a refusal leaves open … (an ending, a verdict) is written as 0 here"
+fn next(card: &[u8]) -> bool {
+    let asked = next_image();
+    if !asked.whole {
+        return false;
+    }
+    let c = asked.configuration;
+    let r = guide::next(card, c);
+    let a = r.answer;
+    let k = r.coming;
+    tell(answer_number(a));
+    let Answer::Done = a else {
+        tell_coming(0, 0);
+        return true;
+    };
+    tell_coming(coming_number(k), coming_choice(k));
+    true
+}
+
 // "room bytes, lent filled with EE hex; room is at most 2,048"
 fn lent_bytes() -> [u8; 2048]
     ensures { λ r. ⌜ 2048 ≡ length r ⌝ }
@@ -493,8 +521,7 @@ fn tell_numbers(numbers: &[u8; 128], m: usize) {
 }
 
 // "count (2), ending (1: 0 spent, 1 finished, 2 stuck, 3 full), m (2), the remaining program: m numbers of one byte"
-fn deliberate_with(card: &[u8], program: &[u8], c: Configuration, budget: u16) {
-    let r = guide::deliberate(card, program, c, budget);
+fn tell_deliberated(r: Deliberated) {
     let a = r.answer;
     let e = r.ending;
     let reached = r.configuration;
@@ -528,7 +555,8 @@ fn deliberate_from(card: &[u8], program: &mut [u8]) -> bool {
     let Number::Is(budget) = most else {
         return false;
     };
-    deliberate_with(card, program, c, budget);
+    let r = guide::deliberate(card, program, c, budget);
+    tell_deliberated(r);
     true
 }
 
@@ -543,6 +571,55 @@ fn deliberate(card: &[u8]) -> bool {
     }
     let mut program = io::buffer();
     deliberate_from(card, &mut program[..n as usize])
+}
+
+// The given numbers are read, and then an image and a budget.
+fn go_on_with(card: &[u8], program: &[u8], given: &mut [u8]) -> bool {
+    if !fill(given) {
+        return false;
+    }
+    let asked = next_image();
+    if !asked.whole {
+        return false;
+    }
+    let c = asked.configuration;
+    let most = next_number();
+    let Number::Is(budget) = most else {
+        return false;
+    };
+    let r = guide::go_on(card, program, given, c, budget);
+    tell_deliberated(r);
+    true
+}
+
+// The program's bytes are read, and then "m (2, at most 512)".
+fn go_on_from(card: &[u8], program: &mut [u8]) -> bool {
+    if !fill(program) {
+        return false;
+    }
+    let size = next_number();
+    let Number::Is(m) = size else {
+        return false;
+    };
+    if 512 < m {
+        return false;
+    }
+    let mut given = io::buffer();
+    go_on_with(card, program, &mut given[..m as usize])
+}
+
+// Request 21: "length n (2, at most 1,024), n bytes of program, m (2, at most 512), m numbers of one byte that remain, the next
+// first, image, budget (2)"
+fn go_on(card: &[u8]) -> bool {
+    let size = next_number();
+    let Number::Is(n) = size else {
+        return false;
+    };
+    if 1024 < n {
+        return false;
+    }
+    let mut program = io::buffer();
+    go_on_from(card, &mut program[..n as usize])
 }
 
 // "sheet (1: 0 the master's, 1 the shed's: the one that the part lies in, or, with 20, the one that is refused), start (2), length
@@ -627,6 +704,8 @@ fn answer(card: &[u8], request: u8) -> bool {
         10 => print(card),
         11 => deliberate(card),
         12 => name(card),
+        21 => go_on(card),
+        22 => next(card),
         _ => false,
     }
 }

@@ -5,11 +5,16 @@ use lib.ListN.{length, take, drop}
 use lib.Seq.{take-at}
 use Rattle.meaning.specs.declared.Answer.{Answer}
 use Rattle.meaning.specs.declared.Answer.the-variants.{Done}
+use Rattle.meaning.specs.declared.Configuration.{Configuration}
+use Rattle.meaning.specs.declared.Next.{Next}
 use Rattle.meaning.specs.Card.{Bytes}
 use Rattle.meaning.specs.Refusals.{andThen, firstGiven, cardAnswer}
 use Rattle.meaning.specs.Calls.{roomFor, over}
 use Rattle.meaning.proofs.Tables.{done≢refused, and-then-done}
+use Rattle.demands.specs.Contracts.{Nexts}
+use Rattle.demands.specs.Demands.{OnAccepted}
 use Rattle.demands.proofs.Demands.{demand-1, determined}
+use Rattle.demands.proofs.Telling.{next-laws}
 use Rattle.demands.proofs.Testing.{test-order}
 use Rattle.demands.proofs.AcceptedAgain.{again}
 use Rattle.demands.proofs.Striking.{struck}
@@ -19,18 +24,20 @@ use Rattle.notation.specs.Reading.{textTable, saidAnswer, Reads, no-text, refus
 use Rattle.notation.proofs.Laws.{read-law, read-determined}
 use Rattle.deliberation.proofs.Call.{refusal-law, determined-law}
 use Rattle.every_call.specs.EveryCall.{EveryCall, EveryOrder, EveryAnswer, EveryDone, EveryGoal}
-use Rattle.every_call.proofs.Listed.{deliberate-answer, name-answer, deliberate-among, name-among, print-among, text-among, deliberate-refused, name-refused, print-refused}
+use Rattle.every_call.proofs.Listed.{go-on-answer, name-answer, go-on-among, name-among, print-among, text-among, name-refused, print-refused}
 use Rattle.every_call.proofs.Ordered.{name-card, name-shed, name-master, name-action, print-card, print-next, print-room, text-next, text-card, text-room}
-use Rattle.every_call.proofs.Deliberating.{deliberate-again, deliberate-struck}
+use Rattle.every_call.proofs.Deliberating.{go-on-again, accepted-numbers, go-on-struck}
 
 pub every-call : EveryCall
 every-call = record {
   eight = demand-1;
-  deliberate-listed = λ b p c budget r w. rw (deliberate-answer b p c budget r w) (deliberate-among b p c);
+  next-listed = next-laws .listed;
+  go-on-listed = λ b p ns c budget lent r w. rw (go-on-answer b p ns c budget lent r w) (go-on-among b p ns c);
   name-listed = λ b q r w. rw (name-answer b q r w) (name-among b q);
   text-listed = text-among;
   print-listed = λ b n out left a count w. rw (w .answer) (print-among b n out);
-  deliberate-hands-back = deliberate-refused;
+  next-hands-back = λ b c r w q e. (next-laws .unchanged b c r w, next-laws .refused b c r w q e);
+  go-on-hands-back = λ b p ns c budget lent r w. refusal-law b p ns c budget lent r w .hands-back;
   name-hands-back = name-refused;
   text-leaves = λ t out left a n w. read-law t out a n left w .nothing-written;
   print-leaves = print-refused;
@@ -39,7 +46,8 @@ every-call = record {
 pub every-order : EveryOrder
 every-order = record {
   eight = test-order;
-  deliberate = refusal-law;
+  next = next-laws .answered;
+  go-on = refusal-law;
   name-card = name-card;
   print-card = print-card;
   name-shed = name-shed;
@@ -56,7 +64,8 @@ every-order = record {
 pub every-answer : EveryAnswer
 every-answer = record {
   eight = determined;
-  deliberate = determined-law;
+  next = next-laws .determined;
+  go-on = determined-law;
   name = λ b q r r′ e e′. e ∙ sym e′;
   text = read-determined;
   print = λ b n out left left′ a a′ count count′ w w′. (w .answer ∙ sym (w′ .answer), w .counted ∙ sym (w′ .counted), w .leaves ∙ sym (w′ .leaves));
@@ -75,8 +84,11 @@ text-accepted t out left a n (done {s} x e) h =
     let z : take (length (built s)) (over (built s) out) ≡ built s = take-at (built s) (drop (length (built s)) out) (length (built s)) refl in
     rw z (built-accepted s out e)
 
+next-again : (b : Bytes) (c : Configuration) (r : Next) → Nexts b c r → r .answer ≡ Done → OnAccepted b (r .configuration)
+next-again b c r w d = rw (next-laws .unchanged b c r w) (sym (next-laws .answered b c r w) ∙ d)
+
 pub every-done : EveryDone
-every-done = record { eight = again; deliberate = deliberate-again; text = text-accepted }
+every-done = record { eight = again; next = next-again; go-on = go-on-again; numbers = accepted-numbers; text = text-accepted }
 
 pub every-goal : EveryGoal
-every-goal = record { eight = struck; deliberate = deliberate-struck }
+every-goal = record { eight = struck; next = λ b c r w u. rw (next-laws .unchanged b c r w) u; go-on = go-on-struck }

@@ -3,3 +3,4 @@ pub mod Ordered
 pub mod Deliberating
 pub mod EveryCall
 pub mod SinceLoad
+pub mod TurnedDeliberation

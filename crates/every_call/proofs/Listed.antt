@@ -1,10 +1,10 @@
--- Demand 1 of deliberate, name, text and print: what each may answer, and what a refusal hands back.
+-- Demand 1 of go on, name, text and print: what each may answer, and what a refusal hands back.
 use mathlib.Core.Path.{_≡_, refl, ap, _∙_, sym}
 use mathlib.Core.Bool.{Bool, true, false, not, _&&_}
 use mathlib.Core.List.{List, [], _∷_, _++_, List·Memᴰ, List·Memᴰ·head, List·Memᴰ·tail}
 use Prim.Native.Nat.{ℕ}
 use lib.Dec.{leb, ltb}
-use lib.ListN.{length, replicate}
+use lib.ListN.{length}
 use Rattle.paper.specs.Next.{if}
 use Rattle.meaning.specs.declared.Refusal.{Refusal}
 use Rattle.meaning.specs.declared.Answer.{Answer}
@@ -24,10 +24,9 @@ use Rattle.notation.specs.Printing.{printTable, printed, printAnswer, printCoun
 use Rattle.notation.specs.Theorems.{rowsOfText}
 use Rattle.notation.proofs.MadeCards.{built-law, text-rows}
 use Rattle.deliberation.specs.declared.Deliberated.{Deliberated}
-use Rattle.deliberation.specs.Entries.{programTable, deliberateAnswer}
-use Rattle.deliberation.specs.Deliberate.{remainingOf}
-use Rattle.deliberation.specs.Theorems.{Deliberates}
-use Rattle.deliberation.proofs.Call.{deliberates-done, deliberates-refused}
+use Rattle.deliberation.specs.Entries.{programTable, numbersTable, goOnAnswer}
+use Rattle.deliberation.specs.Theorems.{GoesOn}
+use Rattle.deliberation.proofs.Call.{said}
 use Rattle.names.specs.declared.Named.{Named}
 use Rattle.names.specs.Sheets.{nameSpan}
 use Rattle.names.specs.Naming.{Question, nameTable, nameAnswer, named, refusedName, found, answered, names, Names}
@@ -35,12 +34,9 @@ use Rattle.names.proofs.Naming.{on-refusal}
 
 -- ---- the answer is that of the checks
 
-pub deliberate-answer : (b p : Bytes) (c : Configuration) (budget : ℕ) (r : Deliberated) → Deliberates b p c budget r → r .answer ≡ deliberateAnswer b p c
-deliberate-answer b p c budget r w = go (deliberateAnswer b p c) refl
-  where
-    go : (a : Answer) → deliberateAnswer b p c ≡ a → r .answer ≡ deliberateAnswer b p c
-    go Done h = ap (λ (x : Deliberated). x .answer) (w ∙ deliberates-done b p c budget h) ∙ sym h
-    go (Refused q) h = ap (λ (x : Deliberated). x .answer) (w ∙ deliberates-refused b p c budget q h) ∙ sym h
+pub go-on-answer : (b p : Bytes) (ns : List ℕ) (c : Configuration) (budget : ℕ) (lent : Bytes) (r : Deliberated) → GoesOn b p ns c budget lent r
+    → r .answer ≡ goOnAnswer b p ns c
+go-on-answer b p ns c budget lent r w = ap (λ (x : Deliberated). x .answer) w ∙ said b p ns c budget lent (goOnAnswer b p ns c) refl
 
 found-done : (q : Question) → found q .answer ≡ Done
 unfolding found
@@ -68,14 +64,16 @@ room-among xs out = go (leb (length xs) (length out))
     go true = List·Memᴰ·head refl
     go false = List·Memᴰ·tail (List·Memᴰ·head refl)
 
-pub deliberate-among : (b p : Bytes) (c : Configuration) → List·Memᴰ (answerNumber (deliberateAnswer b p c)) (doneOrCard ++ (19 ∷ 13 ∷ []))
-unfolding deliberateAnswer programTable numberOf doneOrCard
-deliberate-among b p c =
+pub go-on-among : (b p : Bytes) (ns : List ℕ) (c : Configuration) → List·Memᴰ (answerNumber (goOnAnswer b p ns c)) (doneOrCard ++ (19 ∷ 13 ∷ []))
+unfolding goOnAnswer programTable numbersTable numberOf doneOrCard
+go-on-among b p ns c =
     let numbers = doneOrCard ++ (19 ∷ 13 ∷ []) in
     and-then-among (cardAnswer b) _ numbers (wider doneOrCard numbers refl (card-among b))
     (and-then-among (firstGiven (programTable b) p) _ numbers
     (wider (0 ∷ 19 ∷ []) numbers refl (listed (programTable b) p (19 ∷ []) refl))
-    (wider (0 ∷ 13 ∷ []) numbers refl (listed (configurationTable (layout b)) c (13 ∷ []) (table-order .configuration (layout b) c))))
+    (and-then-among (firstGiven (numbersTable p) ns) _ numbers
+    (wider (0 ∷ 19 ∷ []) numbers refl (listed (numbersTable p) ns (19 ∷ []) refl))
+    (wider (0 ∷ 13 ∷ []) numbers refl (listed (configurationTable (layout b)) c (13 ∷ []) (table-order .configuration (layout b) c)))))
 
 pub name-among : (b : Bytes) (q : Question) → List·Memᴰ (answerNumber (nameAnswer b q)) (doneOrCard ++ (20 ∷ 21 ∷ []))
 unfolding nameAnswer nameTable numberOf doneOrCard
@@ -124,13 +122,6 @@ text-among t out left a n (refused {s} x e) = rw e at (said-among s out)
 text-among t out left a n (done {s} x e) = rw e at (said-among s out)
 
 -- ---- a refusal
-
-pub deliberate-refused : (b p : Bytes) (c : Configuration) (budget : ℕ) (r : Deliberated) → Deliberates b p c budget r → (q : Refusal) → r .answer ≡ Refused q
-    → (r .configuration ≡ c) × ((r .count ≡ 0) × ((r .remaining .length ≡ 0) × (r .remaining .numbers ≡ replicate 128 0)))
-unfolding remainingOf
-deliberate-refused b p c budget r w q e =
-    let h : deliberateAnswer b p c ≡ Refused q = sym (deliberate-answer b p c budget r w) ∙ e in
-    rw (w ∙ deliberates-refused b p c budget q h) (refl, (refl, (refl, refl)))
 
 pub name-refused : (b : Bytes) (q : Question) (r : Named) → Names b q r → (x : Refusal) → r .answer ≡ Refused x → r ≡ refusedName (Refused x)
 name-refused b q r w x e = w ∙ on-refusal b q x (sym (name-answer b q r w) ∙ e)

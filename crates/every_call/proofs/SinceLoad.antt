@@ -40,10 +40,10 @@ use Rattle.demands.proofs.Ways.{Replying, done, refused, loading}
 use Rattle.deliberation.specs.declared.Deliberated.{Deliberated}
 use Rattle.deliberation.specs.Programs.{Rest}
 use Rattle.deliberation.specs.MetaTransitions.{Label, notIdle}
-use Rattle.deliberation.specs.Theorems.{Deliberates, Goes, stays, goes, Followed, no-move, one-move}
+use Rattle.deliberation.specs.Theorems.{GoesOn, Goes, stays, goes, Followed, no-move, one-move}
 use Rattle.deliberation.proofs.Call.{tells-law}
 use Rattle.every_call.specs.SinceLoad.{Since, loaded, taken, ran, deliberated, turned, Made, at-load, by-take, by-run, by-deliberation, by-turn, SinceLoad}
-use Rattle.every_call.proofs.Deliberating.{deliberate-done, deliberate-stands, deliberate-again}
+use Rattle.every_call.proofs.Deliberating.{go-on-done, go-on-stands, go-on-again}
 
 -- ---- transitions with the states between them, whoever chooses
 
@@ -163,15 +163,16 @@ module _ (b : Bytes) where
           handed-out = out (told .reached);
         }
 
-    since-deliberation : (p : Bytes) (budget : ℕ) (r : Deliberated) (w : Deliberates b p c budget r) (d : r .answer ≡ Done) → Walk b (deliberated h p budget r w d)
-    since-deliberation p budget r w d =
-        let t = tells-law b p c budget (deliberate-done b p c budget r w d) r w in
+    since-deliberation : (p : Bytes) (ns : List ℕ) (budget : ℕ) (lent : Bytes) (r : Deliberated) (w : GoesOn b p ns c budget lent r) (d : r .answer ≡ Done)
+        → Walk b (deliberated h p ns budget lent r w d)
+    since-deliberation p ns budget lent r w d =
+        let t = tells-law b p ns c budget lent (go-on-done b p ns c budget lent r w d) r w in
         record {
           choices = before .choices ++ notIdle (t .labels);
           made = by-deliberation (before .made) (t .followed) (t .counted);
-          on = deliberate-again b p c budget r w d;
+          on = go-on-again b p ns c budget lent r w d;
           moves = joined (before .moves) (followed (t .followed));
-          handed-out = out (deliberate-stands b p c budget r w d);
+          handed-out = out (go-on-stands b p ns c budget lent r w d);
         }
 
     since-turn : (t : Turn b c) → Walk b (turned h t)
@@ -189,7 +190,7 @@ walk : {b : Bytes} {c : Configuration} (h : Since b c) → Walk b h
 walk {b} (loaded r w d) = since-load b r w d
 walk {b} (taken h n r w d) = since-take b (walk h) n r w d
 walk {b} (ran h budget r w d) = since-run b (walk h) budget r w d
-walk {b} (deliberated h p budget r w d) = since-deliberation b (walk h) p budget r w d
+walk {b} (deliberated h p ns budget lent r w d) = since-deliberation b (walk h) p ns budget lent r w d
 walk {b} (turned h t) = since-turn b (walk h) t
 
 pub since : SinceLoad

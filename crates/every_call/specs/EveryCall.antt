@@ -1,17 +1,21 @@
--- What the documents say of every public call, of all twelve: a record for each sentence, with what is said of the eight calls of
--- document 01, and the same of deliberate, name, text and print, as far as it concerns each (proved in proofs/).
+-- What the documents say of every public call: a record for each sentence, with what is said of the eight calls of document 01,
+-- and the same of next, go on, name, text and print, as far as it concerns each (proved in proofs/). What is said of go on is said
+-- of deliberate, which is the case that the numbers given are the whole: `Deliberates`.
 use mathlib.Core.Path.{_≡_}
 use mathlib.Core.Bool.{true, false}
 use mathlib.Core.List.{List, [], _∷_, _++_, List·Memᴰ}
 use Prim.Native.Nat.{ℕ, _≤_}
-use lib.ListN.{take, replicate}
+use lib.ListN.{take}
 use Rattle.meaning.specs.declared.Refusal.{Refusal}
 use Rattle.meaning.specs.declared.Answer.{Answer}
 use Rattle.meaning.specs.declared.Answer.the-variants.{Done, Refused}
 use Rattle.meaning.specs.declared.Configuration.{Configuration}
+use Rattle.meaning.specs.declared.Coming.{Coming}
+use Rattle.meaning.specs.declared.Next.{Next}
 use Rattle.meaning.specs.Card.{Bytes, layout}
-use Rattle.meaning.specs.Refusals.{answerNumber, firstGiven, cardAnswer}
+use Rattle.meaning.specs.Refusals.{answerNumber, firstGiven, cardAnswer, configurationAnswer}
 use Rattle.meaning.specs.Calls.{roomFor}
+use Rattle.demands.specs.Contracts.{Nexts}
 use Rattle.demands.specs.Demands.{doneOrCard, Demand1, Determined, OnAccepted}
 use Rattle.demands.specs.TestOrder.{TestOrder}
 use Rattle.demands.specs.AcceptedAgain.{AcceptedAgain}
@@ -22,20 +26,22 @@ use Rattle.notation.specs.Reading.{Derived, textTable, Reads}
 use Rattle.notation.specs.Printing.{printTable, printed, Prints}
 use Rattle.notation.specs.Theorems.{ReadDetermined}
 use Rattle.deliberation.specs.declared.Deliberated.{Deliberated}
-use Rattle.deliberation.specs.Theorems.{Deliberates, RefusalLaw, DeterminedLaw}
+use Rattle.deliberation.specs.Entries.{goOnAnswer}
+use Rattle.deliberation.specs.Theorems.{numbersIn, GoesOn, RefusalLaw, DeterminedLaw}
 use Rattle.names.specs.declared.Named.{Named}
 use Rattle.names.specs.Sheets.{shedGood, masterGood}
 use Rattle.names.specs.Naming.{Question, refusedName, Names}
 
 -- 00, demand 1: "Every public call ends, on all bytes and numbers, with an answer listed in document 01. A refusal hands back the
 -- configuration it was given, or the empty one where it was given none, and writes to no lent buffer." That each call ends is
--- proved with its code. What remains of a refused deliberation is no number, in 128 bytes that are all 0; for C those are lent, and
--- are the one buffer that a refusal writes.
+-- proved with its code.
 pub record EveryCall : Type 0 where
   pub eight : Demand1
+  -- 01, "Numbers the guide may answer": "the card first with 1 to 9, then … a configuration with 13"
+  pub next-listed : (b : Bytes) (c : Configuration) (r : Next) → Nexts b c r → List·Memᴰ (answerNumber (r .answer)) (doneOrCard ++ (13 ∷ []))
   -- 02, Wish 6: "19 …, after 9 and before 13."
-  pub deliberate-listed : (b p : Bytes) (c : Configuration) (budget : ℕ) (r : Deliberated) → Deliberates b p c budget r
-      → List·Memᴰ (answerNumber (r .answer)) (doneOrCard ++ (19 ∷ 13 ∷ []))
+  pub go-on-listed : (b p : Bytes) (ns : List ℕ) (c : Configuration) (budget : ℕ) (lent : Bytes) (r : Deliberated)
+      → GoesOn b p ns c budget lent r → List·Memᴰ (answerNumber (r .answer)) (doneOrCard ++ (19 ∷ 13 ∷ []))
   -- 02, Wish 8: "20 a sheet breaking these rules, the shed's before the master; then 21 unknown action."
   pub name-listed : (b : Bytes) (q : Question) (r : Named) → Names b q r
       → List·Memᴰ (answerNumber (r .answer)) (doneOrCard ++ (20 ∷ 21 ∷ []))
@@ -46,11 +52,15 @@ pub record EveryCall : Type 0 where
   -- 02, Wish 2: "refuses: 7 no such node, 18, 25 over 256 nodes, 12."
   pub print-listed : (b : Bytes) (n : ℕ) (out left : Bytes) (a : Answer) (count : ℕ) → Prints b n out a count left
       → List·Memᴰ (answerNumber a) (doneOrCard ++ (18 ∷ 25 ∷ 12 ∷ []))
+  -- 00, demand 1: "A refusal hands back the configuration it was given"; and no move is told
+  pub next-hands-back : (b : Bytes) (c : Configuration) (r : Next) → Nexts b c r → (q : Refusal) → r .answer ≡ Refused q
+      → (r .configuration ≡ c) × (r .coming ≡ Coming.Rest)
   -- 00, demand 1: "A refusal hands back the configuration it was given"; 01, "Numbers the guide may answer": "Any count in a
-  -- refusal is 0."; 02, Wish 6: "none when refused": the numbers that are handed out are all 0.
-  pub deliberate-hands-back : (b p : Bytes) (c : Configuration) (budget : ℕ) (r : Deliberated) → Deliberates b p c budget r
-      → (q : Refusal) → r .answer ≡ Refused q
-      → (r .configuration ≡ c) × ((r .count ≡ 0) × ((r .remaining .length ≡ 0) × (r .remaining .numbers ≡ replicate 128 0)))
+  -- refusal is 0."; 02, Wish 6: "none when refused"; 00, demand 1: "and writes to no lent buffer": the bytes that are lent for the
+  -- numbers are as they were.
+  pub go-on-hands-back : (b p : Bytes) (ns : List ℕ) (c : Configuration) (budget : ℕ) (lent : Bytes) (r : Deliberated)
+      → GoesOn b p ns c budget lent r → (q : Refusal) → r .answer ≡ Refused q
+      → (r .configuration ≡ c) × ((r .count ≡ 0) × ((r .remaining .length ≡ 0) × (r .remaining .numbers ≡ lent)))
   -- 02, Wish 8: "Refusals, with an empty part of the master"
   pub name-hands-back : (b : Bytes) (q : Question) (r : Named) → Names b q r → (x : Refusal) → r .answer ≡ Refused x
       → r ≡ refusedName (Refused x)
@@ -64,8 +74,10 @@ pub record EveryCall : Type 0 where
 -- 4, 8, 9 or a configuration with 13; then the rest."
 pub record EveryOrder : Type 0 where
   pub eight : TestOrder
+  -- 01, "Numbers the guide may answer": "the card first with 1 to 9, then … a configuration with 13": and no other
+  pub next : (b : Bytes) (c : Configuration) (r : Next) → Nexts b c r → r .answer ≡ configurationAnswer b c
   -- 02, Wish 6: "19 a program breaking these rules or naming an unknown rule or node, after 9 and before 13."
-  pub deliberate : RefusalLaw
+  pub go-on : RefusalLaw
   -- 01, "Numbers the guide may answer": "the card first with 1 to 9", of the two others that are given one
   pub name-card : (b : Bytes) (q : Question) (r : Named) → Names b q r → (x : Refusal) → cardAnswer b ≡ Refused x → r .answer ≡ Refused x
   pub print-card : (b : Bytes) (n : ℕ) (out left : Bytes) (a : Answer) (count : ℕ) → Prints b n out a count left
@@ -101,18 +113,27 @@ pub record EveryOrder : Type 0 where
 -- every byte and number in lent buffers afterwards; equality of any two conforming answers is proved".
 pub record EveryAnswer : Type 0 where
   pub eight : Determined
-  pub deliberate : DeterminedLaw
+  pub next : (b : Bytes) (c : Configuration) (r r′ : Next) → Nexts b c r → Nexts b c r′ → r ≡ r′
+  pub go-on : DeterminedLaw
   pub name : (b : Bytes) (q : Question) (r r′ : Named) → Names b q r → Names b q r′ → r ≡ r′
   pub text : ReadDetermined
   pub print : (b : Bytes) (n : ℕ) (out left left′ : Bytes) (a a′ : Answer) (count count′ : ℕ)
       → Prints b n out a count left → Prints b n out a′ count′ left′ → (a ≡ a′) × (count ≡ count′) × (left ≡ left′)
 
+-- What a done deliberation answers, its numbers and its configuration, may be gone on from.
+abbrev pub AcceptedNumbers : Type 0
+AcceptedNumbers = (b p : Bytes) (ns : List ℕ) (c : Configuration) (budget : ℕ) (lent : Bytes) (r : Deliberated)
+    → GoesOn b p ns c budget lent r → r .answer ≡ Done → goOnAnswer b p (numbersIn (r .remaining)) (r .configuration) ≡ Done
+
 -- 00, demand 2: "On an accepted card and configuration": what a call answers when it is done, the same card accepts, so that no
 -- call after it answers 13; and the card that a text stands for is accepted.
 pub record EveryDone : Type 0 where
   pub eight : AcceptedAgain
-  pub deliberate : (b p : Bytes) (c : Configuration) (budget : ℕ) (r : Deliberated) → Deliberates b p c budget r → r .answer ≡ Done
-      → OnAccepted b (r .configuration)
+  pub next : (b : Bytes) (c : Configuration) (r : Next) → Nexts b c r → r .answer ≡ Done → OnAccepted b (r .configuration)
+  pub go-on : (b p : Bytes) (ns : List ℕ) (c : Configuration) (budget : ℕ) (lent : Bytes) (r : Deliberated)
+      → GoesOn b p ns c budget lent r → r .answer ≡ Done → OnAccepted b (r .configuration)
+  -- with the numbers that remain: go on accepts both, so that it does not answer 19 either
+  pub numbers : AcceptedNumbers
   -- 02, Wish 2: "builds an edition 1 card": as many of the bytes as were told
   pub text : (t out left : Bytes) (a : Answer) (n : ℕ) → Reads t out a n left → a ≡ Done → cardAnswer (take n left) ≡ Done
 
@@ -120,5 +141,6 @@ pub record EveryDone : Type 0 where
 -- where one is.
 pub record EveryGoal : Type 0 where
   pub eight : Struck
-  pub deliberate : (b p : Bytes) (c : Configuration) (budget : ℕ) (r : Deliberated) → Deliberates b p c budget r → Unbelieved c
-      → Unbelieved (r .configuration)
+  pub next : (b : Bytes) (c : Configuration) (r : Next) → Nexts b c r → Unbelieved c → Unbelieved (r .configuration)
+  pub go-on : (b p : Bytes) (ns : List ℕ) (c : Configuration) (budget : ℕ) (lent : Bytes) (r : Deliberated)
+      → GoesOn b p ns c budget lent r → Unbelieved c → Unbelieved (r .configuration)

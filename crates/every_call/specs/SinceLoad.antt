@@ -19,9 +19,9 @@ use Rattle.meaning.specs.Calls.{choice}
 use Rattle.demands.specs.Contracts.{Loads, Takes, Runs}
 use Rattle.demands.specs.TurnedScreen.{Turn, held}
 use Rattle.deliberation.specs.declared.Deliberated.{Deliberated}
-use Rattle.deliberation.specs.Programs.{Rest, still}
+use Rattle.deliberation.specs.Programs.{Rest}
 use Rattle.deliberation.specs.MetaTransitions.{Label, notIdle}
-use Rattle.deliberation.specs.Theorems.{Followed, wholeOf, Deliberates}
+use Rattle.deliberation.specs.Theorems.{Followed, standFor, GoesOn}
 
 -- What may have been done under a card since load, up to a configuration: chosen moves, runs, deliberations and turns of the
 -- screen, in any order.
@@ -32,9 +32,9 @@ pub data Since (b : Bytes) : Configuration → Type 0 where
   taken : {c : Configuration} → Since b c → (n : ℕ) (r : Reply) → Takes b c n r → r .answer ≡ Done → Since b (r .configuration)
   -- 01, "What the guide does": "run by itself"
   ran : {c : Configuration} → Since b c → (budget : ℕ) (r : Ran) → Runs b c budget r → r .answer ≡ Done → Since b (r .configuration)
-  -- 02, Wish 6: "Our own deliberation."
-  deliberated : {c : Configuration} → Since b c → (p : Bytes) (budget : ℕ) (r : Deliberated) → Deliberates b p c budget r
-      → r .answer ≡ Done → Since b (r .configuration)
+  -- 02, Wish 6: "Our own deliberation.": from any numbers of a program
+  deliberated : {c : Configuration} → Since b c → (p : Bytes) (ns : List ℕ) (budget : ℕ) (lent : Bytes) (r : Deliberated)
+      → GoesOn b p ns c budget lent r → r .answer ≡ Done → Since b (r .configuration)
   -- 02, Wish 4: "Saving and restoring keep it": a turn of the screen, with room to save
   turned : {c : Configuration} → Since b c → (t : Turn b c) → Since b (held t)
 
@@ -47,10 +47,10 @@ pub data Made (b : Bytes) : (c : Configuration) → Since b c → List Choice �
   by-run : {c : Configuration} {h : Since b c} {budget : ℕ} {r : Ran} {w : Runs b c budget r} {d : r .answer ≡ Done} {ks js : List Choice}
       → Made b _ h ks → Guided (agent b) (stateOf c) js (stateOf (r .configuration)) → r .count ≡ length js
       → Made b _ (ran h budget r w d) (ks ++ js)
-  by-deliberation : {c : Configuration} {h : Since b c} {p : Bytes} {budget : ℕ} {r : Deliberated} {w : Deliberates b p c budget r}
-      {d : r .answer ≡ Done} {ks : List Choice} {xs : List Label} {rest : Rest}
-      → Made b _ h ks → Followed (agent b) (still (wholeOf b p)) (stateOf c) xs rest (stateOf (r .configuration)) → r .count ≡ length xs
-      → Made b _ (deliberated h p budget r w d) (ks ++ notIdle xs)
+  by-deliberation : {c : Configuration} {h : Since b c} {p : Bytes} {ns : List ℕ} {budget : ℕ} {lent : Bytes} {r : Deliberated}
+      {w : GoesOn b p ns c budget lent r} {d : r .answer ≡ Done} {ks : List Choice} {xs : List Label} {rest : Rest}
+      → Made b _ h ks → Followed (agent b) (standFor b p ns) (stateOf c) xs rest (stateOf (r .configuration)) → r .count ≡ length xs
+      → Made b _ (deliberated h p ns budget lent r w d) (ks ++ notIdle xs)
   by-turn : {c : Configuration} {h : Since b c} {t : Turn b c} {ks : List Choice} → Made b _ h ks → Made b _ (turned h t) ks
 
 -- 02, Wish 4: "Let the configuration hold how many transitions have left the plan empty since load, stopping at 65,535."

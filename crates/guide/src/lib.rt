@@ -1,10 +1,11 @@
-// The guide: the ten calls. Nothing is assumed of any byte or number; each contract cites one definition of the whole answer,
+// The guide: the twelve calls. Nothing is assumed of any byte or number; each contract cites one definition of the whole answer,
 // refusals too, and of what a lent buffer holds afterwards. A configuration goes in and comes back by value.
 ghost use mathlib.Core.Path.{_≡_};
 ghost use Prim.Native.Nat.{_+_, _≤_};
+ghost use lib.ListN.{replicate};
 ghost use Rattle.paper.specs.Theorems.{AreBytes};
-ghost use Rattle.demands.specs.Contracts.{Checks, Loads, Grades, Lists, Takes, Runs, Saves, Restores, Shaped};
-ghost use Rattle.deliberation.specs.Theorems.{Deliberates};
+ghost use Rattle.demands.specs.Contracts.{Checks, Loads, Grades, Lists, Takes, Runs, Nexts, Saves, Restores, Shaped};
+ghost use Rattle.deliberation.specs.Theorems.{GoesOn, Deliberates};
 ghost use Rattle.door.specs.InPlace.{replyWith, ranWith};
 ghost use Rattle.deliberate.specs.InPlace.{deliberatedWith};
 ghost use Rattle.names.specs.Naming.{asked, names, Names, nameOf, placeOf};
@@ -16,6 +17,7 @@ use door::in_place::ReplyInPlace;
 use meaning::Checked;
 use meaning::Configuration;
 use meaning::Graded;
+use meaning::Next;
 use meaning::Plan;
 use meaning::Ran;
 use meaning::Reply;
@@ -129,6 +131,21 @@ pub fn run(card: &[u8], c: Configuration, budget: u16) -> Ran
     ran_with(r, plan)
 }
 
+// The guide's own next move, which is not made: its code, or that it rests or is full.
+pub fn next(card: &[u8], c: Configuration) -> Next
+    ensures { λ r. ⌜ Nexts (now (card .entry)) c r ⌝ }
+{
+    let m = c.mind;
+    let r = moves::next::next(card, m, &c.plan);
+    let a = r.answer;
+    let k = r.coming;
+    Next {
+        answer: a,
+        coming: k,
+        configuration: c,
+    }
+}
+
 // What a deliberation answered in place, with the plan and the numbers that remain.
 fn deliberated_with(r: DeliberatedInPlace, plan: Plan, numbers: [u8; 128]) -> Deliberated
     ensures { λ x. ⌜ x ≡ deliberatedWith r plan numbers ⌝ }
@@ -152,15 +169,40 @@ fn deliberated_with(r: DeliberatedInPlace, plan: Plan, numbers: [u8; 128]) -> De
     }
 }
 
+// 128 zeros, which are lent for the numbers that remain.
+fn no_numbers() -> [u8; 128]
+    ensures { λ r. ⌜ r ≡ replicate 128 0 ⌝ }
+{
+    [0u8; 128]
+}
+
 // At most budget moves of a deliberation program.
 pub fn deliberate(card: &[u8], program: &[u8], c: Configuration, budget: u16) -> Deliberated
-    ensures { λ r. ⌜ Deliberates (now (card .entry)) (now (program .entry)) c budget r ⌝ }
+    ensures { λ r. ⌜ Deliberates (now (card .entry)) (now (program .entry)) c budget (replicate 128 0) r ⌝ }
     ensures { λ r. ⌜ Shaped (r .configuration) ⌝ }
 {
     let m = c.mind;
     let mut plan = c.plan;
-    let mut numbers = [0u8; 128];
+    let mut numbers = no_numbers();
     let r = deliberate::call::deliberate(card, program, m, &mut plan, budget, &mut numbers);
+    deliberated_with(r, plan, numbers)
+}
+
+// The same from given numbers that remain of the program, the next first.
+pub fn go_on(
+    card: &[u8],
+    program: &[u8],
+    given: &[u8],
+    c: Configuration,
+    budget: u16,
+) -> Deliberated
+    ensures { λ r. ⌜ GoesOn (now (card .entry)) (now (program .entry)) (now (given .entry)) c budget (replicate 128 0) r ⌝ }
+    ensures { λ r. ⌜ Shaped (r .configuration) ⌝ }
+{
+    let m = c.mind;
+    let mut plan = c.plan;
+    let mut numbers = no_numbers();
+    let r = deliberate::call::go_on(card, program, given, m, &mut plan, budget, &mut numbers);
     deliberated_with(r, plan, numbers)
 }
 

@@ -13,6 +13,7 @@ use Rattle.meaning.specs.declared.Layout.{Layout}
 use Rattle.meaning.specs.declared.Answer.{Answer}
 use Rattle.meaning.specs.declared.Answer.the-variants.{Done, Refused}
 use Rattle.meaning.specs.declared.Checked.{Checked}
+use Rattle.meaning.specs.declared.Coming.{Coming}
 use Rattle.meaning.specs.Card.{Bytes, layout, weight, agent, initialPlan, start}
 use Rattle.runs.specs.declared.Ending.{Ending}
 use Rattle.paper.specs.Transitions.{Choice}
@@ -24,7 +25,7 @@ use Rattle.meaning.specs.Configurations.{stateOf, configurationOf, empty
 use Rattle.meaning.specs.Refusals.{cardAnswer, placeAnswer, _given-when_, andThen, firstGiven, configurationGood, configurationTable, configurationAnswer}
 use Rattle.meaning.specs.Place.{place, placed}
 use Rattle.meaning.specs.Why.{whyClosed}
-use Rattle.meaning.specs.Calls.{checks, reply, loads, graded, grades, written, over, roomFor, writeAnswer, writes, leaves, lists, listLeaves, choice, takes, ran, runs, saves, saveLeaves, restores}
+use Rattle.meaning.specs.Calls.{checks, reply, loads, graded, grades, written, over, roomFor, writeAnswer, writes, leaves, lists, listLeaves, choice, takes, ran, runs, coming, nexts, saves, saveLeaves, restores}
 use Rattle.meaning.proofs.Tables.{given, not-given}
 
 module _ (b : Bytes) where
@@ -90,6 +91,10 @@ module _ (b : Bytes) (c : Configuration) where
   unfolding runs
   runs-refused budget r e = rw (e, runs)
 
+  pub nexts-refused : (r : Refusal) → configurationAnswer b c ≡ Refused r → nexts b c ≡ record { answer = Refused r; coming = Coming.Rest; configuration = c }
+  unfolding nexts
+  nexts-refused r e = rw (e, nexts)
+
 module _ (b : Bytes) (c : Configuration) (good : configurationAnswer b c ≡ Done) where
   pub takes-nothing : (code : ℕ) → stepBy (agent b) (stateOf c) (choice code) ≡ nothing → takes b c code ≡ reply (Refused (whyClosed (layout b) b (stateOf c .mental) (choice code))) c
   unfolding takes
@@ -106,6 +111,10 @@ module _ (b : Bytes) (c : Configuration) (good : configurationAnswer b c ≡ Don
   pub runs-good : (budget : ℕ) → runs b c budget ≡ ran (run (agent b) budget (stateOf c))
   unfolding runs
   runs-good budget = rw (good, runs)
+
+  pub nexts-good : nexts b c ≡ record { answer = Done; coming = coming (agent b) (stateOf c); configuration = c }
+  unfolding nexts
+  nexts-good = rw (good, nexts)
 
 -- ---- list and save: xs is to be written to out
 

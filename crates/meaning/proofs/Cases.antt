@@ -2,9 +2,9 @@
 use mathlib.Core.Path.{refl}
 use mathlib.Core.List.{flatten}
 use Rattle.meaning.specs.Assembled.{assembled}
-use Rattle.meaning.specs.Stripe.{set, specification, selection, revision, stripeWith, stripe, stripe-P4, stripe-P5, stripe-P9, stripe-P10, stripe-P13}
-use Rattle.meaning.specs.Numbers.{checkedNumber, endingNumber, verdictNumber, verdictOffender, verdictRule, offenderNumber, offenderRule}
-use Rattle.meaning.specs.Cases.{shown, shownCheck, shownReply, shownTake, shownGrade, shownWritten, shownRun, configuration, loaded, afterSteps, guideCode, stepLine, takenInTurn, placeP7, resting, PCases, stripe-bobbin, ClosedCases, havingFinished, shownFinished, FinishedCases}
+use Rattle.meaning.specs.Stripe.{set, specification, selection, revision, stripeWith, stripe, stripe-P4, stripe-P5, stripe-P9, stripe-P10, stripe-P13, stripe-two}
+use Rattle.meaning.specs.Numbers.{checkedNumber, endingNumber, comingNumber, comingChoice, verdictNumber, verdictOffender, verdictRule, offenderNumber, offenderRule}
+use Rattle.meaning.specs.Cases.{shown, shownCheck, shownReply, shownTake, shownGrade, shownWritten, shownRun, configuration, loaded, afterSteps, guideCode, stepLine, takenInTurn, placeP7, resting, PCases, stripe-bobbin, ClosedCases, havingFinished, shownFinished, FinishedCases, shownNext, NextCases}
 use Rattle.meaning.proofs.Computing.{computing}
 
 pub P-cases : PCases
@@ -67,4 +67,16 @@ finished-cases = record {
   in-place = refl;
   kept = refl;
   old-place = refl;
+}
+
+pub next-cases : NextCases
+unfolding computing flatten assembled set specification selection revision stripeWith stripe stripe-two comingNumber comingChoice shown shownNext configuration loaded afterSteps resting
+next-cases = record {
+  at-the-start = refl;
+  after-three = refl;
+  own-order = refl;
+  other-phase = refl;
+  at-rest = refl;
+  too-long = refl;
+  refused = refl;
 }

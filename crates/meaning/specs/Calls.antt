@@ -1,19 +1,20 @@
--- What each of the eight calls answers, on all bytes and numbers, refusals too; and what a lent buffer holds afterwards.
+-- What each of the eight calls and `next` answer, on all bytes and numbers, refusals too; and what a lent buffer holds afterwards.
 -- 01, "Numbers the guide may answer": "A refusal answers the number and the configuration as it came in; load, restore and
 -- grading, which have none, answer the empty one (no atoms, empty plan, phase 0). Any count in a refusal is 0. No lent buffer
 -- is written."
 use mathlib.Core.Bool.{true, false}
 use mathlib.Core.List.{List, [], _∷_, _++_}
-use mathlib.Core.Option.{Option}
+use mathlib.Core.Option.{Option, none, some}
 use Prim.Native.Nat.{ℕ, _/_, _%_}
 use lib.Dec.{leb}
 use lib.ListN.{length, drop, getElem?}
+use Rattle.paper.specs.Language.{Agent}
 use Rattle.paper.specs.Transitions.{Choice, select, act, revise}
 use Rattle.runs.specs.declared.Ending.{Ending}
 use Rattle.runs.specs.declared.Offender.{Offender}
 use Rattle.runs.specs.declared.Verdict.{Verdict}
-use Rattle.runs.specs.Order.{enabledCodes}
-use Rattle.runs.specs.Step.{nothing, full, to, stepBy}
+use Rattle.runs.specs.Order.{State, code, guide, enabledCodes}
+use Rattle.runs.specs.Step.{Reached, nothing, full, to, step, stepBy}
 use Rattle.runs.specs.Run.{Outcome, run}
 use Rattle.runs.specs.Weight.{verdict}
 use Rattle.meaning.specs.declared.Refusal.{Refusal}
@@ -25,6 +26,8 @@ use Rattle.meaning.specs.declared.Reply.{Reply}
 use Rattle.meaning.specs.declared.Graded.{Graded}
 use Rattle.meaning.specs.declared.Written.{Written}
 use Rattle.meaning.specs.declared.Ran.{Ran}
+use Rattle.meaning.specs.declared.Coming.{Coming}
+use Rattle.meaning.specs.declared.Next.{Next}
 use Rattle.meaning.specs.Card.{Bytes, layout, weight, agent, initialPlan, start}
 use Rattle.meaning.specs.Configurations.{stateOf, configurationOf, empty}
 use Rattle.meaning.specs.Place.{place, placed}
@@ -153,6 +156,31 @@ unfoldable pub runs : Bytes → Configuration → ℕ → Ran
 runs b c budget = elim (configurationAnswer b c) [
   | Done ↦ ran (run (agent b) budget (stateOf c))
   | Refused r ↦ record { answer = Refused r; count = 0; ending = Ending.Spent; configuration = c }
+]
+
+-- ---- next
+
+-- What is told of a choice, by what its transition comes to: its code, and whether the plan fits. Serves comingOf.
+abbrev pub comingBy : Choice → Reached → Coming
+comingBy k nothing = Coming.Rest
+comingBy k full = Coming.Full (code k)
+comingBy k (to j s) = Coming.Move (code k)
+
+-- The same of a choice, if there is one. Serves coming.
+abbrev pub comingOf : Agent → State → Option Choice → Coming
+comingOf A s none = Coming.Rest
+comingOf A s (some k) = comingBy k (step A s k)
+
+-- 00, the card: "The guide shows the next move.": the guide's own, which is not made.
+unfoldable pub coming : Agent → State → Coming
+coming A s = comingOf A s (guide A s)
+
+-- What next answers, with the configuration as it came in. A refused one says rest, and no move (docs/DECISIONS.md, "What a
+-- refused next says").
+unfoldable pub nexts : Bytes → Configuration → Next
+nexts b c = elim (configurationAnswer b c) [
+  | Done ↦ record { answer = Done; coming = coming (agent b) (stateOf c); configuration = c }
+  | Refused r ↦ record { answer = Refused r; coming = Coming.Rest; configuration = c }
 ]
 
 -- ---- save

@@ -16,12 +16,13 @@ use Rattle.meaning.specs.declared.Reply.{Reply}
 use Rattle.meaning.specs.declared.Graded.{Graded}
 use Rattle.meaning.specs.declared.Written.{Written}
 use Rattle.meaning.specs.declared.Ran.{Ran}
+use Rattle.meaning.specs.declared.Next.{Next}
 use Rattle.meaning.specs.Card.{Bytes, weight, agent}
 use Rattle.meaning.specs.Configurations.{stateOf, configurationOf}
 use Rattle.meaning.specs.Refusals.{answerNumber, answerCarried}
-use Rattle.meaning.specs.Numbers.{checkedNumber, endingNumber, verdictNumber, verdictOffender, verdictRule}
-use Rattle.meaning.specs.Calls.{checks, loads, grades, lists, listLeaves, takes, runs, saves, saveLeaves, restores}
-use Rattle.meaning.specs.Stripe.{set, stripe, stripe-P4, stripe-P5, stripe-P9, stripe-P10, stripe-P13}
+use Rattle.meaning.specs.Numbers.{checkedNumber, endingNumber, comingNumber, comingChoice, verdictNumber, verdictOffender, verdictRule}
+use Rattle.meaning.specs.Calls.{checks, loads, grades, lists, listLeaves, takes, runs, nexts, saves, saveLeaves, restores}
+use Rattle.meaning.specs.Stripe.{set, stripe, stripe-P4, stripe-P5, stripe-P9, stripe-P10, stripe-P13, stripe-two}
 
 -- ---- answers as numbers
 
@@ -214,3 +215,24 @@ pub record FinishedCases : Type 0 where
       shownFinished (r .answer) (r .configuration)) ≡ 0 ∷ 259 ∷ []
   -- "old places read as count 0"
   pub old-place : (let r = restores stripe (placeP7 0) in shownFinished (r .answer) (r .configuration)) ≡ 0 ∷ 0 ∷ []
+
+-- What next answers in numbers: the number; what comes, and its code; the configuration. Serves NextCases.
+unfoldable pub shownNext : Next → List ℕ
+shownNext r = answerNumber (r .answer) ∷ comingNumber (r .coming) ∷ comingChoice (r .coming) ∷ shown (r .configuration)
+
+-- What comes next, on the stripe card unless said: 0 a move, 1 rest, 2 full, and the code.
+pub record NextCases : Type 0 where
+  -- 01, "The stripe card": "1 select 0 1 5", and "4 revise 1 2 2" after three steps: told, and not made.
+  pub at-the-start : shownNext (nexts stripe loaded) ≡ 0 ∷ 0 ∷ 0 ∷ shown loaded
+  pub after-three : shownNext (nexts stripe (afterSteps 3)) ≡ 0 ∷ 0 ∷ 513 ∷ shown (afterSteps 3)
+  -- 01, "A configuration and its transitions", The guide's order: "From phase p the kinds p, p+1, p+2 (modulo 3) are tried in
+  -- turn.": action 0 and revision 1 are open, and from phase 2 it is the revision, from phase 0 the action.
+  pub own-order : shownNext (nexts stripe-two (configuration (set 2) (set 4) 2 (0 ∷ []))) ≡ 0 ∷ 0 ∷ 513 ∷ (set 2 ++ (set 4 ++ (2 ∷ 0 ∷ [])))
+  pub other-phase : shownNext (nexts stripe-two (configuration (set 2) (set 4) 0 (0 ∷ []))) ≡ 0 ∷ 0 ∷ 256 ∷ (set 2 ++ (set 4 ++ (0 ∷ 0 ∷ [])))
+  -- 01, "The stripe card": "rest 6"
+  pub at-rest : shownNext (nexts stripe (afterSteps 6)) ≡ 0 ∷ 1 ∷ 0 ∷ resting
+  -- 01, P11: "Plan of 1,024: head 1 and body 2 long": revision 1, by its code, would be too long.
+  pub too-long : shownNext (nexts stripe (configuration (set 8) (set 0) 0 (replicate 1024 3)))
+      ≡ 0 ∷ 2 ∷ 513 ∷ (set 8 ++ (set 0 ++ (0 ∷ replicate 1024 3)))
+  -- 01, "Numbers the guide may answer", row 13: "a phase over 2": no move is told.
+  pub refused : shownNext (nexts stripe (configuration (set 8) (set 4) 3 (3 ∷ []))) ≡ 13 ∷ 1 ∷ 0 ∷ (set 8 ++ (set 4 ++ (3 ∷ 3 ∷ [])))

@@ -1,6 +1,6 @@
 -- 01, "Expected forms by place": "Where an answer is an enum, a definition gives this paper's number and values for each of its
--- cases". The numbers of the refusals are in Refusals; these are of what check answers, of sheets, endings, verdicts and
--- offenders, as include/rigtemple.h has them.
+-- cases". The numbers of the refusals are in Refusals; these are of what check answers, of sheets, endings, what comes
+-- next, verdicts and offenders, as include/rigtemple.h has them.
 use Prim.Native.Nat.{ℕ}
 use Rattle.runs.specs.declared.Ending.{Ending}
 use Rattle.runs.specs.declared.Offender.{Offender}
@@ -8,6 +8,7 @@ use Rattle.runs.specs.declared.Verdict.{Verdict}
 use Rattle.meaning.specs.declared.Answer.{Answer}
 use Rattle.meaning.specs.declared.Answer.the-variants.{Done, Refused}
 use Rattle.meaning.specs.declared.Checked.{Checked}
+use Rattle.meaning.specs.declared.Coming.{Coming}
 use Rattle.meaning.specs.Refusals.{numberOf, carried}
 
 -- 01, "Numbers the guide may answer": the number of what check answers.
@@ -29,6 +30,18 @@ endingNumber Ending.Spent = 0
 endingNumber Ending.Rest = 1
 -- "full when the transition to be taken would leave more than 1,024 actions"
 endingNumber Ending.Full = 2
+
+-- What comes next, in the order in which `Coming` has it: rest and full have the numbers that they have as endings.
+unfoldable pub comingNumber : Coming → ℕ
+comingNumber (Coming.Move n) = 0
+comingNumber Coming.Rest = 1
+comingNumber (Coming.Full n) = 2
+
+-- 01, "A configuration and its transitions": "A choice is coded as …": the code of what comes next, and 0 at rest.
+unfoldable pub comingChoice : Coming → ℕ
+comingChoice (Coming.Move n) = n
+comingChoice Coming.Rest = 0
+comingChoice (Coming.Full n) = n
 
 -- 01, "The stripe card": "verdict (bounded or open)".
 unfoldable pub verdictNumber : Verdict → ℕ

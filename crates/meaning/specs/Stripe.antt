@@ -74,3 +74,8 @@ stripe-P10 = stripeWith 2 true-node 2 (revision 2 2 1 3 2) its-pool
 -- 01, P13: "Node 0 "not 0""
 unfoldable pub stripe-P13 : Bytes
 stripe-P13 = stripeWith 1 (3 ∷ 0 ∷ 0 ∷ 0 ∷ []) 2 (revision 2 2 1 3 2) its-pool
+
+-- One with two open choices on a plan of weave: revision 1's head is 0 and its condition node 3; its body is 2 0, as ever. Serves
+-- NextCases.
+unfoldable pub stripe-two : Bytes
+stripe-two = stripeWith 1 true-node 2 (revision 3 4 1 3 2) its-pool

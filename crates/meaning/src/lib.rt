@@ -1,5 +1,5 @@
-// The meaning of a card: the words in which the eight calls answer. The definitions of what they answer are in specs/. It
-// holds no code.
+// The meaning of a card: the words in which the eight calls and `next` answer. The definitions of what they answer are in
+// specs/. It holds no code.
 use runs::Ending;
 use runs::Verdict;
 
@@ -153,5 +153,19 @@ pub struct Ran {
     pub answer: Answer,
     pub count: u16,
     pub ending: Ending,
+    pub configuration: Configuration,
+}
+
+// What comes next of the guide's own: a move, by its code; rest; or a move, by its code, whose plan would be too long.
+pub enum Coming {
+    Move(u16),
+    Rest,
+    Full(u16),
+}
+
+// What `next` answers, with the configuration as it came in. 00, the card: "The guide shows the next move."
+pub struct Next {
+    pub answer: Answer,
+    pub coming: Coming,
     pub configuration: Configuration,
 }

@@ -1,4 +1,5 @@
 pub mod Finished
 pub mod Stepping
 pub mod Running
+pub mod Telling
 pub mod Taking

@@ -35,21 +35,21 @@ pub fn advance(card: &[u8], l: Layout, m: Mind, plan: &mut Plan, marks: &Marks) 
     step(card, l, m, plan, kind, i)
 }
 
-// What a call of one move answers beside the plan.
-pub struct NextInPlace {
+// What making one move answers beside the plan.
+pub struct AdvancedInPlace {
     pub answer: Answer,
     pub step: Stepped,
 }
 
 // One move of the guide's own, with the choice that it took: what a program shows that tells move after move.
-pub fn next_move(card: &[u8], m: Mind, plan: &mut Plan) -> NextInPlace
+pub fn advance_once(card: &[u8], m: Mind, plan: &mut Plan) -> AdvancedInPlace
     ensures { λ r. ⌜ r .answer ≡ configurationAnswer (now (card .entry)) (configured m (now (plan .entry))) ⌝ }
     ensures { λ r. ⌜ Steps (ownMove (now (card .entry)) (configured m (now (plan .entry)))) (configured m (now (plan .entry)))
         (r .step) (now (plan .exit)) ⌝ }
 {
     let admitted = admit(card, m, plan);
     let Checked::Good(l) = admitted else {
-        return NextInPlace {
+        return AdvancedInPlace {
             answer: answer_of(admitted),
             step: Stepped {
                 transition: Transition::Nothing,
@@ -60,7 +60,7 @@ pub fn next_move(card: &[u8], m: Mind, plan: &mut Plan) -> NextInPlace
     let mut marks = no_marks();
     judge_nodes(card, l, m, &mut marks);
     let s = advance(card, l, m, plan, &marks);
-    NextInPlace {
+    AdvancedInPlace {
         answer: Answer::Done,
         step: s,
     }

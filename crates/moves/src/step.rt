@@ -1,7 +1,8 @@
 // A transition is made: the mind by value, the plan in place. Each is one of Definitions 9 to 11.
 ghost use mathlib.Core.Path.{_≡_};
-ghost use Prim.Native.Nat.{_+_, _%_, _≤_, _<_};
+ghost use Prim.Native.Nat.{_+_, _-_, _%_, _≤_, _<_};
 ghost use Rattle.paper.specs.Transitions.{select, act, revise};
+ghost use Rattle.layout.specs.GoodLayout.{TwoByteSpan};
 ghost use Rattle.door.specs.Words.{configured, Ready, choiceAt};
 ghost use Rattle.moves.specs.Steps.{Enabled, StepsBy, finishedAt, takenTo};
 use layout::entries::pool_at;
@@ -13,6 +14,7 @@ use layout::limits::most_finished;
 use meaning::Layout;
 use meaning::Mind;
 use meaning::Plan;
+use meaning::RevisionEntry;
 use meaning::Set;
 
 // What a transition comes to: it is taken, by the kind and number of a choice; there is none; or its plan would be too long.
@@ -92,6 +94,16 @@ fn step_action(card: &[u8], l: Layout, m: Mind, plan: &mut Plan, i: usize) -> St
     taken(beliefs, goals, n - 1, m.finished, 1, i)
 }
 
+// How many actions a revision leaves of a plan of n, whose front is its head: "The body takes the head's place; the rest stays."
+pub fn revised_length(e: RevisionEntry, n: usize) -> usize
+    requires { ⌜ (e .head .length ≤ n) × (n ≤ 1024) × TwoByteSpan (e .body) ⌝ }
+    ensures { λ r. ⌜ r ≡ e .body .length + (n - e .head .length) ⌝ }
+{
+    let head = e.head;
+    let body = e.body;
+    body.length + (n - head.length)
+}
+
 // Revision rule i: "The body takes the head's place; the rest stays." A plan that would be too long is not made.
 fn step_revision(card: &[u8], l: Layout, m: Mind, plan: &mut Plan, i: usize) -> Stepped
     requires { ⌜ Ready l (now card) (configured m (now plan)) × Enabled l (now card) (configured m (now plan)) (revise i) ⌝ }
@@ -101,7 +113,7 @@ fn step_revision(card: &[u8], l: Layout, m: Mind, plan: &mut Plan, i: usize) -> 
     let head = e.head;
     let body = e.body;
     let n = m.length as usize;
-    let after = body.length + (n - head.length);
+    let after = revised_length(e, n);
     if longest_plan() < after {
         return Stepped {
             transition: Transition::Full,

@@ -23,7 +23,7 @@ use meaning::Layout;
 use meaning::Mind;
 use meaning::Plan;
 use meaning::Set;
-use moves::advance::next_move;
+use moves::advance::advance_once;
 use moves::step::Transition;
 use output::also;
 use runs::Ending;
@@ -348,8 +348,8 @@ fn steps(card: &[u8], l: Layout, start: Configuration)
     let mut plan = start.plan;
     let mut count: u16 = 0;
     while count < 1000 {
-        let next = next_move(card, m, &mut plan);
-        let step = next.step;
+        let made = advance_once(card, m, &mut plan);
+        let step = made.step;
         let transition = step.transition;
         match transition {
             Transition::Taken(kind, number) => {

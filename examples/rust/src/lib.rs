@@ -1,4 +1,4 @@
-//! The twelve calls of the weaving guide for Rust. What each does is said in rigtemple.h.
+//! The fourteen calls of the weaving guide for Rust. What each does is said in rigtemple.h.
 //!
 //! SAFETY of every call below: the pointers come from references and slices, so that none is null,
 //! all are aligned, the lengths are true, and what is written overlaps nothing.
@@ -7,7 +7,9 @@ mod parts;
 mod words;
 
 use words::{done, done_with};
-pub use words::{Choice, DeliberationEnding, Ending, Entry, Offender, Refusal, Sheet, Verdict};
+pub use words::{
+    Choice, Coming, DeliberationEnding, Ending, Entry, Offender, Refusal, Sheet, Verdict,
+};
 
 pub const SET_BYTES: usize = 16;
 pub const MOST_CARD_BYTES: usize = 24128;
@@ -125,6 +127,26 @@ pub fn list(card: &[u8], c: &Configuration, list: &mut [u16]) -> Result<usize, R
     Ok(usize::from(entries))
 }
 
+/// Tells what comes next of the guide's own, and makes no move.
+pub fn next(card: &[u8], c: &Configuration) -> Result<Coming, Refusal> {
+    let (mut coming, mut choice) = (0, 0);
+    done(unsafe {
+        parts::rigtemple_next_parts(
+            card.as_ptr(),
+            card.len(),
+            c.beliefs.as_ptr(),
+            c.goals.as_ptr(),
+            c.plan.as_ptr(),
+            c.length,
+            c.phase,
+            c.finished,
+            &mut coming,
+            &mut choice,
+        )
+    })?;
+    Ok(Coming::of(coming, choice))
+}
+
 /// Takes a chosen move, by its code.
 pub fn take(card: &[u8], c: &mut Configuration, choice: u16) -> Result<(), Refusal> {
     let mut node = 0;
@@ -184,6 +206,44 @@ pub fn deliberate(
             card.len(),
             program.as_ptr(),
             program.len(),
+            c.beliefs.as_mut_ptr(),
+            c.goals.as_mut_ptr(),
+            c.plan.as_mut_ptr(),
+            &mut c.length,
+            &mut c.phase,
+            &mut c.finished,
+            budget,
+            &mut moves,
+            &mut ending,
+            remaining.as_mut_ptr(),
+            &mut remaining_length,
+        )
+    })?;
+    Ok(Deliberated {
+        moves,
+        ending: DeliberationEnding::of(ending),
+        remaining: remaining[..usize::from(remaining_length)].to_vec(),
+    })
+}
+
+/// Goes on with a program, from the numbers that remain of it, for `budget` moves at most.
+pub fn go_on(
+    card: &[u8],
+    program: &[u8],
+    numbers: &[u8],
+    c: &mut Configuration,
+    budget: u16,
+) -> Result<Deliberated, Refusal> {
+    let (mut moves, mut ending, mut remaining_length) = (0, 0, 0);
+    let mut remaining = [0; MOST_REMAINING];
+    done(unsafe {
+        parts::rigtemple_go_on_parts(
+            card.as_ptr(),
+            card.len(),
+            program.as_ptr(),
+            program.len(),
+            numbers.as_ptr(),
+            numbers.len(),
             c.beliefs.as_mut_ptr(),
             c.goals.as_mut_ptr(),
             c.plan.as_mut_ptr(),

@@ -1,4 +1,4 @@
-//! The functions of the archive, as rigtemple.h declares them: the twelve calls over the parts of a
+//! The functions of the archive, as rigtemple.h declares them: the fourteen calls over the parts of a
 //! configuration. `beliefs` and `goals` point to 16 bytes each, `plan` to 1,024, `remaining` to 128.
 
 extern "C" {
@@ -37,6 +37,19 @@ extern "C" {
         entries: *mut u16,
     ) -> u16;
 
+    pub fn rigtemple_next_parts(
+        card: *const u8,
+        card_len: usize,
+        beliefs: *const u8,
+        goals: *const u8,
+        plan: *const u8,
+        length: u16,
+        phase: u8,
+        finished: u16,
+        coming: *mut u8,
+        choice: *mut u16,
+    ) -> u16;
+
     pub fn rigtemple_take_parts(
         card: *const u8,
         card_len: usize,
@@ -69,6 +82,26 @@ extern "C" {
         card_len: usize,
         program: *const u8,
         program_len: usize,
+        beliefs: *mut u8,
+        goals: *mut u8,
+        plan: *mut u8,
+        length: *mut u16,
+        phase: *mut u8,
+        finished: *mut u16,
+        budget: u16,
+        moves: *mut u16,
+        ending: *mut u8,
+        remaining: *mut u8,
+        remaining_length: *mut u8,
+    ) -> u16;
+
+    pub fn rigtemple_go_on_parts(
+        card: *const u8,
+        card_len: usize,
+        program: *const u8,
+        program_len: usize,
+        numbers: *const u8,
+        numbers_len: usize,
         beliefs: *mut u8,
         goals: *mut u8,
         plan: *mut u8,

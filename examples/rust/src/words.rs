@@ -148,6 +148,21 @@ impl Ending {
     }
 }
 
+/// What comes next of the guide's own: a move by its code, rest, or a move by its code whose plan
+/// would get too long.
+#[derive(Clone, Copy, Debug, PartialEq, Eq)]
+pub enum Coming {
+    Move(u16),
+    Rest,
+    Full(u16),
+}
+
+impl Coming {
+    pub(crate) fn of(coming: u8, choice: u16) -> Coming {
+        [Coming::Move(choice), Coming::Rest, Coming::Full(choice)][usize::from(coming)]
+    }
+}
+
 /// Why a deliberation ended.
 #[derive(Clone, Copy, Debug, PartialEq, Eq)]
 pub enum DeliberationEnding {

@@ -2,7 +2,7 @@
 //! answered is held against the stored answers. `drill.md` says how both are written.
 
 use rigtemple::{
-    Configuration, Deliberated, DeliberationEnding, Ending, Name, Offender, Refusal, Sheet,
+    Coming, Configuration, Deliberated, DeliberationEnding, Ending, Name, Offender, Refusal, Sheet,
     Verdict, SET_BYTES,
 };
 
@@ -135,13 +135,38 @@ fn run(card: &[u8], requests: &mut Requests, answers: &mut Answers) {
     });
 }
 
-/// Deliberates: a refusal answers no moves, spent, and that nothing remains.
+/// Tells what comes next: a refusal answers 0 and no choice.
+fn next(card: &[u8], requests: &mut Requests, answers: &mut Answers) {
+    let answer = rigtemple::next(card, &requests.image());
+    answers.answer(&answer);
+    let (coming, choice) = match answer {
+        Ok(Coming::Move(choice)) => (0, choice),
+        Ok(Coming::Rest) => (1, 0),
+        Ok(Coming::Full(choice)) => (2, choice),
+        Err(_) => (0, 0),
+    };
+    answers.byte(coming);
+    answers.number(choice);
+}
+
 fn deliberate(card: &[u8], requests: &mut Requests, answers: &mut Answers) {
     let program = requests.counted();
     let mut c = requests.image();
     let answer = rigtemple::deliberate(card, program, &mut c, requests.number());
+    deliberated(answer, &c, answers);
+}
+
+fn go_on(card: &[u8], requests: &mut Requests, answers: &mut Answers) {
+    let (program, numbers) = (requests.counted(), requests.counted());
+    let mut c = requests.image();
+    let answer = rigtemple::go_on(card, program, numbers, &mut c, requests.number());
+    deliberated(answer, &c, answers);
+}
+
+/// Answers a deliberation: a refusal has no moves, is spent, and nothing remains.
+fn deliberated(answer: Result<Deliberated, Refusal>, c: &Configuration, answers: &mut Answers) {
     answers.answer(&answer);
-    answers.image(&c);
+    answers.image(c);
     let Deliberated {
         moves,
         ending,
@@ -245,6 +270,8 @@ fn answer<'a>(card: &mut &'a [u8], requests: &mut Requests<'a>, answers: &mut An
         10 => print(card, requests, answers),
         11 => deliberate(card, requests, answers),
         12 => name(card, requests, answers),
+        21 => go_on(card, requests, answers),
+        22 => next(card, requests, answers),
         other => panic!("there is no request {other}"),
     }
 }

@@ -1,6 +1,6 @@
 //! The words of the answers, the codes of choices, the bytes of entries and the names of actions.
 
-use rigtemple::{Choice, DeliberationEnding, Entry, Refusal, Sheet};
+use rigtemple::{Choice, Coming, DeliberationEnding, Entry, Refusal, Sheet};
 
 #[test]
 fn refusals_have_their_numbers_and_names() {
@@ -57,7 +57,36 @@ fn entries_make_a_program() {
     let before = c.clone();
     let broken = rigtemple::deliberate(&card, &program[..5], &mut c, 2);
     assert_eq!(broken, Err(Refusal::Program));
+    let beyond = rigtemple::go_on(&card, &program, &[9, 0], &mut c, 2);
+    assert_eq!(beyond, Err(Refusal::Program));
     assert_eq!(c, before);
+    let gone = rigtemple::go_on(&card, &program, &[6, 7], &mut c, 1).expect("they are good");
+    assert_eq!((gone.ending, gone.moves), (DeliberationEnding::Spent, 1));
+    let rest = rigtemple::go_on(&card, &program, &gone.remaining, &mut c, 1000);
+    let rest = rest.expect("they are good");
+    assert_eq!((rest.ending, rest.moves), (DeliberationEnding::Finished, 9));
+    assert_eq!((rest.remaining, c.finished), (vec![], 1));
+}
+
+#[test]
+fn what_comes_next_is_taken() {
+    let path = concat!(env!("CARGO_MANIFEST_DIR"), "/../../cards/stripe.card");
+    let card = std::fs::read(path).expect("the file is there");
+    let mut c = rigtemple::load(&card).expect("the card is good");
+    let mut moves = Vec::new();
+    while let Coming::Move(choice) = rigtemple::next(&card, &c).expect("all is good") {
+        rigtemple::take(&card, &mut c, choice).expect("it is open");
+        moves.push(choice);
+    }
+    assert_eq!(moves, [0, 512, 257, 513, 258, 256]);
+    assert_eq!(rigtemple::next(&card, &c), Ok(Coming::Rest));
+    c.phase = 3;
+    assert_eq!(rigtemple::next(&card, &c), Err(Refusal::Configuration));
+    c.phase = 2;
+    (c.beliefs[0], c.plan, c.length) = (8, [3; 1024], 1024);
+    assert_eq!(rigtemple::next(&card, &c), Ok(Coming::Full(513)));
+    let taken = rigtemple::take(&card, &mut c, 513);
+    assert_eq!(taken, Err(Refusal::PlanFull));
 }
 
 #[test]

@@ -31,7 +31,7 @@ returns c =
     let a = c .before .before .before .before .before .before .before .before .before .before .before .before .before .before .before .before .before .before .before .before .args in
     let t = c .before .before .before .before .before .before .before .before .before .deliberate in
     let u = c .before .before .put .ensures in
-    let e = t .ensures ∙ ap (λ (x : Mind). deliberates (now (a .card)) (now (a .program)) (configured x (now (a .plan))) (a .budget)) (c .before .before .before .before .before .before .before .before .before .before .before .before .mind .ensures) in (
+    let e = t .ensures ∙ ap (λ (x : Mind). deliberates (now (a .card)) (now (a .program)) (configured x (now (a .plan))) (a .budget) (now (a .remaining))) (c .before .before .before .before .before .before .before .before .before .before .before .before .mind .ensures) in (
       c .answer-number .ensures ∙ ap (λ (x : Deliberated). answerNumber (x .answer)) e,
       (λ i. whole (u .0 i) (u .1 i) (t .last .1 .1 .1 .0) (u .2 i) (u .3 i) (u .4 i)) ∙ ap (λ (x : Deliberated). x .configuration) e,
       ap (λ (x : Deliberated). x .count) e,

@@ -1,7 +1,12 @@
-use mathlib.Core.Path.{_∙_}
+use mathlib.Core.Path.{ap, _∙_}
 use borrow.Author.Needs.{needs}
+use denote.Ref.{now}
+use Rattle.deliberation.specs.Deliberate.{deliberates}
 use Rattle.guide.proofs.deliberate.Statement.{statement}
 use Rattle.guide.proofs.deliberate.Tie as tie
+
+no-numbers-requires : tie.Need-no-numbers-requires
+no-numbers-requires c κs = search needs
 
 deliberate-requires : tie.Need-deliberate-requires
 deliberate-requires c κs = search needs
@@ -10,7 +15,14 @@ deliberated-with-requires : tie.Need-deliberated-with-requires
 deliberated-with-requires c κs = search needs
 
 returns : tie.Need-returns
-returns c = (c .deliberated-with .ensures .0 ∙ c .before .deliberate .ensures, c .deliberated-with .ensures .1)
+returns c =
+    let a = c .before .before .before .before .before .before .before .before .before .args in
+    let b = now (a .card) in
+    let p = now (a .program) in
+    let d = a .c in (
+      c .deliberated-with .ensures .0 ∙ c .before .deliberate .ensures ∙ ap (λ x. deliberates b p d (a .budget) x) (c .before .before .before .before .no-numbers .ensures),
+      c .deliberated-with .ensures .1,
+    )
 
 pub deliberate-spec : {M : Type 1} → statement M
-deliberate-spec = tie.close (tie.spec deliberate-requires deliberated-with-requires returns)
+deliberate-spec = tie.close (tie.spec no-numbers-requires deliberate-requires deliberated-with-requires returns)

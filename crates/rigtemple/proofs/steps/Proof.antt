@@ -12,8 +12,8 @@ abbrev μ-loop : tie.MeasureT-loop
 loop-holds : tie.Need-loop-holds Inv-loop μ-loop
 loop-holds c = search needs
 
-next-move-requires : tie.Need-next-move-requires Inv-loop μ-loop
-next-move-requires c κs = search needs
+advance-once-requires : tie.Need-advance-once-requires Inv-loop μ-loop
+advance-once-requires c κs = search needs
 
 plan-weight-requires : tie.Need-plan-weight-requires Inv-loop μ-loop
 plan-weight-requires c κs = search needs
@@ -52,7 +52,7 @@ steps-spec =
     Inv-loop
     μ-loop
     loop-holds
-    next-move-requires
+    advance-once-requires
     (λ c. search needs)
     (λ c. search needs)
     (λ c. search needs)

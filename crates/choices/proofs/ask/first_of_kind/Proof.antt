@@ -5,10 +5,9 @@ use Rattle.meaning.specs.Configurations.{stateOf}
 use Rattle.layout.specs.PlaceParts.{configured}
 use Rattle.layout.specs.Entries.{countOf}
 use Rattle.door.proofs.First.{LeftOf, left-start, left-turn, found-of-kind, none-of-kind}
-use mathlib.Core.Path.{sym}
+use mathlib.Core.Path.{sym, _∙_}
 use Prim.Native.Nat.{_-_, _≤_}
 use native.Mathlib.Omega.{arith}
-use Rattle.door.proofs.Asking.{asked-is}
 use borrow.Author.Needs.{needs}
 use denote.Ref.{now}
 use Rattle.choices.proofs.ask.first_of_kind.Statement.{statement}
@@ -26,22 +25,15 @@ count-of-requires c κs = search needs
 loop-holds : tie.Need-loop-holds Inv-loop μ-loop
 loop-holds c = (omega arith, left-start _ _ _ _)
 
-ask-entry-requires : tie.Need-ask-entry-requires Inv-loop μ-loop
-ask-entry-requires c κs = search needs
-
-enum-told : tie.Need-enum-told Inv-loop μ-loop
-enum-told c = search needs
+is-enabled-requires : tie.Need-is-enabled-requires Inv-loop μ-loop
+is-enabled-requires c κs = search needs
 
 returns : tie.Need-returns Inv-loop μ-loop
 returns c =
-    let a = c .before .before .before .before .before .before .before .args in
-    let l = c .before .before .before .before .loop in
+    let a = c .before .before .before .before .before .before .args in
+    let l = c .before .before .before .loop in
     let s : Config = stateOf (configured (a .m) (now (a .plan))) .mental in
-    let e = sym (asked-is (a .l) (now (a .card)) s (choiceAt (a .kind) (l .i)) (c .before .before .ask-entry .result) _ (c .before .before .ask-entry .ensures) (c .enum-told .given .1)) in
-    found-of-kind (a .l) (now (a .card)) s (a .kind) (l .i) (c .before .before .before .before .before .before .before .pre .1) (omega arith) e (l .inv .1)
-
-enum-told-2 : tie.Need-enum-told-2 Inv-loop μ-loop
-enum-told-2 c = search needs
+    found-of-kind (a .l) (now (a .card)) s (a .kind) (l .i) (c .before .before .before .before .before .before .pre .1) (omega (arith, c .before .before .loop-test .taken)) (sym (c .before .is-enabled .ensures) ∙ c .if1 .taken) (l .inv .1)
 
 add-i : tie.Need-add-i Inv-loop μ-loop
 add-i c = search needs
@@ -51,48 +43,12 @@ loop-less c = search needs
 
 loop-again : tie.Need-loop-again Inv-loop μ-loop
 loop-again c =
-    let a = c .before .before .before .before .before .before .before .args in
-    let l = c .before .before .before .before .loop in
+    let a = c .before .before .before .before .before .before .args in
+    let l = c .before .before .before .loop in
     let A = agentFor (a .l) (now (a .card)) in
     let s : Config = stateOf (configured (a .m) (now (a .plan))) .mental in
-    let e = sym (asked-is (a .l) (now (a .card)) s (choiceAt (a .kind) (l .i)) (c .before .before .ask-entry .result) _ (c .before .before .ask-entry .ensures) (c .enum-told2 .given .1)) in
-    (omega (arith, c .before .before .before .loop-test .taken), left-turn A s (choiceAt (a .kind)) (countOf (a .l) (a .kind)) (l .i) (omega (arith, c .before .before .before .loop-test .taken)) e (l .inv .1))
-
-enum-told-3 : tie.Need-enum-told-3 Inv-loop μ-loop
-enum-told-3 c = search needs
-
-add-i-2 : tie.Need-add-i-2 Inv-loop μ-loop
-add-i-2 c = search needs
-
-loop-less-2 : tie.Need-loop-less-2 Inv-loop μ-loop
-loop-less-2 c = search needs
-
-loop-again-2 : tie.Need-loop-again-2 Inv-loop μ-loop
-loop-again-2 c =
-    let a = c .before .before .before .before .before .before .before .args in
-    let l = c .before .before .before .before .loop in
-    let A = agentFor (a .l) (now (a .card)) in
-    let s : Config = stateOf (configured (a .m) (now (a .plan))) .mental in
-    let e = sym (asked-is (a .l) (now (a .card)) s (choiceAt (a .kind) (l .i)) (c .before .before .ask-entry .result) _ (c .before .before .ask-entry .ensures) (c .enum-told3 .given .1)) in
-    (omega (arith, c .before .before .before .loop-test .taken), left-turn A s (choiceAt (a .kind)) (countOf (a .l) (a .kind)) (l .i) (omega (arith, c .before .before .before .loop-test .taken)) e (l .inv .1))
-
-enum-told-4 : tie.Need-enum-told-4 Inv-loop μ-loop
-enum-told-4 c = search needs
-
-add-i-3 : tie.Need-add-i-3 Inv-loop μ-loop
-add-i-3 c = search needs
-
-loop-less-3 : tie.Need-loop-less-3 Inv-loop μ-loop
-loop-less-3 c = search needs
-
-loop-again-3 : tie.Need-loop-again-3 Inv-loop μ-loop
-loop-again-3 c =
-    let a = c .before .before .before .before .before .before .before .args in
-    let l = c .before .before .before .before .loop in
-    let A = agentFor (a .l) (now (a .card)) in
-    let s : Config = stateOf (configured (a .m) (now (a .plan))) .mental in
-    let e = sym (asked-is (a .l) (now (a .card)) s (choiceAt (a .kind) (l .i)) (c .before .before .ask-entry .result) _ (c .before .before .ask-entry .ensures) (c .enum-told4 .given .1)) in
-    (omega (arith, c .before .before .before .loop-test .taken), left-turn A s (choiceAt (a .kind)) (countOf (a .l) (a .kind)) (l .i) (omega (arith, c .before .before .before .loop-test .taken)) e (l .inv .1))
+    let t = c .before .before .loop-test .taken in
+    (omega arith, left-turn A s (choiceAt (a .kind)) (countOf (a .l) (a .kind)) (l .i) (omega arith) (sym (c .before .is-enabled .ensures) ∙ c .if1 .left) (l .inv .1))
 
 returns-2 : tie.Need-returns-2 Inv-loop μ-loop
 returns-2 c =
@@ -108,19 +64,9 @@ first-of-kind-spec =
     μ-loop
     count-of-requires
     loop-holds
-    ask-entry-requires
-    enum-told
+    is-enabled-requires
     returns
-    enum-told-2
     add-i
     loop-less
     loop-again
-    enum-told-3
-    add-i-2
-    loop-less-2
-    loop-again-2
-    enum-told-4
-    add-i-3
-    loop-less-3
-    loop-again-3
     returns-2)

@@ -16,38 +16,40 @@ use Rattle.choices.proofs.truth.judge_nodes.Statement.{statement}
 use Rattle.choices.proofs.truth.judge_nodes.Tie as tie
 
 abbrev Inv-loop : tie.InvT-loop
-Inv-loop card l m marks₀ n i₀ marks i = (i ≤ n) × (length marks ≡ 256) × ((j : ℕ) → j < i → markAt marks j ≡ getD (kept l card (m .beliefs) (m .goals)) j (false, 0))
+Inv-loop card l marks₀ n beliefs goals i₀ marks i = (i ≤ n) × (length marks ≡ 256) × ((j : ℕ) → j < i → markAt marks j ≡ getD (kept l card beliefs goals) j (false, 0))
 
 abbrev μ-loop : tie.MeasureT-loop
-μ-loop card l m marks₀ n i₀ marks i = n - i
+μ-loop card l marks₀ n beliefs goals i₀ marks i = n - i
 
 loop-holds : tie.Need-loop-holds Inv-loop μ-loop
-loop-holds c = (omega arith, c .before .before .pre .1, λ j h. absurd (omega arith))
+loop-holds c = (omega arith, c .before .before .before .before .pre .1, λ j h. absurd (omega arith))
 
 cast-judge : tie.Need-cast-judge Inv-loop μ-loop
-cast-judge c = let q = c .before .before .before .before .pre .0 .layout .nodes in omega arith
+cast-judge c = let q = c .before .before .before .before .before .before .pre .0 .layout .nodes in omega arith
 
 read-node-requires : tie.Need-read-node-requires Inv-loop μ-loop
 read-node-requires c κs = search needs
 
 judge-requires : tie.Need-judge-requires Inv-loop μ-loop
 judge-requires c κs =
-    let a = c .before .before .before .before .before .before .args in
-    let r = node-rule (a .l) (now (a .card)) (c .before .before .before .before .before .before .pre .0 .nodes) (c .before .before .before .loop .i) (omega arith) in
-    rw (c .before .read-node .ensures) (r .kinds)
+    let a = c .before .before .before .before .before .before .before .before .before .before .args in
+    let p = c .before .before .before .before .before .before .before .before .before .before .pre .0 in
+    let atoms = p .layout .atoms in
+    let r = node-rule (a .l) (now (a .card)) (p .nodes) (c .before .before .before .before .before .loop .i) (omega arith) in
+    rw (c .before .before .before .read-node .ensures) (r .kinds, λ x y. (let low = r .atom x y in omega arith))
 
 loop-less : tie.Need-loop-less Inv-loop μ-loop
 loop-less c = search needs
 
 loop-again : tie.Need-loop-again Inv-loop μ-loop
 loop-again c =
-    let a = c .before .before .before .before .before .before .before .args in
-    let p = c .before .before .before .before .before .before .before .pre .0 in
-    let l = c .before .before .before .before .loop in
+    let a = c .before .before .before .before .before .before .before .before .before .before .before .args in
+    let p = c .before .before .before .before .before .before .before .before .before .before .before .pre .0 in
+    let l = c .before .before .before .before .before .before .loop in
     let b = now (a .card) in
     let k : l .i < a .l .nodes .count = omega arith in
     let r = l .inv .1 in
-    let e = c .judge .ensures ∙ ap (λ (x : Node). keptOf (l .i) (nodeKind (x .kind)) (x .a) (x .b) (a .m .beliefs) (a .m .goals) (markAt (l .marks))) (c .before .before .read-node .ensures) in (
+    let e = c .judge .ensures ∙ ap (λ (x : Node). keptOf (l .i) (nodeKind (x .kind)) (x .a) (x .b) (a .m .beliefs) (a .m .goals) (markAt (l .marks))) (c .before .before .before .before .read-node .ensures) in (
       omega arith,
       simp length-set (l .inv .1),
       told-turn (λ j. getD (kept (a .l) b (a .m .beliefs) (a .m .goals)) j (false, 0)) (l .marks) (l .i) (c .judge .result) (let q = p .layout .nodes in omega arith) (l .inv .2)

@@ -1,17 +1,16 @@
 use Rattle.layout.specs.PlaceParts.{configured}
 use Rattle.card.specs.Rows.{answerOf}
-use Rattle.deliberate.proofs.Calling.{refused-so, by-card}
-use mathlib.Core.Path.{sym, ap, _∙_}
+use Rattle.deliberate.proofs.Calling.{refused-so, whole-accepted}
+use mathlib.Core.Path.{ap, _∙_}
+use Rattle.deliberation.specs.Entries.{entryCount, numbersGood, whole}
+use Rattle.deliberation.specs.Deliberate.{goesOn}
 use borrow.Author.Needs.{needs}
 use denote.Ref.{now}
 use Rattle.deliberate.proofs.call.deliberate.Statement.{statement}
 use Rattle.deliberate.proofs.call.deliberate.Tie as tie
 
-no-numbers-requires : tie.Need-no-numbers-requires
-no-numbers-requires c κs = search needs
-
-check-requires : tie.Need-check-requires
-check-requires c κs = search needs
+check-program-requires : tie.Need-check-program-requires
+check-program-requires c κs = search needs
 
 enum-told : tie.Need-enum-told
 enum-told c = search needs
@@ -24,29 +23,45 @@ refused-requires c κs = search needs
 
 returns : tie.Need-returns
 returns c =
-    let a = c .before .before .before .before .before .before .before .before .args in
+    let a = c .before .before .before .before .before .before .before .args in
     let b = now (a .card) in
     let p = now (a .program) in
     let d = configured (a .m) (now (a .plan)) in
     let told = c .before .before .enum-told .given .1 in
-    refused-so b p d (a .budget) _ (by-card b p d (a .budget) _ (sym (c .before .before .before .before .check .ensures) ∙ told)) (c .before .answer-of .result) (c .before .answer-of .ensures ∙ ap answerOf told) (c .refused .result) (c .refused .ensures) (c .before .before .before .before .before .no-numbers .result) (c .before .before .before .before .before .no-numbers .ensures)
+    refused-so b p (whole p) d (a .budget) (now (a .remaining)) _ (c .before .before .before .before .check-program .ensures .bad _ told (whole p) d) (c .before .answer-of .result) (c .before .answer-of .ensures ∙ ap answerOf told) (c .refused .result) (c .refused .ensures)
 
-from-program-requires : tie.Need-from-program-requires
-from-program-requires c κs = (sym (c .before .before .before .before .before .check .ensures) ∙ c .before .before .before .checked .given .1, c .before .before .before .before .before .before .no-numbers .ensures)
+whole-program-requires : tie.Need-whole-program-requires
+whole-program-requires c κs =
+    let (e, g) = c .before .before .before .check-program .ensures .good _ (c .before .checked .given .1) in
+    (g .some, g .most)
+
+from-configuration-requires : tie.Need-from-configuration-requires
+from-configuration-requires c κs =
+    let a = c .before .before .before .before .before .before .before .before .before .before .args in
+    let b = now (a .card) in
+    let p = now (a .program) in
+    let (e, g) = c .before .before .before .before .before .before .before .check-program .ensures .good _ (c .before .before .before .before .before .checked .given .1) in
+    (e, g, ap (numbersGood (entryCount p)) (c .before .before .before .whole-program .ensures) ∙ whole-accepted b p _ e g)
 
 returns-2 : tie.Need-returns-2
-returns-2 c = search needs
+returns-2 c =
+    let a = c .before .before .before .before .before .before .before .before .before .before .before .args in
+    let b = now (a .card) in
+    let p = now (a .program) in
+    let d = configured (a .m) (now (a .plan)) in
+    c .from-configuration .ensures ∙ ap (λ ns. goesOn b p ns d (a .budget) (now (a .remaining))) (c .before .before .before .before .whole-program .ensures)
 
 pub deliberate-spec : {M : Type 1} → statement M
 deliberate-spec =
     tie.close
     (tie.spec
-    no-numbers-requires
-    check-requires
+    check-program-requires
     (λ c. search needs)
     enum-told
     answer-of-requires
     refused-requires
     returns
-    from-program-requires
+    whole-program-requires
+    (λ c. search needs)
+    from-configuration-requires
     returns-2)

@@ -1,4 +1,3 @@
-use Rattle.paper.specs.Atoms.{_∈_}
 use Rattle.layout.specs.PlaceParts.{configured}
 use Rattle.meaning.specs.Configurations.{stateOf}
 use Rattle.meaning.specs.Card.{agentFor}
@@ -6,13 +5,14 @@ use Rattle.deliberation.specs.Kinds.{entryKind}
 use Rattle.deliberate.specs.First.{movableOf}
 use Rattle.deliberate.proofs.Marking.{apply-known, select-known, then-known, or-known}
 use Rattle.card.proofs.Laws.{either-of}
-use mathlib.Core.Bool.{Bool}
+use mathlib.Core.Bool.{Bool, false}
 use mathlib.Core.Logic.{⊎-elim}
 use mathlib.Core.Path.{_≡_, sym, ap}
-use Prim.Native.Nat.{ℕ}
+use Prim.Native.Nat.{ℕ, _<_}
 use native.Mathlib.Omega.{arith}
 use borrow.Author.Needs.{needs}
 use denote.Ref.{now}
+use lib.ListN.{getD}
 use Rattle.deliberate.proofs.first.has_move.Statement.{statement}
 use Rattle.deliberate.proofs.first.has_move.Tie as tie
 
@@ -26,25 +26,46 @@ is-enabled-requires-2 c κs =
     let g = c .before .before .pre .0 .1 .1 .1 in
     (c .before .before .pre .0 .0, omega arith, select-known (c .before .before .args .e .kind) (g .names) (c .match .keys3))
 
-is-marked-requires : tie.Need-is-marked-requires
-is-marked-requires c κs =
+cast-result : tie.Need-cast-result
+cast-result c = search needs
+
+element-copy-out-result : tie.Need-element-copy-out-result
+element-copy-out-result c =
     let (i, (h, g)) = c .before .before .pre .0 .1 in
     let low = then-known (c .before .before .args .e .kind) (g .names) (c .match .keys4) .0 in
-    omega arith
+    search (needs, low, h)
 
-is-marked-requires-2 : tie.Need-is-marked-requires-2
-is-marked-requires-2 c κs =
+cast-result-2 : tie.Need-cast-result-2
+cast-result-2 c =
     let (i, (h, g)) = c .before .before .before .pre .0 .1 in
     let kinds = g .kinds in
     let low = or-known (c .before .before .before .args .e .kind) (g .names) (omega arith) .0 in
-    omega arith
+    let k : c .before .before .before .args .e .a < 128 = omega arith in
+    search (needs, k)
 
-is-marked-requires-3 : tie.Need-is-marked-requires-3
-is-marked-requires-3 c κs =
+cast-result-3 : tie.Need-cast-result-3
+cast-result-3 c =
     let (i, (h, g)) = c .before .before .before .before .pre .0 .1 in
     let kinds = g .kinds in
     let low = or-known (c .before .before .before .before .args .e .kind) (g .names) (omega arith) .1 in
-    omega arith
+    let k : c .before .before .before .before .args .e .b < 128 = omega arith in
+    search (needs, k)
+
+element-copy-out-result-2 : tie.Need-element-copy-out-result-2
+element-copy-out-result-2 c =
+    let (i, (h, g)) = c .before .before .before .pre .0 .1 in
+    let kinds = g .kinds in
+    let low = or-known (c .before .before .before .args .e .kind) (g .names) (omega arith) .0 in
+    let k : c .before .before .before .args .e .a < 128 = omega arith in
+    search (needs, k)
+
+element-copy-out-result-3 : tie.Need-element-copy-out-result-3
+element-copy-out-result-3 c =
+    let (i, (h, g)) = c .before .before .before .before .pre .0 .1 in
+    let kinds = g .kinds in
+    let low = or-known (c .before .before .before .before .args .e .kind) (g .names) (omega arith) .1 in
+    let k : c .before .before .before .before .args .e .b < 128 = omega arith in
+    search (needs, k)
 
 returns : tie.Need-returns
 returns c = rw (c .match .keys1) (c .before .before .pre .1)
@@ -56,12 +77,12 @@ returns-3 : tie.Need-returns-3
 returns-3 c = rw (c .before .match .keys3) (c .is-enabled2 .ensures)
 
 returns-4 : tie.Need-returns-4
-returns-4 c = rw (c .before .match .keys4) (c .is-marked .ensures)
+returns-4 c = rw (c .before .match .keys4)
 
 returns-5 : tie.Need-returns-5
 returns-5 c =
     let a = c .before .before .before .args in
-    let has : ℕ → Bool = λ k. movableOf (agentFor (a .l) (now (a .card))) (stateOf (configured (a .m) (now (a .plan))) .mental) (entryKind k) (a .e .a) (a .e .b) (λ j. j ∈ now (a .movable)) in
+    let has : ℕ → Bool = λ k. movableOf (agentFor (a .l) (now (a .card))) (stateOf (configured (a .m) (now (a .plan))) .mental) (entryKind k) (a .e .a) (a .e .b) (λ j. getD (now (a .movable)) j false) in
     ⊎-elim (λ e. ap has (sym e)) (λ e. ap has (sym e)) (either-of 3 (a .e .kind) (omega arith) (omega arith))
 
 returns-6 : tie.Need-returns-6
@@ -69,7 +90,7 @@ returns-6 c =
     let a = c .before .before .before .before .before .args in
     let h = c .before .before .before .before .before .pre .0 .1 .1 .1 .kinds in
     let e : a .e .kind ≡ 6 = omega arith in
-    rw (e, c .before .is-marked2 .ensures, c .is-marked3 .ensures)
+    rw e
 
 pub has-move-spec : {M : Type 1} → statement M
 has-move-spec =
@@ -79,9 +100,12 @@ has-move-spec =
     is-enabled-requires
     (λ c. search needs)
     is-enabled-requires-2
-    is-marked-requires
-    is-marked-requires-2
-    is-marked-requires-3
+    cast-result
+    element-copy-out-result
+    cast-result-2
+    element-copy-out-result-2
+    cast-result-3
+    element-copy-out-result-3
     returns
     returns-2
     returns-3

@@ -1,18 +1,13 @@
 use Rattle.layout.specs.PlaceParts.{configured}
 use Rattle.meaning.specs.Card.{agentFor}
 use Rattle.meaning.specs.Configurations.{stateOf}
-use Rattle.deliberation.specs.Kinds.{entryKind}
-use Rattle.deliberation.specs.FirstMove.{lowestAction}
 use Rattle.deliberate.specs.Made.{taken}
-use Rattle.deliberate.proofs.Making.{takes-choice, takes-at, taken-at-all}
+use Rattle.deliberate.proofs.Making.{takes-choice, takes-at, none-taken}
 use mathlib.Core.Path.{sym, _∙_}
 use borrow.Author.Needs.{needs}
 use denote.Ref.{now}
 use Rattle.deliberate.proofs.made.make_choice.Statement.{statement}
 use Rattle.deliberate.proofs.made.make_choice.Tie as tie
-
-choice-of-requires : tie.Need-choice-of-requires
-choice-of-requires c κs = search needs
 
 enum-told : tie.Need-enum-told
 enum-told c = search needs
@@ -21,46 +16,34 @@ stays-requires : tie.Need-stays-requires
 stays-requires c κs = search needs
 
 returns : tie.Need-returns
-unfolding lowestAction
-returns c =
-    let a = c .before .before .before .before .before .args in
-    let b = now (a .card) in
+returns c = λ κ k q stack h s.
+    let a = c .before .before .before .before .args in
     let d = configured (a .m) (now (a .plan)) in
-    let ((ready, low, e), some) = c .before .before .before .before .before .pre in
-    let q = c .before .before .before .choice-of .ensures (agentFor (a .l) b) (stateOf d .mental) e some in
-    absurd (taken-at-all (taken (agentFor (a .l) b) (stateOf d .mental) (entryKind (a .e .kind)) (a .e .a)) some (sym q ∙ c .before .enum-told .given .1))
+    none-taken (a .l) (now (a .card)) d (taken (agentFor (a .l) (now (a .card))) (stateOf d .mental) κ k) (sym q ∙ c .before .enum-told .given .1) (a .top) stack h s (c .stays .result) (c .stays .ensures)
 
 step-requires : tie.Need-step-requires
-unfolding lowestAction
 step-requires c κs =
-    let a = c .before .before .before .before .before .before .args in
-    let b = now (a .card) in
-    let d = configured (a .m) (now (a .plan)) in
-    let ((ready, low, e), some) = c .before .before .before .before .before .before .pre in
-    let q = c .before .before .before .before .choice-of .ensures (agentFor (a .l) b) (stateOf d .mental) e some in
-    let t = takes-at (a .l) b d (entryKind (a .e .kind)) (a .e .a) _ _ (sym q ∙ c .before .before .chosen .given .1) in
+    let a = c .before .before .before .before .before .args in
+    let (ready, (κ, (k, q))) = c .before .before .before .before .before .pre in
+    let t = takes-at (a .l) (now (a .card)) (configured (a .m) (now (a .plan))) κ k _ _ (sym q ∙ c .before .before .choice .given .1) in
     (ready, t .0, t .1)
 
 moved-by-requires : tie.Need-moved-by-requires
 moved-by-requires c κs = search needs
 
 returns-2 : tie.Need-returns-2
-unfolding lowestAction
-returns-2 c =
-    let a = c .before .before .before .before .before .before .before .before .args in
+returns-2 c = λ κ k q stack h r.
+    let a = c .before .before .before .before .before .before .before .args in
     let b = now (a .card) in
     let d = configured (a .m) (now (a .plan)) in
-    let ((ready, low, e), some) = c .before .before .before .before .before .before .before .before .pre in
-    let q = c .before .before .before .before .before .before .choice-of .ensures (agentFor (a .l) b) (stateOf d .mental) e some in
-    let t = takes-at (a .l) b d (entryKind (a .e .kind)) (a .e .a) _ _ (sym q ∙ c .before .before .before .before .chosen .given .1) in
+    let t = takes-at (a .l) b d κ k _ _ (sym q ∙ c .before .before .before .before .choice .given .1) in
     let s = c .before .step in
-    λ stack h r. takes-choice (a .l) b d _ (s .result) (s .last .1 .1 .1 .0) (s .ensures) (a .top) stack h r _ (t .2) (c .moved-by .result) (c .moved-by .ensures)
+    takes-choice (a .l) b d _ (s .result) (s .last .1 .1 .1 .0) (s .ensures) (a .top) stack h r _ (t .2) (c .moved-by .result) (c .moved-by .ensures)
 
 pub make-choice-spec : {M : Type 1} → statement M
 make-choice-spec =
     tie.close
     (tie.spec
-    choice-of-requires
     (λ c. search needs)
     enum-told
     stays-requires

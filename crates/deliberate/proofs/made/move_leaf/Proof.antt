@@ -1,16 +1,14 @@
 use Rattle.layout.specs.PlaceParts.{configured}
-use Rattle.paper.specs.Next.{isSome}
 use Rattle.meaning.specs.Card.{agentFor}
 use Rattle.meaning.specs.Configurations.{stateOf}
 use Rattle.deliberation.specs.Kinds.{entryKind}
 use Rattle.deliberation.specs.FirstMove.{Move}
 use Rattle.deliberation.specs.Deliberate.{moveResult}
-use Rattle.deliberate.specs.Made.{Makes, taken}
-use Rattle.deliberate.proofs.Marking.{takes-some}
-use Rattle.deliberate.proofs.Making.{two-more, leaf-idles, leaf-choice}
-use mathlib.Core.List.{List, []}
+use Rattle.deliberate.specs.Made.{Makes}
+use Rattle.deliberate.proofs.Making.{two-more, leaf-good, leaf-idles, leaf-choice}
+use mathlib.Core.List.{List}
 use mathlib.Core.Option.{Option}
-use mathlib.Core.Path.{sym, ap, _∙_, subst}
+use mathlib.Core.Path.{sym, subst}
 use Prim.Native.Nat.{ℕ, _≤_, _<_}
 use native.Mathlib.Omega.{arith}
 use denote.Ref.{now}
@@ -23,8 +21,7 @@ turn-requires c κs =
     let a = c .before .before .before .before .before .args in
     let b = now (a .card) in
     let d = configured (a .m) (now (a .plan)) in
-    let (j, e) = c .before .before .before .before .before .pre .0 in
-    let (p, (g, (x, some))) = c .before .before .before .before .before .pre .1 in
+    let (p, (g, x)) = c .before .before .before .before .before .pre .1 in
     let t : 3 ≤ a .leaf .entry .kind = (let t = c .before .if1 .taken in omega arith) in
     let (i, w) = two-more (a .l) b p d g (now (a .stack)) (a .leaf) x t in
     (t, x .leaf, i, w, x .stacked .within, x .stacked .room)
@@ -40,36 +37,33 @@ returns c = λ p g x.
     let (t, (k, f)) = r .ensures .1 in
     leaf-idles (a .l) b p d g (now (a .stack)) (a .leaf) x (now (a .marks)) j (r .result) (r .last .1 .1 .1 .1 .0) q w z t k f
 
-make-choice-requires : tie.Need-make-choice-requires
-make-choice-requires c κs =
+choice-of-requires : tie.Need-choice-of-requires
+choice-of-requires c κs =
     let a = c .before .before .before .before .before .args in
     let b = now (a .card) in
     let d = configured (a .m) (now (a .plan)) in
     let (j, e) = c .before .before .before .before .before .pre .0 in
-    let (p, (g, (x, some))) = c .before .before .before .before .before .pre .1 in
+    let (p, (g, x)) = c .before .before .before .before .before .pre .1 in
     let t : a .leaf .entry .kind < 3 = (let t = c .before .if1 .left in omega arith) in
-    let q = leaf-choice (a .l) b p d g (now (a .stack)) (a .leaf) x t in
-    let o = taken (agentFor (a .l) b) (stateOf d .mental) (entryKind (a .leaf .entry .kind)) (a .leaf .entry .a) in
-    ((j .ready, t, e), sym (takes-some {R = List ℕ} o []) ∙ sym (ap isSome q) ∙ some)
+    ((j, t, (a .leaf .at, leaf-good (a .l) b p d g (now (a .stack)) (a .leaf) x)), e)
+
+make-choice-requires : tie.Need-make-choice-requires
+make-choice-requires c κs =
+    let a = c .before .before .before .before .before .before .before .args in
+    let (j, e) = c .before .before .before .before .before .before .before .pre .0 in
+    (j .ready, (entryKind (a .leaf .entry .kind), (a .leaf .entry .a, c .before .choice-of .ensures)))
 
 returns-2 : tie.Need-returns-2
 returns-2 c = λ p g x.
-    let a = c .before .before .before .before .before .before .args in
+    let a = c .before .before .before .before .before .before .before .before .args in
     let b = now (a .card) in
     let d = configured (a .m) (now (a .plan)) in
-    let (j, e) = c .before .before .before .before .before .before .pre .0 in
-    let t : a .leaf .entry .kind < 3 = (let t = c .before .before .if1 .left in omega arith) in
+    let t : a .leaf .entry .kind < 3 = (let t = c .before .before .before .before .if1 .left in omega arith) in
     let q = leaf-choice (a .l) b p d g (now (a .stack)) (a .leaf) x t in
     let r = c .make-choice in
     let ns = drop (a .leaf .top) (now (a .stack)) in
     subst (λ (o : Option (Move (List ℕ))). Makes (a .l) b d ns (moveResult (agentFor (a .l) b) (stateOf d) o ns) (r .result) (r .last .1 .1 .1 .0) (now (a .stack))) (sym q)
-    (r .ensures (now (a .stack)) (x .stacked .within) (x .stacked .room))
+    (r .ensures (entryKind (a .leaf .entry .kind)) (a .leaf .entry .a) (c .before .before .choice-of .ensures) (now (a .stack)) (x .stacked .within) (x .stacked .room))
 
 pub move-leaf-spec : {M : Type 1} → statement M
-move-leaf-spec =
-    tie.close
-    (tie.spec
-    turn-requires
-    returns
-    make-choice-requires
-    returns-2)
+move-leaf-spec = tie.close (tie.spec turn-requires returns choice-of-requires make-choice-requires returns-2)

@@ -1,14 +1,18 @@
 use Rattle.paper.proofs.Relation.{false≢true}
 use lib.ListN.{length, drop}
 use Rattle.deliberate.specs.declared.run.RanMoves.{RanMoves}
+use Rattle.deliberate.specs.declared.made.MoveMade.{MoveMade}
 use Rattle.deliberate.specs.Ran.{RanTo}
 use mathlib.Core.Path.{subst, _≡_, sym}
 use Rattle.choices.specs.Judged.{Marked}
+use mathlib.Core.Logic.{inl, inr}
 use mathlib.Core.Bool.{true, false}
 use Rattle.meaning.specs.Configurations.{stateOf}
 use Rattle.layout.specs.PlaceParts.{configured}
-use Rattle.deliberate.proofs.Deliberating.{outcome, Deliberating, deliberating-start, is-spent, is-finished, is-stuck, is-full, is-on}
-use Prim.Native.Nat.{_-_, _<_}
+use Rattle.deliberate.proofs.Deliberating.{outcome, Deliberating, deliberating-start, is-spent, is-finished, is-stopped, is-on, at-most-one}
+use Prim.Native.Nat.{_+_, _-_, _*_, _<_}
+use Rattle.paper.specs.Next.{if}
+use borrow.Author.Tests.{not-true, not-false}
 use native.Mathlib.Omega.{arith}
 use borrow.Author.Needs.{needs}
 use denote.Ref.{now}
@@ -19,7 +23,7 @@ abbrev Inv-loop : tie.InvT-loop
 Inv-loop card l plan₀ program budget stack₀ top cur₀ marks₀ known₀ rest₀ count₀ plan stack cur marks known rest count = Deliberating l card program budget (outcome l card program budget (drop top stack₀) (stateOf (configured cur₀ plan₀))) (configured cur plan) stack rest count × (length marks ≡ 256) × (known ≡ true → Marked l card cur marks)
 
 abbrev μ-loop : tie.MeasureT-loop
-μ-loop card l plan₀ program budget stack₀ top cur₀ marks₀ known₀ rest₀ count₀ plan stack cur marks known rest count = budget - count
+μ-loop card l plan₀ program budget stack₀ top cur₀ marks₀ known₀ rest₀ count₀ plan stack cur marks known rest count = 2 * (budget - count) + if known 0 1
 
 no-marks-requires : tie.Need-no-marks-requires Inv-loop μ-loop
 no-marks-requires c κs = search needs
@@ -47,38 +51,48 @@ returns c =
     let e : l .rest ≡ 128 = (let u = c .before .if1 .taken in omega arith) in
     subst (λ (x : RanMoves). RanTo all x (l .plan) (l .stack)) (sym (c .ended .ensures)) (is-finished (a .l) b p (a .budget) all d (l .stack) (l .rest) (l .count) (l .inv .0) (omega (arith, c .before .before .loop-test .taken)) e)
 
-refresh-requires : tie.Need-refresh-requires Inv-loop μ-loop
-refresh-requires c κs = search needs
+judged-requires : tie.Need-judged-requires Inv-loop μ-loop
+judged-requires c κs = let l = c .before .before .before .before .loop in (l .inv .0 .ready .card, l .inv .1)
+
+loop-less : tie.Need-loop-less Inv-loop μ-loop
+loop-less c = let l = c .before .before .before .before .before .loop in let k : l .known ≡ false = not-true _ (c .before .before .if2 .taken) in rw (k, c .judged .ensures .2) (omega arith)
+
+loop-again : tie.Need-loop-again Inv-loop μ-loop
+loop-again c = let l = c .before .before .before .before .before .loop in (l .inv .0, c .judged .ensures .1, λ h. c .judged .ensures .0)
 
 make-move-requires : tie.Need-make-move-requires Inv-loop μ-loop
 make-move-requires c κs =
-    let l = c .before .before .before .before .before .before .before .loop in
-    let low : l .rest < 128 = (let w = l .inv .0 .remains .within in let u = c .before .before .before .before .before .if1 .left in omega arith) in
-    ((record { ready = l .inv .0 .ready; marked = c .before .before .before .refresh .ensures .0 }, c .before .before .before .before .before .before .before .before .before .before .before .pre .1), (l .inv .0 .remains, low))
+    let l = c .before .before .before .before .before .before .loop in
+    let low : l .rest < 128 = (let w = l .inv .0 .remains .within in let u = c .before .before .before .before .if1 .left in omega arith) in
+    ((record { ready = l .inv .0 .ready; marked = l .inv .2 (not-false _ (c .before .before .before .if2 .left)) }, c .before .before .before .before .before .before .before .before .before .before .pre .1), (l .inv .0 .remains, low))
 
 enum-told : tie.Need-enum-told Inv-loop μ-loop
 enum-told c = search needs
 
 add-count : tie.Need-add-count Inv-loop μ-loop
-add-count c = let t = c .before .before .before .before .before .before .before .before .before .before .loop-test .taken in let f = c .before .before .before .before .before .before .before .before .before .before .before .before .before .before .before .fits .budget in omega arith
+add-count c = let t = c .before .before .before .before .before .before .before .before .before .loop-test .taken in let f = c .before .before .before .before .before .before .before .before .before .before .before .before .before .before .fits .budget in omega arith
 
-loop-less : tie.Need-loop-less Inv-loop μ-loop
-loop-less c = search needs
+loop-less-2 : tie.Need-loop-less-2 Inv-loop μ-loop
+loop-less-2 c =
+    let l = c .before .before .before .before .before .before .before .before .before .before .loop in
+    let t = c .before .before .before .before .before .before .before .before .before .loop-test .taken in
+    let k : l .known ≡ true = not-false _ (c .before .before .before .before .before .before .before .if2 .left) in
+    let most = at-most-one (c .before .before .before .make-move .result .known) in
+    rw k (omega (arith, most, t))
 
-loop-again : tie.Need-loop-again Inv-loop μ-loop
-loop-again c =
-    let a = c .before .before .before .before .before .before .before .before .before .before .before .before .before .before .before .args in
+loop-again-2 : tie.Need-loop-again-2 Inv-loop μ-loop
+loop-again-2 c =
+    let a = c .before .before .before .before .before .before .before .before .before .before .before .before .before .before .args in
     let b = now (a .card) in
     let p = now (a .program) in
     let all = outcome (a .l) b p (a .budget) (drop (a .top) (now (a .stack))) (stateOf (configured (a .m) (now (a .plan)))) in
-    let l = c .before .before .before .before .before .before .before .before .before .before .before .loop in
+    let l = c .before .before .before .before .before .before .before .before .before .before .loop in
     let d = configured (l .cur) (l .plan) in
-    let low : l .rest < 128 = (let w = l .inv .0 .remains .within in let u = c .before .before .before .before .before .before .before .before .before .if1 .left in omega arith) in
-    let s = c .before .before .before .make-move in
-    let f = c .before .before .before .before .before .before .before .refresh in (
-      is-on (a .l) b p (a .budget) all d (l .stack) (l .rest) (l .count) (l .inv .0) (omega (arith, c .before .before .before .before .before .before .before .before .before .before .loop-test .taken)) low (s .result) (s .last .1 .1 .1 .0) (s .last .1 .1 .1 .1 .1 .1 .0) (s .ensures) (c .before .before .before .before .before .before .before .before .before .before .before .before .before .before .before .pre .1) (c .enum-told .given .1),
-      f .ensures .1,
-      λ h. s .ensures .keeps h (f .last .1 .1 .1 .1 .0) (f .ensures .0),
+    let low : l .rest < 128 = (let w = l .inv .0 .remains .within in let u = c .before .before .before .before .before .before .before .before .if1 .left in omega arith) in
+    let s = c .before .before .before .make-move in (
+      is-on (a .l) b p (a .budget) all d (l .stack) (l .rest) (l .count) (l .inv .0) (omega (arith, c .before .before .before .before .before .before .before .before .before .loop-test .taken)) low (s .result) (s .last .1 .1 .1 .0) (s .last .1 .1 .1 .1 .1 .1 .0) (s .ensures) (c .before .before .before .before .before .before .before .before .before .before .before .before .before .before .pre .1) (c .before .enum-told .given .1),
+      l .inv .1,
+      λ h. s .ensures .keeps h (l .marks) (l .inv .2 (not-false _ (c .before .before .before .before .before .before .before .if2 .left))),
     )
 
 ended-requires-2 : tie.Need-ended-requires-2 Inv-loop μ-loop
@@ -86,45 +100,33 @@ ended-requires-2 c κs = search needs
 
 returns-2 : tie.Need-returns-2 Inv-loop μ-loop
 returns-2 c =
-    let a = c .before .before .before .before .before .before .before .before .before .before .before .before .before .before .before .before .args in
+    let a = c .before .before .before .before .before .before .before .before .before .before .before .before .before .before .args in
     let b = now (a .card) in
     let p = now (a .program) in
     let all = outcome (a .l) b p (a .budget) (drop (a .top) (now (a .stack))) (stateOf (configured (a .m) (now (a .plan)))) in
-    let l = c .before .before .before .before .before .before .before .before .before .before .before .before .loop in
+    let l = c .before .before .before .before .before .before .before .before .before .before .loop in
     let d = configured (l .cur) (l .plan) in
-    let low : l .rest < 128 = (let w = l .inv .0 .remains .within in let u = c .before .before .before .before .before .before .before .before .before .before .if1 .left in omega arith) in
-    let s = c .before .before .before .before .make-move in
-    subst (λ (x : RanMoves). RanTo all x (s .last .1 .1 .1 .0) (s .last .1 .1 .1 .1 .1 .1 .0)) (sym (c .ended2 .ensures))
-    (is-stuck (a .l) b p (a .budget) all d (l .stack) (l .rest) (l .count) (l .inv .0) (omega (arith, c .before .before .before .before .before .before .before .before .before .before .before .loop-test .taken)) low (s .result) (s .last .1 .1 .1 .0) (s .last .1 .1 .1 .1 .1 .1 .0) (s .ensures) (c .before .enum-told2 .given .1))
+    let low : l .rest < 128 = (let w = l .inv .0 .remains .within in let u = c .before .before .before .before .before .before .before .before .if1 .left in omega arith) in
+    let s = c .before .before .before .make-move in
+    let left = s .last .1 .1 .1 .1 .1 .1 .0 in
+    let told = c .before .before .match .keys2 in
+    let off : s .result .made ≡ MoveMade.On → ⊥ = λ e. (elim (rw e at told) [ inl h ↦ absurd (omega arith) | inr h ↦ absurd (omega arith) ]) in
+    subst (λ (x : RanMoves). RanTo all x (s .last .1 .1 .1 .0) left) (sym (c .ended2 .ensures))
+    (subst (λ e. RanTo all (record { mind = s .result .mind; count = l .count; ending = e; top = s .result .top }) (s .last .1 .1 .1 .0) left) (sym (c .before .stopped .ensures))
+    (is-stopped (a .l) b p (a .budget) all d (l .stack) (l .rest) (l .count) (l .inv .0) (omega (arith, c .before .before .before .before .before .before .before .before .before .loop-test .taken)) low (s .result) (s .last .1 .1 .1 .0) left (s .ensures) off))
 
 ended-requires-3 : tie.Need-ended-requires-3 Inv-loop μ-loop
 ended-requires-3 c κs = search needs
 
 returns-3 : tie.Need-returns-3 Inv-loop μ-loop
 returns-3 c =
-    let a = c .before .before .before .before .before .before .before .before .before .before .before .before .before .before .before .before .args in
-    let b = now (a .card) in
-    let p = now (a .program) in
-    let all = outcome (a .l) b p (a .budget) (drop (a .top) (now (a .stack))) (stateOf (configured (a .m) (now (a .plan)))) in
-    let l = c .before .before .before .before .before .before .before .before .before .before .before .before .loop in
-    let d = configured (l .cur) (l .plan) in
-    let low : l .rest < 128 = (let w = l .inv .0 .remains .within in let u = c .before .before .before .before .before .before .before .before .before .before .if1 .left in omega arith) in
-    let s = c .before .before .before .before .make-move in
-    subst (λ (x : RanMoves). RanTo all x (s .last .1 .1 .1 .0) (s .last .1 .1 .1 .1 .1 .1 .0)) (sym (c .ended3 .ensures))
-    (is-full (a .l) b p (a .budget) all d (l .stack) (l .rest) (l .count) (l .inv .0) (omega (arith, c .before .before .before .before .before .before .before .before .before .before .before .loop-test .taken)) low (s .result) (s .last .1 .1 .1 .0) (s .last .1 .1 .1 .1 .1 .1 .0) (s .ensures) (c .before .enum-told3 .given .1))
-
-ended-requires-4 : tie.Need-ended-requires-4 Inv-loop μ-loop
-ended-requires-4 c κs = search needs
-
-returns-4 : tie.Need-returns-4 Inv-loop μ-loop
-returns-4 c =
     let a = c .before .before .before .before .before .before .args in
     let b = now (a .card) in
     let p = now (a .program) in
     let all = outcome (a .l) b p (a .budget) (drop (a .top) (now (a .stack))) (stateOf (configured (a .m) (now (a .plan)))) in
     let l = c .before .before .loop in
     let d = configured (l .cur) (l .plan) in
-    subst (λ (x : RanMoves). RanTo all x (l .plan) (l .stack)) (sym (c .ended4 .ensures)) (is-spent (a .l) b p (a .budget) all d (l .stack) (l .rest) (l .count) (l .inv .0) (omega (arith, c .before .loop-test .left)))
+    subst (λ (x : RanMoves). RanTo all x (l .plan) (l .stack)) (sym (c .ended3 .ensures)) (is-spent (a .l) b p (a .budget) all d (l .stack) (l .rest) (l .count) (l .inv .0) (omega (arith, c .before .loop-test .left)))
 
 pub run-moves-spec : {M : Type 1} → statement M
 run-moves-spec =
@@ -136,17 +138,16 @@ run-moves-spec =
     loop-holds
     ended-requires
     returns
-    refresh-requires
-    make-move-requires
-    enum-told
-    add-count
+    judged-requires
     loop-less
     loop-again
-    (λ c. search needs)
+    make-move-requires
+    enum-told
+    (λ c κs. search needs)
     ended-requires-2
     returns-2
-    (λ c. search needs)
+    add-count
+    loop-less-2
+    loop-again-2
     ended-requires-3
-    returns-3
-    ended-requires-4
-    returns-4)
+    returns-3)

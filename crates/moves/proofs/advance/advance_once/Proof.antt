@@ -6,8 +6,8 @@ use Rattle.moves.proofs.Running.{own-refused, own-accepted}
 use Rattle.runs.specs.Step.{Reached}
 use borrow.Author.Needs.{needs}
 use denote.Ref.{now}
-use Rattle.moves.proofs.advance.next_move.Statement.{statement}
-use Rattle.moves.proofs.advance.next_move.Tie as tie
+use Rattle.moves.proofs.advance.advance_once.Statement.{statement}
+use Rattle.moves.proofs.advance.advance_once.Tie as tie
 
 admit-requires : tie.Need-admit-requires
 admit-requires c κs = search needs
@@ -46,8 +46,8 @@ returns-2 c =
     let r = c .advance .ensures in
     (sym e, (r .0 ∙ ap transitionOf t, r .1 ∙ ap (λ (x : Reached). configurationAfter x d) t))
 
-pub next-move-spec : {M : Type 1} → statement M
-next-move-spec =
+pub advance-once-spec : {M : Type 1} → statement M
+advance-once-spec =
     tie.close
     (tie.spec
     admit-requires

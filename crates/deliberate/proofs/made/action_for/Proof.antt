@@ -1,0 +1,16 @@
+use native.Mathlib.Omega.{arith}
+use borrow.Author.Needs.{needs}
+use Rattle.deliberate.proofs.made.action_for.Statement.{statement}
+use Rattle.deliberate.proofs.made.action_for.Tie as tie
+
+first-of-kind-requires : tie.Need-first-of-kind-requires
+first-of-kind-requires c κs = search needs
+
+returns : tie.Need-returns
+returns c = λ e. c .first-of-kind .ensures
+
+returns-2 : tie.Need-returns-2
+returns-2 c = λ e. absurd (let t = c .if1 .left in omega arith)
+
+pub action-for-spec : {M : Type 1} → statement M
+action-for-spec = tie.close (tie.spec first-of-kind-requires returns returns-2)
