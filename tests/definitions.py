@@ -83,8 +83,8 @@ use Rattle.deliberation.specs.declared.Deliberated.{Deliberated}
 use Rattle.deliberation.specs.declared.Remaining.{Remaining}
 use Rattle.deliberation.specs.Programs.{𝒲}
 use Rattle.deliberation.specs.FirstMove.{lowestAction, ifEnabled}
-use Rattle.deliberation.specs.Entries.{entryOf, entriesOf, programGood, programTable, deliberateAnswer, firstMoveOf}
-use Rattle.deliberation.specs.Deliberate.{leads, deliberate, remainingOf, deliberates, deliberationEndingNumber}
+use Rattle.deliberation.specs.Entries.{entryOf, entriesOf, programGood, programTable, numbersTable, goOnAnswer, firstMoveOf}
+use Rattle.deliberation.specs.Deliberate.{leads, deliberate, remainingOf, goesOn, deliberates, deliberationEndingNumber}
 use Rattle.notation.specs.Printing.{printAnswer, printCount, printLeaves}
 use Rattle.notation.proofs.Computing.{TextComputed, textAnswered}
 
@@ -173,7 +173,7 @@ deliberatedBytes d =
     number (d .answer) ++ (image (d .configuration) ++ told)
 
 unfoldable pub deliberateBytes : Bytes → Bytes → Configuration → ℕ → Bytes
-deliberateBytes b p c budget = deliberatedBytes (deliberates b p c budget)
+deliberateBytes b p c budget = deliberatedBytes (deliberates b p c budget (replicate 128 0))
 
 abbrev place : Answer → ℕ
 place Done = 0
@@ -194,7 +194,7 @@ printBytes b n room =
     number (printAnswer b n out) ++ (twoBytes (printCount b n out) ++ printLeaves b n out)
 
 unfoldable pub all-shown : Unit {0}
-unfolding flatten image checkBytes loadBytes gradeBytes listBytes takeBytes runBytes saveBytes restoreBytes textBytes printBytes deliberateBytes 𝒲 lowestAction ifEnabled entryOf entriesOf programGood programTable deliberateAnswer firstMoveOf leads deliberate remainingOf deliberates deliberationEndingNumber
+unfolding flatten image checkBytes loadBytes gradeBytes listBytes takeBytes runBytes saveBytes restoreBytes textBytes printBytes deliberateBytes 𝒲 lowestAction ifEnabled entryOf entriesOf programGood programTable numbersTable goOnAnswer firstMoveOf leads deliberate remainingOf goesOn deliberationEndingNumber
 all-shown = tt
 """
 
