@@ -132,12 +132,11 @@ pub fn read_revision(card: &[u8], l: Layout, i: usize) -> RevisionEntry
 }
 
 // Where action i of the pool stands: "The pool is one byte an action."
-pub fn pool_at(l: Layout, i: usize) -> usize
-    requires { ⌜ (l .pool .offset ≤ 65535) × (i ≤ 65535) ⌝ }
+pub fn pool_at(l: Layout, i: u16) -> usize
     ensures { λ r. ⌜ r ≡ l .pool .offset + i ⌝ }
 {
     let pool = l.pool;
-    (pool.offset as usize) + i
+    (pool.offset as usize) + (i as usize)
 }
 
 // "initial beliefs"
