@@ -412,7 +412,7 @@ pub extern "C" fn rigtemple_name_parts(
     let named = names::name::named(card, shed, master, action as usize);
     let a = named.answer;
     *sheet = sheet_number(a, named.sheet);
-    *start = named.part.start as u16;
-    *length = named.part.length as u16;
+    *start = named.part.start;
+    *length = named.part.length;
     answer_number(a)
 }
