@@ -1,4 +1,4 @@
--- The cases of the guide on the stripe card (01, "The stripe card"), by computation: PCases, ClosedCases, FinishedCases and NextCases.
+-- The cases of the guide on the stripe card, by computation: meaning's PCases, ClosedCases, FinishedCases and NextCases.
 use mathlib.Core.Path.{refl}
 use mathlib.Core.List.{flatten}
 use Rattle.meaning.specs.Assembled.{assembled}
