@@ -9,18 +9,10 @@ ghost use Rattle.meaning.specs.Refusals.{marked};
 use meaning::Set;
 
 // Two bytes, low byte first.
-fn joined(low: u8, high: u8) -> u16
-    ensures { λ r. ⌜ r ≡ low + 256 * high ⌝ }
+fn joined(low: u8, high: u8) -> usize
+    ensures { λ r. ⌜ (r ≡ low + 256 * high) × (r ≤ 65535) ⌝ }
 {
-    (low as u16) + 256 * (high as u16)
-}
-
-// The number at an offset: "Numbers are two bytes".
-pub fn two_bytes_at(bytes: &[u8], at: usize) -> u16
-    requires { ⌜ at + 2 ≤ length (now bytes) ⌝ }
-    ensures { λ r. ⌜ (r ≡ numberAt (now (bytes .entry)) at) × (r ≤ 65535) ⌝ }
-{
-    joined(bytes[at], bytes[at + 1])
+    (low as usize) + 256 * (high as usize)
 }
 
 // The number at an offset, to count with.
@@ -28,7 +20,15 @@ pub fn number_at(bytes: &[u8], at: usize) -> usize
     requires { ⌜ at + 2 ≤ length (now bytes) ⌝ }
     ensures { λ r. ⌜ (r ≡ numberAt (now (bytes .entry)) at) × (r ≤ 65535) ⌝ }
 {
-    two_bytes_at(bytes, at) as usize
+    joined(bytes[at], bytes[at + 1])
+}
+
+// The number at an offset, to be held: "Numbers are two bytes".
+pub fn two_bytes_at(bytes: &[u8], at: usize) -> u16
+    requires { ⌜ at + 2 ≤ length (now bytes) ⌝ }
+    ensures { λ r. ⌜ (r ≡ numberAt (now (bytes .entry)) at) × (r ≤ 65535) ⌝ }
+{
+    number_at(bytes, at) as u16
 }
 
 // A number's low byte.
