@@ -2,7 +2,8 @@
 ghost use mathlib.Core.Path.{_≡_};
 ghost use Prim.Native.Nat.{_<_};
 ghost use Rattle.meaning.specs.Refusals.{numberOf, answerNumber, carried, answerCarried};
-ghost use Rattle.meaning.specs.Numbers.{sheetNumber, endingNumber, comingNumber, comingChoice, verdictNumber, offenderNumber, offenderRule, verdictOffender, verdictRule};
+ghost use Rattle.meaning.specs.Numbers.{sheetNumber, endingNumber, comingNumber, comingChoice};
+ghost use Rattle.meaning.specs.Numbers.{verdictNumber, offenderNumber, offenderRule, verdictOffender, verdictRule};
 ghost use Rattle.deliberation.specs.Deliberate.{deliberationEndingNumber};
 use deliberation::DeliberationEnding;
 use meaning::Answer;

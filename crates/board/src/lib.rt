@@ -3,7 +3,8 @@
 ghost use mathlib.Core.Path.{_≡_};
 ghost use Rattle.names.specs.Naming.{asked};
 ghost use Rattle.board.specs.Header.{whole};
-ghost use Rattle.board.specs.Determined.{Checks, Loads, Grades, Lists, Takes, Runs, Nexts, Deliberates, GoesOn, Saves, Restores, ReadsText, Prints, Names};
+ghost use Rattle.board.specs.Determined.{Checks, Loads, Grades, Lists, Takes, Runs, Nexts, Deliberates, GoesOn, Saves, Restores};
+ghost use Rattle.board.specs.Determined.{ReadsText, Prints, Names};
 use answers::answer_carried;
 use answers::answer_number;
 use answers::coming_choice;
@@ -412,7 +413,7 @@ pub extern "C" fn rigtemple_name_parts(
     let named = names::name::named(card, shed, master, action as usize);
     let a = named.answer;
     *sheet = sheet_number(a, named.sheet);
-    *start = named.part.start as u16;
-    *length = named.part.length as u16;
+    *start = named.part.start;
+    *length = named.part.length;
     answer_number(a)
 }

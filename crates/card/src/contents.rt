@@ -20,7 +20,7 @@ pub fn weights_good(card: &[u8], l: Layout) -> bool
     requires { ⌜ GoodLayout l (now card) ⌝ }
     ensures { λ r. ⌜ r ≡ weightsGood l (now (card .entry)) ⌝ }
 {
-    let n = l.actions;
+    let n = l.actions as usize;
     let mut good = true;
     let mut a: usize = 0;
     while a < n {
@@ -55,7 +55,12 @@ pub fn pool_good(card: &[u8], l: Layout) -> bool
         return true;
     }
     let pool = l.pool;
-    actions_good(card, pool.offset, pool.count, l.actions)
+    actions_good(
+        card,
+        pool.offset as usize,
+        pool.count as usize,
+        l.actions as usize,
+    )
 }
 
 // The atoms of all the card's sets: the initial beliefs and goals, and each Add and Del.
@@ -64,7 +69,7 @@ fn all_sets(card: &[u8], l: Layout) -> Set
     ensures { λ r. ⌜ setGood (l .atoms) r ≡ setsGood l (now (card .entry)) ⌝ }
 {
     let section = l.specifications;
-    let n = section.count;
+    let n = section.count as usize;
     let mut all = sets::union(initial_beliefs(card, l), initial_goals(card, l));
     let mut i: usize = 0;
     while i < n {
@@ -84,5 +89,5 @@ pub fn sets_good(card: &[u8], l: Layout) -> bool
     requires { ⌜ GoodLayout l (now card) ⌝ }
     ensures { λ r. ⌜ r ≡ setsGood l (now (card .entry)) ⌝ }
 {
-    sets::known(all_sets(card, l), l.atoms)
+    sets::known(all_sets(card, l), l.atoms as usize)
 }

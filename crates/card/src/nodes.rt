@@ -31,8 +31,8 @@ pub fn nodes_good(card: &[u8], l: Layout) -> bool
     ensures { λ r. ⌜ r ≡ nodesGood l (now (card .entry)) ⌝ }
 {
     let nodes = l.nodes;
-    let n = nodes.count;
-    let atoms = l.atoms;
+    let n = nodes.count as usize;
+    let atoms = l.atoms as usize;
     let mut good = true;
     let mut i: usize = 0;
     while i < n {
@@ -70,7 +70,7 @@ pub fn mark_nodes(card: &[u8], l: Layout, marks: &mut [u8; 256])
     ensures { λ r. ⌜ Marks 1 l (now (card .entry)) (now (marks .exit)) × Marks 2 l (now (card .entry)) (now (marks .exit)) ⌝ }
 {
     let nodes = l.nodes;
-    let n = nodes.count;
+    let n = nodes.count as usize;
     let mut i: usize = 0;
     while i < n {
         let x = read_node(card, l, i);

@@ -31,14 +31,15 @@ fn span_good(l: Layout, least: usize, s: Span) -> bool
     ensures { λ r. ⌜ r ≡ spanGood l least s ⌝ }
 {
     let pool = l.pool;
-    in_range(least, longest_plan(), s.length) & (s.start + s.length <= pool.count)
+    in_range(least, longest_plan(), s.length as usize)
+        & ((s.start as usize) + (s.length as usize) <= (pool.count as usize))
 }
 
 // "Specification, 36 bytes: action, node, 0, 0, Add, Del."
 fn specification_good(l: Layout, marks: &[u8; 256], e: SpecificationEntry) -> bool
     ensures { λ r. ⌜ ((b : Bytes) → Marks 2 l b (now (marks .entry)) → r ≡ specificationGood (containing 2 l b) l e) ⌝ }
 {
-    let action = byte_below(e.action, l.actions);
+    let action = byte_below(e.action, l.actions as usize);
     let belief = free_of(marks, 2, e.node);
     action & (belief & (e.zero == 0))
 }

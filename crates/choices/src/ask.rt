@@ -70,7 +70,7 @@ fn ask_revision(card: &[u8], l: Layout, m: Mind, plan: &Plan, marks: &Marks, i: 
     let e = read_revision(card, l, i);
     let head = e.head;
     let at = pool_at(l, head.start);
-    let front = plans::starts_with(card, at, head.length, plan, m.length as usize);
+    let front = plans::starts_with(card, at, head.length as usize, plan, m.length as usize);
     let belief = marks[e.node as usize];
     asked_by(front, belief)
 }
@@ -153,7 +153,7 @@ fn revision_enabled(card: &[u8], l: Layout, m: Mind, plan: &Plan, marks: &Marks,
     }
     let head = e.head;
     let at = pool_at(l, head.start);
-    plans::starts_with(card, at, head.length, plan, m.length as usize)
+    plans::starts_with(card, at, head.length as usize, plan, m.length as usize)
 }
 
 // Whether a choice that the card has is enabled.

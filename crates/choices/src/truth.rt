@@ -100,7 +100,7 @@ pub fn judge_nodes(card: &[u8], l: Layout, m: Mind, marks: &mut Marks)
     ensures { λ r. ⌜ Marked l (now (card .entry)) m (now (marks .exit)) × (length (now (marks .exit)) ≡ 256) ⌝ }
 {
     let nodes = l.nodes;
-    let n = nodes.count;
+    let n = nodes.count as usize;
     let beliefs = m.beliefs;
     let goals = m.goals;
     let mut i: usize = 0;

@@ -1,4 +1,3 @@
-pub mod Cases
 pub mod Moves
 pub mod Named
 pub mod Good

@@ -39,7 +39,7 @@ stacked-append {rs = rs} (put n ns l s) h t = put n (ns ++ rs) (rw (length-appen
 -- good numbers are stacked
 pub good-stacked : (k : ℕ) (ns : List ℕ) → numbersGood k ns ≡ true → Stacked k ns
 good-stacked k [] e = nothing
-good-stacked k (n ∷ ns) e = let (h, t) = both (ltb (n + length ns) k) _ e in put n ns (ltb-true (n + length ns) k h) (good-stacked k ns t)
+good-stacked k (n ∷ ns) e = let (h, t) = both (ltb (n + length ns) k) (numbersGood k ns) e in put n ns (ltb-true (n + length ns) k h) (good-stacked k ns t)
 
 -- and stacked numbers are good
 pub stacked-good : {k : ℕ} {ns : List ℕ} → Stacked k ns → numbersGood k ns ≡ true

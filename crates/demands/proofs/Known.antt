@@ -5,17 +5,17 @@ use mathlib.Core.Bool.{Bool, true, false, not, _&&_, _||_}
 use mathlib.Core.List.{List, [], _∷_, _++_}
 use mathlib.Core.Option.{some}
 use Prim.Native.Nat.{ℕ, zero, suc, _+_, _-_, _*_, _/_, _%_, _≤_, _<_}
-use native.Mathlib.Nat.{zero-add, zero-div, mod-lt}
+use native.Mathlib.Nat.{zero-add, mod-lt}
 use native.Mathlib.Decide.{decLt}
 use native.Mathlib.Omega.{arith}
 use borrow.Author.Tests.{not-true, leb-true, le-leb}
 use lib.Dec.{eqb, ltb}
-use lib.ListN.{length, length-take, length-replicate, getD-replicate, take, drop, replicate, getD, List·getD-eq-default}
+use lib.ListN.{length, length-take, take, drop, replicate, getD}
 use lib.Seq.{drop-append-seam}
-use Rattle.paper.specs.Atoms.{Atoms, bit, _∈_, _∪_, _∖_}
+use Rattle.paper.specs.Atoms.{Atoms, _∈_, _∪_, _∖_}
 use Rattle.paper.specs.Language.{𝐁, 𝐆, Agent, Config, ⟨_/_/_⟩, Selection, Revision, Specification}
 use Rattle.paper.specs.Transitions.{Choice, Entry, Step, execute, apply-PS, apply-PR, σ′, γ′}
-use Rattle.paper.proofs.Sets.{∈-∪, ∈-∖}
+use Rattle.paper.proofs.Sets.{past, none-in, ∈-∪, ∈-∖}
 use Rattle.paper.proofs.Relation.{both, none≢some, some-inj}
 use Rattle.runs.specs.Order.{State, kind}
 use Rattle.runs.specs.Step.{after}
@@ -74,11 +74,6 @@ known-of l c e =
 
 -- ---- sets
 
--- no atom past the last byte of a set is in it
-past : (s : Atoms) (k : ℕ) → 8 * length s ≤ k → k ∈ s ≡ false
-unfolding _∈_ bit
-past s k h = let e : getD s (k / 8) 0 ≡ 0 = List·getD-eq-default s 0 (omega arith) in rw (e, zero-div)
-
 unknown : (n : ℕ) (s : Atoms) → setGood n s ≡ true → (k : ℕ) → n ≤ k → k ∈ s ≡ false
 unfolding setGood
 unknown n s e k h = elim (decLt k (8 * length s)) [
@@ -95,14 +90,6 @@ known-∪ n s t e f = all-unknown n (s ∪ t) (λ k h. ∈-∪ k s t ∙ (λ i. 
 
 known-∖ : (n : ℕ) (s t : Atoms) → setGood n s ≡ true → setGood n (s ∖ t) ≡ true
 known-∖ n s t e = all-unknown n (s ∖ t) (λ k h. ∈-∖ k s t ∙ ap (λ x. x && not (k ∈ t)) (unknown n s e k h))
-
--- 01, "Numbers the guide may answer": "no atoms"
-pub none-in : (n k : ℕ) → k ∈ replicate n 0 ≡ false
-unfolding _∈_ bit
-none-in n k = elim (decLt (k / 8) n) [
-  | yes l ↦ (let e : _≡_ {A = ℕ} (getD (replicate n 0) (k / 8) 0) 0 = getD-replicate n (k / 8) 0 0 l in rw (e, zero-div))
-  | no l ↦ past (replicate n 0) k (let e : length (replicate {A = ℕ} n 0) ≡ n = length-replicate n 0 in omega arith)
-]
 
 pub known-empty : (l : Layout) → Known l (record { mental = ⟨ replicate edition1Set 0 / [] / replicate edition1Set 0 ⟩; phase = 0; finished = 0 })
 unfolding actionsGood

@@ -9,7 +9,7 @@ use Rattle.paper.specs.Language.{Agent, Config}
 use Rattle.paper.specs.Transitions.{Choice, act, σ′, Step, execute}
 use Rattle.paper.specs.Atoms.{_∈_}
 use Rattle.paper.proofs.Relation.{some-inj, false≢true}
-use Rattle.paper.proofs.Sets.{∈-∖, ∈-γ′}
+use Rattle.paper.proofs.Sets.{none-in, ∈-∖, ∈-γ′}
 use Rattle.runs.specs.Step.{after}
 use Rattle.runs.specs.Run.{stay, _then_}
 use Rattle.runs.proofs.Run.{run-law}
@@ -30,7 +30,6 @@ use Rattle.meaning.proofs.Tables.{done≢refused}
 use Rattle.demands.specs.Demands.{Transition}
 use Rattle.demands.specs.Struck.{Unbelieved, Struck}
 use Rattle.demands.proofs.Codes.{chosen}
-use Rattle.demands.proofs.Known.{none-in}
 use Rattle.demands.proofs.Ways.{Replying, Grading, Writing, Taking, Running, refused, is-closed, plan-full, no-room, done, loading, restoring, grading, listing, saving, taking, running}
 
 -- a goal that is not believed, and back

@@ -1,6 +1,6 @@
 -- What comes next: the ways in which it is told, and next beside a run.
 use mathlib.Core.Path.{_≡_, refl, ap, _∙_, sym, subst}
-use mathlib.Core.Option.{none, some}
+use mathlib.Core.Option.{some}
 use Prim.Native.Nat.{ℕ, suc}
 use native.Mathlib.Omega.{arith}
 use Rattle.paper.specs.Language.{Agent, Config}
@@ -23,8 +23,8 @@ use Rattle.meaning.specs.Card.{Bytes, layout, agent}
 use Rattle.meaning.specs.Configurations.{stateOf, configurationOf}
 use Rattle.meaning.specs.Refusals.{configurationAnswer}
 use Rattle.meaning.specs.Numbers.{endingNumber}
-use Rattle.meaning.specs.Calls.{choice, comingBy, comingOf, coming, ran, nexts}
-use Rattle.meaning.proofs.Calls.{takes-full, takes-to, runs-good, nexts-refused, nexts-good}
+use Rattle.meaning.specs.Calls.{choice, coming, ran, nexts}
+use Rattle.meaning.proofs.Calls.{takes-full, takes-to, runs-good, nexts-refused, nexts-good, own-told, none-told}
 use Rattle.meaning.proofs.Configurations.{configuration-laws}
 use Rattle.meaning.proofs.Tables.{done≢refused}
 use Rattle.demands.specs.Contracts.{Runs, Nexts, Shaped}
@@ -68,22 +68,13 @@ module _ (b : Bytes) (c : Configuration) where
   abbrev s : State
   s = stateOf c
 
-  -- what is told of the guide's own choice
-  told : (k : Choice) → guide A s ≡ some k → {o : Reached} → stepBy A s (guide A s) ≡ o → coming A s ≡ comingBy k o
-  unfolding coming
-  told k g e = ap (comingOf A s) g ∙ ap (comingBy k) (sym (ap (stepBy A s) g) ∙ e)
-
-  none-told : guide A s ≡ none → coming A s ≡ Coming.Rest
-  unfolding coming
-  none-told g = ap (comingOf A s) g
-
   pub telling : Telling b c (coming A s)
   telling = go refl (own-step A s)
     where
       go : {o : Reached} → stepBy A s (guide A s) ≡ o → OwnStep A s o → Telling b c (coming A s)
-      go e (own-rest r) = subst (Telling b c) (sym (none-told (rests A s .1 r))) (at-rest r e)
-      go e (own-full k c′ g x l) = subst (Telling b c) (sym (told k g e)) (is-full k c′ g x e)
-      go e (own-to k c′ g x l) = subst (Telling b c) (sym (told k g e)) (moves k c′ g x e)
+      go e (own-rest r) = subst (Telling b c) (sym (none-told A s (rests A s .1 r))) (at-rest r e)
+      go e (own-full k c′ g x l) = subst (Telling b c) (sym (own-told A s k g e)) (is-full k c′ g x e)
+      go e (own-to k c′ g x l) = subst (Telling b c) (sym (own-told A s k g e)) (moves k c′ g x e)
 
   pub by-rest : {n : Coming} → Telling b c n → n ≡ Coming.Rest → stepBy A s (guide A s) ≡ nothing
   by-rest (at-rest r e) p = e

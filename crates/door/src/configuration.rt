@@ -56,8 +56,8 @@ pub fn configuration_good(l: Layout, m: Mind, plan: &Plan) -> bool
     }
     let b = m.beliefs;
     let g = m.goals;
-    let actions = plan_good(plan, n, l.actions);
-    let atoms = sets::both_known(b, g, l.atoms);
+    let actions = plan_good(plan, n, l.actions as usize);
+    let atoms = sets::both_known(b, g, l.atoms as usize);
     actions & (atoms & (m.phase <= 2))
 }
 

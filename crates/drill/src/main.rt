@@ -628,8 +628,8 @@ fn name_of(card: &[u8], shed: &[u8], master: &[u8], action: u16) {
     let n = guide::named(card, shed, master, action);
     let a = n.answer;
     let sheet = [sheet_number(a, n.sheet)];
-    let start = n.part.start as u16;
-    let length = n.part.length as u16;
+    let start = n.part.start;
+    let length = n.part.length;
     tell(answer_number(a));
     io::write_all(1, &sheet);
     tell(start);

@@ -15,12 +15,20 @@ fn joined(low: u8, high: u8) -> usize
     (low as usize) + 256 * (high as usize)
 }
 
-// The number at an offset.
+// The number at an offset, to count with.
 pub fn number_at(bytes: &[u8], at: usize) -> usize
     requires { ⌜ at + 2 ≤ length (now bytes) ⌝ }
     ensures { λ r. ⌜ (r ≡ numberAt (now (bytes .entry)) at) × (r ≤ 65535) ⌝ }
 {
     joined(bytes[at], bytes[at + 1])
+}
+
+// The number at an offset, to be held: "Numbers are two bytes".
+pub fn two_bytes_at(bytes: &[u8], at: usize) -> u16
+    requires { ⌜ at + 2 ≤ length (now bytes) ⌝ }
+    ensures { λ r. ⌜ (r ≡ numberAt (now (bytes .entry)) at) × (r ≤ 65535) ⌝ }
+{
+    number_at(bytes, at) as u16
 }
 
 // A number's low byte.

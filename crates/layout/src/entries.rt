@@ -9,6 +9,7 @@ ghost use Rattle.layout.specs.GoodLayout.{TwoByteSpan, GoodLayout};
 ghost use Rattle.layout.specs.Entries.{countOf};
 use crate::bytes::number_at;
 use crate::bytes::set_at;
+use crate::bytes::two_bytes_at;
 use crate::header::read_span;
 use crate::sizes::del_at;
 use crate::sizes::goals_at;
@@ -27,7 +28,7 @@ fn entry_at(s: Section, size: usize, i: usize) -> usize
     requires { ⌜ (i < s .count) × (endOf size s ≤ 65535) ⌝ }
     ensures { λ r. ⌜ (r ≡ entryAt size s i) × (r + size ≤ endOf size s) ⌝ }
 {
-    s.offset + size * i
+    (s.offset as usize) + size * i
 }
 
 // One of three numbers by a kind of choice.
@@ -47,9 +48,9 @@ pub fn count_of(l: Layout, kind: u8) -> usize
 {
     by_kind(
         kind,
-        l.selections.count,
-        l.specifications.count,
-        l.revisions.count,
+        l.selections.count as usize,
+        l.specifications.count as usize,
+        l.revisions.count as usize,
     )
 }
 
@@ -95,7 +96,7 @@ pub fn read_specification(card: &[u8], l: Layout, i: usize) -> SpecificationEntr
     SpecificationEntry {
         action: card[at],
         node: card[at + 1],
-        zero: number_at(card, at + 2),
+        zero: two_bytes_at(card, at + 2),
         add: add,
         del: del,
     }
@@ -111,7 +112,7 @@ pub fn read_selection(card: &[u8], l: Layout, i: usize) -> SelectionEntry
         belief: card[at],
         goal: card[at + 1],
         plan: read_span(card, at + 2),
-        zero: number_at(card, at + 6),
+        zero: two_bytes_at(card, at + 6),
     }
 }
 
@@ -126,17 +127,16 @@ pub fn read_revision(card: &[u8], l: Layout, i: usize) -> RevisionEntry
         plain: card[at + 1],
         head: read_span(card, at + 2),
         body: read_span(card, at + 6),
-        zero: number_at(card, at + 10),
+        zero: two_bytes_at(card, at + 10),
     }
 }
 
 // Where action i of the pool stands: "The pool is one byte an action."
-pub fn pool_at(l: Layout, i: usize) -> usize
-    requires { ⌜ (l .pool .offset ≤ 65535) × (i ≤ 65535) ⌝ }
+pub fn pool_at(l: Layout, i: u16) -> usize
     ensures { λ r. ⌜ r ≡ l .pool .offset + i ⌝ }
 {
     let pool = l.pool;
-    pool.offset + i
+    (pool.offset as usize) + (i as usize)
 }
 
 // "initial beliefs"

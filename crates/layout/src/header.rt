@@ -6,7 +6,7 @@ ghost use Rattle.meaning.specs.Card.{section, span, layout};
 ghost use Rattle.meaning.specs.Sizes.{edition1Set, headerBytes};
 ghost use Rattle.meaning.specs.Refusals.{within, countsGood, endOf, offsetsGood};
 ghost use Rattle.layout.specs.GoodLayout.{TwoByteSection, TwoByteSpan, TwoByteLayout};
-use crate::bytes::number_at;
+use crate::bytes::two_bytes_at;
 use crate::sizes::header_bytes;
 use crate::sizes::most_atoms;
 use crate::sizes::specification_bytes;
@@ -20,8 +20,8 @@ fn read_section(card: &[u8], at: usize) -> Section
     ensures { λ r. ⌜ (r ≡ section (now (card .entry)) at) × TwoByteSection r ⌝ }
 {
     Section {
-        count: number_at(card, at),
-        offset: number_at(card, at + 2),
+        count: two_bytes_at(card, at),
+        offset: two_bytes_at(card, at + 2),
     }
 }
 
@@ -31,8 +31,8 @@ pub fn read_span(card: &[u8], at: usize) -> Span
     ensures { λ r. ⌜ (r ≡ span (now (card .entry)) at) × TwoByteSpan r ⌝ }
 {
     Span {
-        start: number_at(card, at),
-        length: number_at(card, at + 2),
+        start: two_bytes_at(card, at),
+        length: two_bytes_at(card, at + 2),
     }
 }
 
@@ -42,8 +42,8 @@ pub fn read_layout(card: &[u8]) -> Layout
     ensures { λ r. ⌜ (r ≡ layout (now (card .entry))) × TwoByteLayout r ⌝ }
 {
     Layout {
-        atoms: number_at(card, 4),
-        actions: number_at(card, 6),
+        atoms: two_bytes_at(card, 4),
+        actions: two_bytes_at(card, 6),
         nodes: read_section(card, 8),
         specifications: read_section(card, 12),
         selections: read_section(card, 16),
@@ -69,9 +69,9 @@ pub fn counts_good(l: Layout) -> bool
     let selections = l.selections;
     let revisions = l.revisions;
     let pool = l.pool;
-    in_range(1, most_atoms(l), l.atoms)
-        & (in_range(1, 256, l.actions)
-            & (in_range(1, 256, nodes.count)
+    in_range(1, most_atoms(l), l.atoms as usize)
+        & (in_range(1, 256, l.actions as usize)
+            & (in_range(1, 256, nodes.count as usize)
                 & ((specifications.count <= 256)
                     & ((selections.count <= 256)
                         & ((revisions.count <= 256) & (pool.count <= 8192))))))
@@ -82,7 +82,7 @@ fn end_of(s: Section, size: usize) -> usize
     requires { ⌜ TwoByteSection s × (size ≤ 256) ⌝ }
     ensures { λ r. ⌜ r ≡ endOf size s ⌝ }
 {
-    s.offset + size * s.count
+    (s.offset as usize) + size * (s.count as usize)
 }
 
 // Not row 4: every offset, and the length n of the whole, is the required one.
@@ -95,9 +95,10 @@ pub fn offsets_good(l: Layout, n: usize) -> bool
     let selections = l.selections;
     let revisions = l.revisions;
     let pool = l.pool;
-    (nodes.offset == header_bytes(l) + 2 * l.actions)
-        & ((specifications.offset == end_of(nodes, 4))
-            & ((selections.offset == end_of(specifications, specification_bytes(l)))
-                & ((revisions.offset == end_of(selections, 8))
-                    & ((pool.offset == end_of(revisions, 12)) & (n == end_of(pool, 1))))))
+    ((nodes.offset as usize) == header_bytes(l) + 2 * (l.actions as usize))
+        & (((specifications.offset as usize) == end_of(nodes, 4))
+            & (((selections.offset as usize) == end_of(specifications, specification_bytes(l)))
+                & (((revisions.offset as usize) == end_of(selections, 8))
+                    & (((pool.offset as usize) == end_of(revisions, 12))
+                        & (n == end_of(pool, 1))))))
 }

@@ -2,6 +2,7 @@
 use mathlib.Core.Path.{_≡_, refl, sym, ap, _∙_, subst}
 use mathlib.Core.Bool.{true, false, not}
 use mathlib.Core.List.{List, []}
+use mathlib.Core.Option.{none, some}
 use Prim.Native.Nat.{ℕ}
 use lib.Dec.{leb}
 use lib.ListN.{length}
@@ -16,16 +17,17 @@ use Rattle.meaning.specs.declared.Checked.{Checked}
 use Rattle.meaning.specs.declared.Coming.{Coming}
 use Rattle.meaning.specs.Card.{Bytes, layout, weight, agent, initialPlan, start}
 use Rattle.runs.specs.declared.Ending.{Ending}
+use Rattle.paper.specs.Language.{Agent}
 use Rattle.paper.specs.Transitions.{Choice}
-use Rattle.runs.specs.Order.{State, enabledCodes}
-use Rattle.runs.specs.Step.{nothing, full, to, stepBy}
+use Rattle.runs.specs.Order.{State, guide, enabledCodes}
+use Rattle.runs.specs.Step.{Reached, nothing, full, to, stepBy}
 use Rattle.runs.specs.Run.{run}
 use Rattle.meaning.specs.declared.Configuration.{Configuration}
 use Rattle.meaning.specs.Configurations.{stateOf, configurationOf, empty}
 use Rattle.meaning.specs.Refusals.{cardAnswer, placeAnswer, _given-when_, andThen, firstGiven, configurationGood, configurationTable, configurationAnswer}
 use Rattle.meaning.specs.Place.{place, placed}
 use Rattle.meaning.specs.Why.{whyClosed}
-use Rattle.meaning.specs.Calls.{checks, reply, loads, graded, grades, written, over, roomFor, writeAnswer, writes, leaves, lists, listLeaves, choice, takes, ran, runs, coming, nexts, saves, saveLeaves, restores}
+use Rattle.meaning.specs.Calls.{checks, reply, loads, graded, grades, written, over, roomFor, writeAnswer, writes, leaves, lists, listLeaves, choice, takes, ran, runs, comingBy, comingOf, coming, nexts, saves, saveLeaves, restores}
 use Rattle.meaning.proofs.Tables.{given, not-given}
 
 module _ (b : Bytes) where
@@ -115,6 +117,17 @@ module _ (b : Bytes) (c : Configuration) (good : configurationAnswer b c ≡ Don
   pub nexts-good : nexts b c ≡ record { answer = Done; coming = coming (agent b) (stateOf c); configuration = c }
   unfolding nexts
   nexts-good = rw (good, nexts)
+
+-- ---- next: of the guide's own choice
+
+module _ (A : Agent) (s : State) where
+  pub own-told : (k : Choice) → guide A s ≡ some k → {o : Reached} → stepBy A s (guide A s) ≡ o → coming A s ≡ comingBy k o
+  unfolding coming
+  own-told k g e = ap (comingOf A s) g ∙ ap (comingBy k) (sym (ap (stepBy A s) g) ∙ e)
+
+  pub none-told : guide A s ≡ none → coming A s ≡ Coming.Rest
+  unfolding coming
+  none-told g = ap (comingOf A s) g
 
 -- ---- list and save: xs is to be written to out
 

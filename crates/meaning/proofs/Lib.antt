@@ -1,4 +1,3 @@
-pub mod Cases
 pub mod Computing
 pub mod NodeKinds
 pub mod Every

@@ -6,7 +6,7 @@ use Prim.Native.Nat.{ℕ, _≤_, _<_}
 use native.Mathlib.Decide.{decLe}
 use native.Mathlib.Nat.{zero-add}
 use native.Mathlib.Omega.{arith}
-use lib.Dec.{ltb}
+use lib.Dec.{eqb, ltb}
 use lib.ListN.{length, getD, List·getD-map}
 use borrow.Author.Tests.{ltb-true}
 use Rattle.paper.specs.Language.{Letter}
@@ -41,7 +41,7 @@ module _ (n i a b : ℕ) where
   known-rule (leaf is-true) e = childless is-true (λ m. absurd (omega arith))
   known-rule (leaf is-belief) e = childless is-belief (λ _. ltb-true a n (both (ltb a n) _ e .0))
   known-rule (leaf is-goal) e = childless is-goal (λ _. ltb-true a n (both (ltb a n) _ e .0))
-  known-rule (inner is-not) e = parent is-not (ltb-true a i (both (ltb a i) _ e .0)) (λ m. absurd (omega arith))
+  known-rule (inner is-not) e = parent is-not (ltb-true a i (both (ltb a i) (eqb b 0) e .0)) (λ m. absurd (omega arith))
   known-rule (inner is-and) e = parent is-and (ltb-true a i (both (ltb a i) _ e .0)) (λ _. ltb-true b i (both (ltb a i) _ e .1))
   known-rule (inner is-or) e = parent is-or (ltb-true a i (both (ltb a i) _ e .0)) (λ _. ltb-true b i (both (ltb a i) _ e .1))
 

@@ -5,6 +5,7 @@ use mathlib.Core.Bool.{Bool, true, false, not}
 use mathlib.Core.List.{List, [], _∷_, _++_, map, List·Memᴰ}
 use Prim.Native.Nat.{ℕ, _≤_, _<_}
 use lib.ListN.{length, getD}
+use Rattle.paper.specs.Atoms.{_∈_}
 use Rattle.paper.specs.Language.{Letter, Config}
 use Rattle.paper.specs.Transitions.{_⊨_}
 use Rattle.paper.specs.Theorems.{AreBytes}
@@ -18,7 +19,7 @@ use Rattle.meaning.specs.declared.Configuration.{Configuration}
 use Rattle.meaning.specs.Sizes.{setBytes}
 use Rattle.meaning.specs.Card.{Bytes, layout, nodeAt, conditions, condition, specificationAt, selectionAt, revisionAt, weight, agent, initialPlan, start}
 use Rattle.meaning.specs.Why.{settler, turns}
-use Rattle.meaning.specs.Configurations.{stateOf, configurationOf}
+use Rattle.meaning.specs.Configurations.{stateOf, configurationOf, empty}
 use Rattle.meaning.specs.Place.{place, placed}
 use Rattle.meaning.specs.Refusals.{numberOf, cardAnswer, Row, firstGiven, cardTable, configurationTable, placeTable, configurationGood}
 
@@ -79,6 +80,12 @@ CardLaw = (b : Bytes) → cardAnswer b ≡ Done → CardLaws b
 -- 02, Wish 5: "the goals are those not believed, and at load likewise": no goal that a card starts with is believed.
 abbrev pub StartLaw : Type 0
 StartLaw = (b : Bytes) → NoneBelieved (start b .mental)
+
+-- 01, "Numbers the guide may answer": "the empty one (no atoms, empty plan, phase 0)".
+pub record EmptyLaw : Type 0 where
+  pub no-atoms : (k : ℕ) → (k ∈ stateOf empty .mental .σ ≡ false) × (k ∈ stateOf empty .mental .γ ≡ false)
+  pub empty-plan : stateOf empty .mental .π ≡ []
+  pub phase-0 : stateOf empty .phase ≡ 0
 
 -- Node j stands in the condition of node i: it is that node, or stands in one of its children. Serves KindLaws: 01, "The card,
 -- edition 1": "3 not a (b = 0); 4 a and b; 5 a or b."

@@ -40,20 +40,20 @@ pub enum Answer {
 // 01, "The card, edition 1", the table: "nodes, offset" and the like: how many entries (the pool: bytes) a section has, and
 // where it starts.
 pub struct Section {
-    pub count: usize,
-    pub offset: usize,
+    pub count: u16,
+    pub offset: u16,
 }
 
 // 01, "The card, edition 1": "A plan is a start and a length in the pool".
 pub struct Span {
-    pub start: usize,
-    pub length: usize,
+    pub start: u16,
+    pub length: u16,
 }
 
 // 01, "The card, edition 1": "counts and offsets in a header", in the table's order.
 pub struct Layout {
-    pub atoms: usize,
-    pub actions: usize,
+    pub atoms: u16,
+    pub actions: u16,
     pub nodes: Section,
     pub specifications: Section,
     pub selections: Section,
@@ -74,7 +74,7 @@ pub struct Node {
 pub struct SpecificationEntry {
     pub action: u8,
     pub node: u8,
-    pub zero: usize,
+    pub zero: u16,
     pub add: Set,
     pub del: Set,
 }
@@ -84,7 +84,7 @@ pub struct SelectionEntry {
     pub belief: u8,
     pub goal: u8,
     pub plan: Span,
-    pub zero: usize,
+    pub zero: u16,
 }
 
 // 01, "The card, edition 1": "Revision rule, 12 bytes: node, 0, head start, head length (1..1,024), body start, body length
@@ -94,7 +94,7 @@ pub struct RevisionEntry {
     pub plain: u8,
     pub head: Span,
     pub body: Span,
-    pub zero: usize,
+    pub zero: u16,
 }
 
 // 01, "The card, edition 1": "A set of atoms is 16 bytes".

@@ -55,7 +55,7 @@ fn write_lines<'a>(card: &[u8], l: Layout, shed: &'a [u8], master: &'a [u8])
     requires { ⌜ GoodLayout l (now card) ⌝ }
 {
     let section = l.specifications;
-    let n = section.count;
+    let n = section.count as usize;
     let mut i: usize = 0;
     while i < n {
         let e = read_specification(card, l, i);

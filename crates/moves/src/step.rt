@@ -72,8 +72,8 @@ fn step_selection(card: &[u8], l: Layout, m: Mind, plan: &mut Plan, i: usize) ->
     let at = pool_at(l, s.start);
     let b = m.beliefs;
     let g = m.goals;
-    plans::replace_front(plan, 0, 0, card, at, s.length);
-    taken(b, g, s.length, m.finished, 0, i)
+    plans::replace_front(plan, 0, 0, card, at, s.length as usize);
+    taken(b, g, s.length as usize, m.finished, 0, i)
 }
 
 // Specification i: "Beliefs become (beliefs with Add) without Del.", "after an action the goals are those not believed", "The first
@@ -101,7 +101,7 @@ pub fn revised_length(e: RevisionEntry, n: usize) -> usize
 {
     let head = e.head;
     let body = e.body;
-    body.length + (n - head.length)
+    (body.length as usize) + (n - (head.length as usize))
 }
 
 // Revision rule i: "The body takes the head's place; the rest stays." A plan that would be too long is not made.
@@ -123,7 +123,14 @@ fn step_revision(card: &[u8], l: Layout, m: Mind, plan: &mut Plan, i: usize) -> 
     let b = m.beliefs;
     let g = m.goals;
     let at = pool_at(l, body.start);
-    plans::replace_front(plan, n, head.length, card, at, body.length);
+    plans::replace_front(
+        plan,
+        n,
+        head.length as usize,
+        card,
+        at,
+        body.length as usize,
+    );
     taken(b, g, after, m.finished, 2, i)
 }
 

@@ -77,7 +77,7 @@ pub fn named(card: &[u8], shed: &[u8], master: &[u8], action: usize) -> Named
     let Checked::Good(l) = checked else {
         return refused_name(answer_of(checked));
     };
-    let judged = judge(shed, master, action, l.actions);
+    let judged = judge(shed, master, action, l.actions as usize);
     let Answer::Done = judged else {
         return refused_name(judged);
     };
@@ -92,8 +92,8 @@ pub fn name<'a>(card: &[u8], shed: &'a [u8], master: &'a [u8], action: usize) ->
         (shed .entry .ptr) (master .entry .ptr) ⌝ }
 {
     let n = named(card, shed, master, action);
-    let start = n.part.start;
-    let end = start + n.part.length;
+    let start = n.part.start as usize;
+    let end = start + (n.part.length as usize);
     if 0 < n.sheet {
         return &shed[start..end];
     }

@@ -6,6 +6,7 @@ ghost use Rattle.meaning.specs.Refusals.{every};
 ghost use Rattle.names.specs.Sheets.{offsetAt, nameSpan, headGood, nameGood, sheetGood, shedGood, masterGood};
 ghost use Rattle.names.specs.Working.{Holds};
 use layout::bytes::number_at;
+use layout::bytes::two_bytes_at;
 use meaning::Span;
 use utf8::utf8_part;
 
@@ -88,8 +89,8 @@ pub fn name_span(sheet: &[u8], action: usize) -> Span
             length: 0,
         };
     }
-    let from = number_at(sheet, 2 + 2 * action);
-    let to = number_at(sheet, 4 + 2 * action);
+    let from = two_bytes_at(sheet, 2 + 2 * action);
+    let to = two_bytes_at(sheet, 4 + 2 * action);
     Span {
         start: from,
         length: to - from,

@@ -2,13 +2,14 @@
 use mathlib.Core.Path.{_≡_, refl, ap, _∙_, sym}
 use mathlib.Core.Bool.{Bool, true, false, not, _&&_, _||_, and-true}
 use mathlib.Core.List.{[], _∷_}
-use Prim.Native.Nat.{ℕ, zero, suc, _+_, _*_, _/_, _%_, _^_, _<_}
-use native.Mathlib.Nat.{mod-lt, div-div-eq-div-mul, pow-suc, mul-comm, div-lt-iff-lt-mul}
+use Prim.Native.Nat.{ℕ, zero, suc, _+_, _*_, _/_, _%_, _^_, _≤_, _<_}
+use native.Mathlib.Nat.{zero-div, mod-lt, div-div-eq-div-mul, pow-suc, mul-comm, div-lt-iff-lt-mul}
+use native.Mathlib.Decide.{decLt}
 use native.Mathlib.Omega.{arith}
 use lib.Arith.{lt-one}
 use lib.Bits.{bitAnd, bitOr, bitXor, or-shr, or-mod, and-shr, and-mod, xor-shr, xor-mod, or-zero-r, and-zero-r, xor-zero-r}
 use lib.Dec.{eqb}
-use lib.ListN.{length, getD}
+use lib.ListN.{length, length-replicate, replicate, getD, getD-replicate, List·getD-eq-default}
 use lib.Seq.{ext-getD}
 use Rattle.paper.specs.Atoms.{Atoms, bit, _∈_, _∪_, _∖_}
 use Rattle.paper.specs.Language.{Specification}
@@ -155,3 +156,18 @@ action-laws =
       goals = ∈-γ′;
       in-both = λ k σ γ s add del. (gone k σ s del, ∈-γ′ k σ γ s ∙ ap (λ b. k ∈ γ && not b) (gone k σ s del) ∙ and-true (k ∈ γ));
     }
+
+-- ---- what is in no set
+
+-- no atom past the last byte of a set is in it
+pub past : (s : Atoms) (k : ℕ) → 8 * length s ≤ k → k ∈ s ≡ false
+unfolding _∈_ bit
+past s k h = let e : getD s (k / 8) 0 ≡ 0 = List·getD-eq-default s 0 (omega arith) in rw (e, zero-div)
+
+-- no atom is in a set of zeros
+pub none-in : (n k : ℕ) → k ∈ replicate n 0 ≡ false
+unfolding _∈_ bit
+none-in n k = elim (decLt (k / 8) n) [
+  | yes l ↦ (let e : _≡_ {A = ℕ} (getD (replicate n 0) (k / 8) 0) 0 = getD-replicate n (k / 8) 0 0 l in rw (e, zero-div))
+  | no l ↦ past (replicate n 0) k (let e : length (replicate {A = ℕ} n 0) ≡ n = length-replicate n 0 in omega arith)
+]

@@ -27,7 +27,7 @@ fn from_sets(l: Layout, p: &[u8], h: PlaceParts) -> Answer
 {
     let b = h.beliefs;
     let g = h.goals;
-    row(sets::both_known(b, g, l.atoms), Refusal::Atom)
+    row(sets::both_known(b, g, l.atoms as usize), Refusal::Atom)
 }
 
 // Not row 8: "a pool or plan byte is not below the number of actions".
@@ -36,7 +36,7 @@ fn plan_good(l: Layout, p: &[u8]) -> bool
     ensures { λ r. ⌜ r ≡ actionsGood (l .actions) (drop (planAt (setBytes l)) (now (p .entry))) ⌝ }
 {
     let at = plan_at(l);
-    actions_good(p, at, p.len() - at, l.actions)
+    actions_good(p, at, p.len() - at, l.actions as usize)
 }
 
 // Row 8, then 9.

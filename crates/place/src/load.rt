@@ -27,11 +27,11 @@ fn first(card: &[u8], l: Layout, plan: &mut Plan) -> Mind
     let at = pool_at(l, initial.start);
     let beliefs = initial_beliefs(card, l);
     let goals = sets::difference(initial_goals(card, l), beliefs);
-    plans::fill(plan, card, at, n);
+    plans::fill(plan, card, at, n as usize);
     Mind {
         beliefs: beliefs,
         goals: goals,
-        length: n as u16,
+        length: n,
         phase: 0,
         finished: 0,
     }

@@ -60,7 +60,7 @@ fn write_plan(word: &[u8], card: &[u8], l: Layout, plan: Span)
     requires { ⌜ GoodLayout l (now card) × TwoByteSpan plan ⌝ }
 {
     let from = pool_at(l, plan.start);
-    let to = from + plan.length;
+    let to = from + (plan.length as usize);
     write(word);
     if to <= card.len() {
         write_actions(&card[from..to]);
@@ -179,7 +179,7 @@ fn write_revision(card: &[u8], l: Layout, i: usize)
 fn write_weights(card: &[u8], l: Layout)
     requires { ⌜ GoodLayout l (now card) ⌝ }
 {
-    let n = l.actions;
+    let n = l.actions as usize;
     let mut i: usize = 0;
     while i < n {
         write(b"action");
@@ -194,7 +194,7 @@ fn write_specifications(card: &[u8], l: Layout)
     requires { ⌜ GoodLayout l (now card) ⌝ }
 {
     let section = l.specifications;
-    let n = section.count;
+    let n = section.count as usize;
     let mut i: usize = 0;
     while i < n {
         write_specification(card, l, i);
@@ -207,7 +207,7 @@ fn write_selections(card: &[u8], l: Layout)
     requires { ⌜ GoodLayout l (now card) ⌝ }
 {
     let section = l.selections;
-    let n = section.count;
+    let n = section.count as usize;
     let mut i: usize = 0;
     while i < n {
         write_selection(card, l, i);
@@ -220,7 +220,7 @@ fn write_revisions(card: &[u8], l: Layout)
     requires { ⌜ GoodLayout l (now card) ⌝ }
 {
     let section = l.revisions;
-    let n = section.count;
+    let n = section.count as usize;
     let mut i: usize = 0;
     while i < n {
         write_revision(card, l, i);

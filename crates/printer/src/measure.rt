@@ -130,7 +130,7 @@ fn kind_of(card: &[u8], l: Layout, i: u8) -> u8
     ensures { λ r. ⌜ (i < l .nodes .count → r ≡ nodeAt l (now (card .entry)) i .kind) ⌝ }
 {
     let nodes = l.nodes;
-    if (i as usize) < nodes.count {
+    if (i as usize) < (nodes.count as usize) {
         let x = read_node(card, l, i as usize);
         x.kind
     } else {

@@ -71,7 +71,7 @@ pub fn print(card: &[u8], node: usize, out: &mut [u8]) -> WrittenInPlace
         };
     };
     let nodes = l.nodes;
-    let known = row(node < nodes.count, Refusal::Rule);
+    let known = row(node < (nodes.count as usize), Refusal::Rule);
     let Answer::Done = known else {
         return WrittenInPlace {
             answer: known,

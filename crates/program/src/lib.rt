@@ -53,8 +53,8 @@ fn kind_good(e: Node, l: Layout, marks: &[u8; 256], i: usize) -> bool
     let kind = e.kind;
     match kind {
         0 => (e.a == 0) & (e.b == 0),
-        1 => byte_below(e.a, l.revisions.count) & (e.b == 0),
-        2 => byte_below(e.a, l.selections.count) & (e.b == 0),
+        1 => byte_below(e.a, l.revisions.count as usize) & (e.b == 0),
+        2 => byte_below(e.a, l.selections.count as usize) & (e.b == 0),
         3 => (e.a == 0) & byte_below(e.b, i),
         4 => free_of(marks, 2, e.a) & byte_below(e.b, i),
         5..=6 => byte_below(e.a, i) & byte_below(e.b, i),

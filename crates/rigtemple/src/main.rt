@@ -66,7 +66,7 @@ fn weight(card: &[u8], l: Layout, action: u8) -> u64
     ensures { λ r. ⌜ r ≤ 65535 ⌝ }
 {
     let a = action as usize;
-    if l.actions <= a {
+    if (l.actions as usize) <= a {
         return 0;
     }
     read_weight(card, l, a) as u64

@@ -55,7 +55,7 @@ fn from_revisions(card: &[u8], l: Layout, sums: &[u32; 257]) -> Verdict
     ensures { λ r. ⌜ r ≡ revisionsVerdict l (now (card .entry)) ⌝ }
 {
     let section = l.revisions;
-    let n = section.count;
+    let n = section.count as usize;
     let mut i: usize = 0;
     while i < n {
         if !revision_lowers(card, l, sums, i) {
@@ -72,7 +72,7 @@ fn from_selections(card: &[u8], l: Layout, sums: &[u32; 257]) -> Verdict
     ensures { λ r. ⌜ r ≡ selectionsVerdict l (now (card .entry)) ⌝ }
 {
     let section = l.selections;
-    let n = section.count;
+    let n = section.count as usize;
     let mut i: usize = 0;
     while i < n {
         if !selection_light(card, l, sums, i) {

@@ -43,11 +43,11 @@ pub fn sum(card: &[u8], weights: usize, pool: Section, sums: &mut [u32; 257])
     requires { ⌜ Weighable (now card) weights (pool .offset) (pool .count) × (now sums ≡ replicate 257 0) ⌝ }
     ensures { λ r. ⌜ Summed pool (now (card .entry)) (now (sums .exit)) ⌝ }
 {
-    let n = pool.count / 32;
+    let n = (pool.count as usize) / 32;
     let mut total: usize = 0;
     let mut k: usize = 0;
     while k < n {
-        total += part_weight(card, weights, pool.offset + 32 * k, 32);
+        total += part_weight(card, weights, (pool.offset as usize) + 32 * k, 32);
         k += 1;
         sums[k] = total as u32;
     }
@@ -59,7 +59,7 @@ fn from_below(card: &[u8], weights: usize, pool: Section, sums: &[u32; 257], n: 
     ensures { λ r. ⌜ r ≡ weigh (weight (now (card .entry))) (part (now (card .entry)) (pool .offset) n) ⌝ }
 {
     let k = n / 32;
-    let more = part_weight(card, weights, pool.offset + 32 * k, n % 32);
+    let more = part_weight(card, weights, (pool.offset as usize) + 32 * k, n % 32);
     (sums[k] as usize) + more
 }
 
@@ -76,7 +76,7 @@ fn from_above(
     requires { ⌜ (n ≤ 32 * k) × (32 * k ≤ pool .count) ⌝ }
     ensures { λ r. ⌜ r ≡ weigh (weight (now (card .entry))) (part (now (card .entry)) (pool .offset) n) ⌝ }
 {
-    let less = part_weight(card, weights, pool.offset + n, 32 * k - n);
+    let less = part_weight(card, weights, (pool.offset as usize) + n, 32 * k - n);
     (sums[k] as usize) - less
 }
 
@@ -87,7 +87,7 @@ fn first_weight(card: &[u8], weights: usize, pool: Section, sums: &[u32; 257], n
 {
     let k = (n + 16) / 32;
     if n < 32 * k {
-        if 32 * k <= pool.count {
+        if 32 * k <= (pool.count as usize) {
             return from_above(card, weights, pool, sums, n, k);
         }
     }
@@ -101,10 +101,12 @@ pub fn plan_weight(card: &[u8], weights: usize, pool: Section, sums: &[u32; 257]
     requires { ⌜ s .start + s .length ≤ pool .count ⌝ }
     ensures { λ r. ⌜ r ≡ weigh (weight (now (card .entry))) (part (now (card .entry)) (pool .offset + s .start) (s .length)) ⌝ }
 {
-    if s.length <= 32 {
-        return part_weight(card, weights, pool.offset + s.start, s.length);
+    let start = s.start as usize;
+    let n = s.length as usize;
+    if n <= 32 {
+        return part_weight(card, weights, (pool.offset as usize) + start, n);
     }
-    let front = first_weight(card, weights, pool, sums, s.start);
-    let whole = first_weight(card, weights, pool, sums, s.start + s.length);
+    let front = first_weight(card, weights, pool, sums, start);
+    let whole = first_weight(card, weights, pool, sums, start + n);
     whole - front
 }

@@ -25,9 +25,9 @@ answer-number-requires c κs = search needs
 
 returns : tie.Need-returns
 returns c =
-    let e = c .before .before .before .before .named .ensures .0 in (
+    let e = c .before .before .named .ensures .0 in (
       c .answer-number .ensures ∙ ap (λ (x : Named). answerNumber (x .answer)) e,
-      c .before .before .before .sheet-number .ensures ∙ ap (λ (x : Named). sheetNumber (x .answer) (x .sheet)) e,
+      c .before .sheet-number .ensures ∙ ap (λ (x : Named). sheetNumber (x .answer) (x .sheet)) e,
       ap (λ (x : Named). x .part .start) e,
       ap (λ (x : Named). x .part .length) e,
     )
@@ -38,7 +38,5 @@ rigtemple-name-parts-spec =
     (tie.spec
     named-requires
     sheet-number-requires
-    (λ c. search needs)
-    (λ c. search needs)
     answer-number-requires
     returns)

@@ -39,8 +39,6 @@ name-of-spec =
     (tie.spec
     named-requires
     sheet-number-requires
-    (λ c. search needs)
-    (λ c. search needs)
     answer-number-requires
     tell-requires
     (λ c. search needs)

@@ -45,6 +45,7 @@ write-lines-spec =
     (tie.spec
     Inv-loop
     μ-loop
+    (λ c. search needs)
     loop-holds
     read-specification-requires
     print-decimal-requires

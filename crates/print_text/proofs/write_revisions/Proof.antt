@@ -33,6 +33,7 @@ write-revisions-spec =
     (tie.spec
     Inv-loop
     μ-loop
+    (λ c. search needs)
     loop-holds
     write-revision-requires
     add-i

@@ -33,6 +33,7 @@ write-selections-spec =
     (tie.spec
     Inv-loop
     μ-loop
+    (λ c. search needs)
     loop-holds
     write-selection-requires
     add-i

@@ -33,6 +33,7 @@ write-specifications-spec =
     (tie.spec
     Inv-loop
     μ-loop
+    (λ c. search needs)
     loop-holds
     write-specification-requires
     add-i

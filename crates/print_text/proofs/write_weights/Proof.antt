@@ -48,6 +48,7 @@ write-weights-spec =
     (tie.spec
     Inv-loop
     μ-loop
+    (λ c. search needs)
     loop-holds
     slice-aggregate-write
     write-requires

@@ -38,10 +38,10 @@ returns : tie.Need-returns
 returns c = λ b m. rw (c .before .before .match .keys1)
 
 returns-2 : tie.Need-returns-2
-returns-2 c = λ b m. rw (c .before .before .match .keys2, c .before .byte-below .ensures)
+returns-2 c = λ b m. rw (c .before .before .before .match .keys2, c .before .byte-below .ensures)
 
 returns-3 : tie.Need-returns-3
-returns-3 c = λ b m. rw (c .before .before .match .keys3, c .before .byte-below2 .ensures)
+returns-3 c = λ b m. rw (c .before .before .before .match .keys3, c .before .byte-below2 .ensures)
 
 returns-4 : tie.Need-returns-4
 returns-4 c = λ b m. rw (c .before .before .match .keys4, c .byte-below3 .ensures)
@@ -69,18 +69,4 @@ returns-7 c = λ b m.
 pub kind-good-spec : {M : Type 1} → statement M
 kind-good-spec =
     tie.close
-    (tie.spec
-    byte-below-requires
-    byte-below-requires-2
-    byte-below-requires-3
-    free-of-requires
-    byte-below-requires-4
-    byte-below-requires-5
-    byte-below-requires-6
-    returns
-    returns-2
-    returns-3
-    returns-4
-    returns-5
-    returns-6
-    returns-7)
+    (tie.spec (λ c. search needs) byte-below-requires (λ c. search needs) byte-below-requires-2 byte-below-requires-3 free-of-requires byte-below-requires-4 byte-below-requires-5 byte-below-requires-6 returns returns-2 returns-3 returns-4 returns-5 returns-6 returns-7)

@@ -45,8 +45,8 @@ union-requires c κs = search needs
 
 loop-holds : tie.Need-loop-holds Inv-loop μ-loop
 loop-holds c =
-    let a = c .before .before .before .before .before .args in
-    let p = c .before .before .before .before .before .pre in
+    let a = c .before .before .before .before .before .before .args in
+    let p = c .before .before .before .before .before .before .pre in
     let b = now (a .card) in
     let X = initialBeliefs (a .l) b in
     let Y = initialGoals (a .l) b in
@@ -75,7 +75,7 @@ loop-less c = search needs
 
 loop-again : tie.Need-loop-again Inv-loop μ-loop
 loop-again c =
-    let a = c .before .before .before .before .before .before .before .before .before .before .before .before .args in
+    let a = c .before .before .before .before .before .before .before .before .before .before .before .before .before .args in
     let l = c .before .before .before .before .before .before .loop in
     let b = now (a .card) in
     let n = a .l .specifications .count in
@@ -83,7 +83,7 @@ loop-again c =
     let X = x .add in
     let Y = x .del in
     let told = c .before .before .before .before .read-specification .ensures in
-    let (lx, ly) = sets-long (a .l) b (c .before .before .before .before .before .before .before .before .before .before .before .before .pre) (l .i) (omega arith) in
+    let (lx, ly) = sets-long (a .l) b (c .before .before .before .before .before .before .before .before .before .before .before .before .before .pre) (l .i) (omega arith) in
     let lxy : length (X ∪ Y) ≡ 16 = length-∪ X Y (lx ∙ sym ly) ∙ lx in
     let la : length (l .all) ≡ 16 = l .inv .1 in
     let e : c .union3 .result ≡ l .all ∪ (X ∪ Y) =
@@ -100,7 +100,7 @@ loop-again c =
 returns : tie.Need-returns Inv-loop μ-loop
 unfolding setsGood numbers
 returns c =
-    let a = c .before .before .before .before .before .before .before .args in
+    let a = c .before .before .before .before .before .before .before .before .args in
     let l = c .before .loop in
     let b = now (a .card) in
     let n = a .l .specifications .count in
@@ -114,17 +114,4 @@ returns c =
 pub all-sets-spec : {M : Type 1} → statement M
 all-sets-spec =
     tie.close
-    (tie.spec
-    Inv-loop
-    μ-loop
-    initial-beliefs-requires
-    initial-goals-requires
-    union-requires
-    loop-holds
-    read-specification-requires
-    union-requires-2
-    union-requires-3
-    (λ c. search needs)
-    loop-less
-    loop-again
-    returns)
+    (tie.spec Inv-loop μ-loop (λ c. search needs) initial-beliefs-requires initial-goals-requires union-requires loop-holds read-specification-requires union-requires-2 union-requires-3 (λ c. search needs) loop-less loop-again returns)

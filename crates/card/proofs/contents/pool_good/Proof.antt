@@ -30,4 +30,4 @@ returns-2 : tie.Need-returns-2
 returns-2 c = search needs
 
 pub pool-good-spec : {M : Type 1} → statement M
-pool-good-spec = tie.close (tie.spec returns actions-good-requires returns-2)
+pool-good-spec = tie.close (tie.spec returns (λ c. search needs) (λ c. search needs) (λ c. search needs) actions-good-requires returns-2)

@@ -10,7 +10,7 @@ known-requires : tie.Need-known-requires
 known-requires c κs = search needs
 
 returns : tie.Need-returns
-returns c = c .known .ensures ∙ c .before .all-sets .ensures
+returns c = c .known .ensures ∙ c .before .before .all-sets .ensures
 
 pub sets-good-spec : {M : Type 1} → statement M
-sets-good-spec = tie.close (tie.spec all-sets-requires known-requires returns)
+sets-good-spec = tie.close (tie.spec all-sets-requires (λ c. search needs) known-requires returns)

@@ -33,7 +33,7 @@ loop-less c = search needs
 
 loop-again : tie.Need-loop-again Inv-loop μ-loop
 loop-again c =
-    let a = c .before .before .before .before .before .before .args in
+    let a = c .before .before .before .before .before .before .before .args in
     let l = c .before .before .before .before .loop in
     let t : ℕ → Bool = λ i. within 1 1024 (weightAt (a .l) (now (a .card)) i) in
     let e : c .in-range .result ≡ t (l .a) = c .in-range .ensures ∙ (λ i. within 1 (c .before .before .heaviest-action .ensures i) (c .before .read-weight .ensures .0 i)) in
@@ -42,7 +42,7 @@ loop-again c =
 returns : tie.Need-returns Inv-loop μ-loop
 unfolding weightsGood
 returns c =
-    let a = c .before .before .before .args in
+    let a = c .before .before .before .before .args in
     let l = c .before .loop in
     let t : ℕ → Bool = λ i. within 1 1024 (weightAt (a .l) (now (a .card)) i) in
     kept-all t (a .l .actions) (l .good) (l .a) (omega arith) (l .inv .1)
@@ -50,14 +50,4 @@ returns c =
 pub weights-good-spec : {M : Type 1} → statement M
 weights-good-spec =
     tie.close
-    (tie.spec
-    Inv-loop
-    μ-loop
-    loop-holds
-    heaviest-action-requires
-    read-weight-requires
-    in-range-requires
-    (λ c. search needs)
-    loop-less
-    loop-again
-    returns)
+    (tie.spec Inv-loop μ-loop (λ c. search needs) loop-holds heaviest-action-requires read-weight-requires in-range-requires (λ c. search needs) loop-less loop-again returns)

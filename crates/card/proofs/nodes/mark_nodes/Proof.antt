@@ -22,8 +22,8 @@ abbrev μ-loop : tie.MeasureT-loop
 
 loop-holds : tie.Need-loop-holds Inv-loop μ-loop
 loop-holds c =
-    let a = c .before .before .args in
-    let e = c .before .before .pre .2 in
+    let a = c .before .before .before .args in
+    let e = c .before .before .before .pre .2 in
     (omega arith, marked-start 1 (a .l) (now (a .card)) _ refl e, marked-start 2 (a .l) (now (a .card)) _ refl e)
 
 read-node-requires : tie.Need-read-node-requires Inv-loop μ-loop
@@ -31,7 +31,7 @@ read-node-requires c κs = search needs
 
 mark-of-requires : tie.Need-mark-of-requires Inv-loop μ-loop
 mark-of-requires c κs =
-    let p = c .before .before .before .before .before .before .before .before .before .pre in
+    let p = c .before .before .before .before .before .before .before .before .before .before .pre in
     let k = node-rule _ _ (p .1) (c .before .before .before .before .before .before .loop .i) (omega arith) .kinds in
     rw (c .before .before .before .before .read-node .ensures) k
 
@@ -40,10 +40,10 @@ loop-less c = search needs
 
 loop-again : tie.Need-loop-again Inv-loop μ-loop
 loop-again c =
-    let a = c .before .before .before .before .before .before .before .before .before .before .args in
+    let a = c .before .before .before .before .before .before .before .before .before .before .before .args in
     let l = c .before .before .before .before .before .before .before .loop in
     let b = now (a .card) in
-    let good = c .before .before .before .before .before .before .before .before .before .before .pre .1 in
+    let good = c .before .before .before .before .before .before .before .before .before .before .before .pre .1 in
     let k : l .i < a .l .nodes .count = omega arith in
     let m : l .i < 256 = omega arith in
     let x = nodeAt (a .l) b (l .i) in
@@ -53,7 +53,7 @@ loop-again c =
 
 returns : tie.Need-returns Inv-loop μ-loop
 returns c =
-    let a = c .before .before .before .before .args in
+    let a = c .before .before .before .before .before .args in
     let l = c .before .loop in
     let b = now (a .card) in
     let e : l .i ≡ a .l .nodes .count = omega arith in
@@ -62,18 +62,4 @@ returns c =
 pub mark-nodes-spec : {M : Type 1} → statement M
 mark-nodes-spec =
     tie.close
-    (tie.spec
-    Inv-loop
-    μ-loop
-    loop-holds
-    read-node-requires
-    (λ c. search needs)
-    (λ c. search needs)
-    (λ c. search needs)
-    (λ c. search needs)
-    mark-of-requires
-    (λ c. search needs)
-    (λ c. search needs)
-    loop-less
-    loop-again
-    returns)
+    (tie.spec Inv-loop μ-loop (λ c. search needs) loop-holds read-node-requires (λ c. search needs) (λ c. search needs) (λ c. search needs) (λ c. search needs) mark-of-requires (λ c. search needs) (λ c. search needs) loop-less loop-again returns)

@@ -29,7 +29,7 @@ loop-less c = search needs
 
 loop-again : tie.Need-loop-again Inv-loop μ-loop
 loop-again c =
-    let a = c .before .before .before .before .before .before .before .args in
+    let a = c .before .before .before .before .before .before .before .before .before .args in
     let l = c .before .before .before .before .loop in
     let t : ℕ → Bool = λ i. nodeGood (a .l .atoms) i (nodeAt (a .l) (now (a .card)) i) in
     (omega arith, rw (c .before .kind-good .ensures, c .before .before .read-node .ensures) (kept-turn t (a .l .nodes .count) (l .good) (l .i) (omega arith) (l .inv .1)))
@@ -37,7 +37,7 @@ loop-again c =
 returns : tie.Need-returns Inv-loop μ-loop
 unfolding nodesGood
 returns c =
-    let a = c .before .before .before .before .args in
+    let a = c .before .before .before .before .before .before .args in
     let l = c .before .loop in
     let t : ℕ → Bool = λ i. nodeGood (a .l .atoms) i (nodeAt (a .l) (now (a .card)) i) in
     kept-all t (a .l .nodes .count) (l .good) (l .i) (omega arith) (l .inv .1)
@@ -45,13 +45,4 @@ returns c =
 pub nodes-good-spec : {M : Type 1} → statement M
 nodes-good-spec =
     tie.close
-    (tie.spec
-    Inv-loop
-    μ-loop
-    loop-holds
-    read-node-requires
-    kind-good-requires
-    (λ c. search needs)
-    loop-less
-    loop-again
-    returns)
+    (tie.spec Inv-loop μ-loop (λ c. search needs) (λ c. search needs) loop-holds read-node-requires kind-good-requires (λ c. search needs) loop-less loop-again returns)

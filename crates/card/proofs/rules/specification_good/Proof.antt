@@ -15,10 +15,10 @@ free-of-requires c κs = search needs
 returns : tie.Need-returns
 unfolding specificationGood
 returns c = λ b m.
-    let a = c .before .before .before .args in
+    let a = c .before .before .before .before .args in
     let h : a .e .node < 256 = omega arith in
     let k : c .before .free-of .result ≡ conditionGood (a .l) (containing 2 (a .l) b) (a .e .node) = c .before .free-of .ensures ∙ m (a .e .node) h in
     rw (c .before .before .byte-below .ensures, k)
 
 pub specification-good-spec : {M : Type 1} → statement M
-specification-good-spec = tie.close (tie.spec byte-below-requires free-of-requires returns)
+specification-good-spec = tie.close (tie.spec (λ c. search needs) byte-below-requires free-of-requires returns)

@@ -22,18 +22,18 @@ abbrev μ-loop : tie.MeasureT-loop
 μ-loop card l marks₀ n beliefs goals i₀ marks i = n - i
 
 loop-holds : tie.Need-loop-holds Inv-loop μ-loop
-loop-holds c = (omega arith, c .before .before .before .before .pre .1, λ j h. absurd (omega arith))
+loop-holds c = (omega arith, c .before .before .before .before .before .pre .1, λ j h. absurd (omega arith))
 
 cast-judge : tie.Need-cast-judge Inv-loop μ-loop
-cast-judge c = let q = c .before .before .before .before .before .before .pre .0 .layout .nodes in omega arith
+cast-judge c = let q = c .before .before .before .before .before .before .before .pre .0 .layout .nodes in omega arith
 
 read-node-requires : tie.Need-read-node-requires Inv-loop μ-loop
 read-node-requires c κs = search needs
 
 judge-requires : tie.Need-judge-requires Inv-loop μ-loop
 judge-requires c κs =
-    let a = c .before .before .before .before .before .before .before .before .before .before .args in
-    let p = c .before .before .before .before .before .before .before .before .before .before .pre .0 in
+    let a = c .before .before .before .before .before .before .before .before .before .before .before .args in
+    let p = c .before .before .before .before .before .before .before .before .before .before .before .pre .0 in
     let atoms = p .layout .atoms in
     let r = node-rule (a .l) (now (a .card)) (p .nodes) (c .before .before .before .before .before .loop .i) (omega arith) in
     rw (c .before .before .before .read-node .ensures) (r .kinds, λ x y. (let low = r .atom x y in omega arith))
@@ -43,8 +43,8 @@ loop-less c = search needs
 
 loop-again : tie.Need-loop-again Inv-loop μ-loop
 loop-again c =
-    let a = c .before .before .before .before .before .before .before .before .before .before .before .args in
-    let p = c .before .before .before .before .before .before .before .before .before .before .before .pre .0 in
+    let a = c .before .before .before .before .before .before .before .before .before .before .before .before .args in
+    let p = c .before .before .before .before .before .before .before .before .before .before .before .before .pre .0 in
     let l = c .before .before .before .before .before .before .loop in
     let b = now (a .card) in
     let k : l .i < a .l .nodes .count = omega arith in
@@ -62,16 +62,4 @@ returns c = (λ n h. c .before .loop .inv .2 n (omega arith), c .before .loop .i
 pub judge-nodes-spec : {M : Type 1} → statement M
 judge-nodes-spec =
     tie.close
-    (tie.spec
-    Inv-loop
-    μ-loop
-    loop-holds
-    cast-judge
-    read-node-requires
-    judge-requires
-    (λ c. search needs)
-    (λ c. search needs)
-    (λ c. search needs)
-    loop-less
-    loop-again
-    returns)
+    (tie.spec Inv-loop μ-loop (λ c. search needs) loop-holds cast-judge read-node-requires judge-requires (λ c. search needs) (λ c. search needs) (λ c. search needs) loop-less loop-again returns)

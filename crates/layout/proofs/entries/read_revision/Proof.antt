@@ -15,8 +15,8 @@ read-span-requires c κs = search needs
 read-span-requires-2 : tie.Need-read-span-requires-2
 read-span-requires-2 c κs = search needs
 
-number-at-requires : tie.Need-number-at-requires
-number-at-requires c κs = search needs
+two-bytes-at-requires : tie.Need-two-bytes-at-requires
+two-bytes-at-requires c κs = search needs
 
 returns : tie.Need-returns
 unfolding revisionAt
@@ -25,7 +25,7 @@ returns c =
     let e = c .before .before .before .before .before .entry-at .ensures .0 in
     let h = c .before .before .read-span .ensures in
     let d = c .before .read-span2 .ensures in
-    let z = c .number-at .ensures .0 ∙ ap (λ x. numberAt b (x + 10)) e in (
+    let z = c .two-bytes-at .ensures .0 ∙ ap (λ x. numberAt b (x + 10)) e in (
       λ i. record { node = byte b (e i); plain = byte b (e i + 1); head = (h .0 ∙ ap (λ x. span b (x + 2)) e) i; body = (d .0 ∙ ap (λ x. span b (x + 6)) e) i; zero = z i },
       h .1,
       d .1,
@@ -44,5 +44,5 @@ read-revision-spec =
     (λ c. search needs)
     read-span-requires-2
     (λ c. search needs)
-    number-at-requires
+    two-bytes-at-requires
     returns)

@@ -12,8 +12,8 @@ entry-at-requires c κs = search needs
 read-span-requires : tie.Need-read-span-requires
 read-span-requires c κs = search needs
 
-number-at-requires : tie.Need-number-at-requires
-number-at-requires c κs = search needs
+two-bytes-at-requires : tie.Need-two-bytes-at-requires
+two-bytes-at-requires c κs = search needs
 
 returns : tie.Need-returns
 unfolding selectionAt
@@ -21,7 +21,7 @@ returns c =
     let b = now (c .before .before .before .before .before .before .args .card) in
     let e = c .before .before .before .before .entry-at .ensures .0 in
     let s = c .before .read-span .ensures in
-    let z = c .number-at .ensures .0 ∙ ap (λ x. numberAt b (x + 6)) e in
+    let z = c .two-bytes-at .ensures .0 ∙ ap (λ x. numberAt b (x + 6)) e in
     (λ i. record { belief = byte b (e i); goal = byte b (e i + 1); plan = (s .0 ∙ ap (λ x. span b (x + 2)) e) i; zero = z i }, s .1)
 
 pub read-selection-spec : {M : Type 1} → statement M
@@ -35,5 +35,5 @@ read-selection-spec =
     (λ c. search needs)
     read-span-requires
     (λ c. search needs)
-    number-at-requires
+    two-bytes-at-requires
     returns)

@@ -15,8 +15,8 @@ del-at-requires c κs = search needs
 set-at-requires-2 : tie.Need-set-at-requires-2
 set-at-requires-2 c κs = search needs
 
-number-at-requires : tie.Need-number-at-requires
-number-at-requires c κs = search needs
+two-bytes-at-requires : tie.Need-two-bytes-at-requires
+two-bytes-at-requires c κs = search needs
 
 returns : tie.Need-returns
 unfolding specificationAt
@@ -36,5 +36,5 @@ read-specification-spec =
     (λ c. search needs)
     (λ c. search needs)
     (λ c. search needs)
-    number-at-requires
+    two-bytes-at-requires
     returns)

@@ -17,14 +17,9 @@ in-range-requires-3 c κs = search needs
 
 returns : tie.Need-returns
 unfolding countsGood
-returns c = rw (c .before .before .before .before .before .before .in-range .ensures, c .before .before .before .before .before .in-range2 .ensures, c .before .before .before .before .in-range3 .ensures, c .before .before .before .before .before .before .before .most-atoms .ensures)
+returns c = rw (c .before .before .before .before .before .before .before .before .in-range .ensures, c .before .before .before .before .before .before .in-range2 .ensures, c .before .before .before .before .in-range3 .ensures, c .before .before .before .before .before .before .before .before .before .before .most-atoms .ensures)
 
 pub counts-good-spec : {M : Type 1} → statement M
 counts-good-spec =
     tie.close
-    (tie.spec
-    most-atoms-requires
-    in-range-requires
-    in-range-requires-2
-    in-range-requires-3
-    returns)
+    (tie.spec most-atoms-requires (λ c. search needs) in-range-requires (λ c. search needs) in-range-requires-2 (λ c. search needs) in-range-requires-3 returns)

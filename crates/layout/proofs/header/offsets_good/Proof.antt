@@ -27,19 +27,9 @@ end-of-requires-5 c κs = search needs
 returns : tie.Need-returns
 unfolding offsetsGood
 returns c =
-    rw (c .end-of5 .ensures, c .before .before .end-of4 .ensures, c .before .before .before .before .end-of3 .ensures, c .before .before .before .before .before .before .end-of2 .ensures, c .before .before .before .before .before .before .before .before .before .end-of .ensures, c .before .before .before .before .before .before .before .before .before .before .before .before .header-bytes .ensures, c .before .before .before .before .before .before .before .specification-bytes .ensures)
+    rw (c .end-of5 .ensures, c .before .end-of4 .ensures, c .before .before .before .end-of3 .ensures, c .before .before .before .before .before .end-of2 .ensures, c .before .before .before .before .before .before .before .before .end-of .ensures, c .before .before .before .before .before .before .before .before .before .before .before .header-bytes .ensures, c .before .before .before .before .before .before .specification-bytes .ensures)
 
 pub offsets-good-spec : {M : Type 1} → statement M
 offsets-good-spec =
     tie.close
-    (tie.spec
-    header-bytes-requires
-    (λ c. search needs)
-    (λ c. search needs)
-    end-of-requires
-    specification-bytes-requires
-    end-of-requires-2
-    end-of-requires-3
-    end-of-requires-4
-    end-of-requires-5
-    returns)
+    (tie.spec (λ c. search needs) header-bytes-requires (λ c. search needs) (λ c. search needs) (λ c. search needs) (λ c. search needs) end-of-requires (λ c. search needs) specification-bytes-requires end-of-requires-2 (λ c. search needs) end-of-requires-3 (λ c. search needs) end-of-requires-4 end-of-requires-5 returns)

@@ -3,11 +3,11 @@ use borrow.Author.Needs.{needs}
 use Rattle.layout.proofs.header.read_layout.Statement.{statement}
 use Rattle.layout.proofs.header.read_layout.Tie as tie
 
-number-at-requires : tie.Need-number-at-requires
-number-at-requires c κs = search needs
+two-bytes-at-requires : tie.Need-two-bytes-at-requires
+two-bytes-at-requires c κs = search needs
 
-number-at-requires-2 : tie.Need-number-at-requires-2
-number-at-requires-2 c κs = search needs
+two-bytes-at-requires-2 : tie.Need-two-bytes-at-requires-2
+two-bytes-at-requires-2 c κs = search needs
 
 read-section-requires : tie.Need-read-section-requires
 read-section-requires c κs = search needs
@@ -30,8 +30,8 @@ read-span-requires c κs = search needs
 returns : tie.Need-returns
 unfolding layout
 returns c =
-    let a = c .before .before .before .before .before .before .before .number-at .ensures in
-    let b = c .before .before .before .before .before .before .number-at2 .ensures in
+    let a = c .before .before .before .before .before .before .before .two-bytes-at .ensures in
+    let b = c .before .before .before .before .before .before .two-bytes-at2 .ensures in
     let d = c .before .before .before .before .before .read-section .ensures in
     let e = c .before .before .before .before .read-section2 .ensures in
     let f = c .before .before .before .read-section3 .ensures in
@@ -46,8 +46,8 @@ pub read-layout-spec : {M : Type 1} → statement M
 read-layout-spec =
     tie.close
     (tie.spec
-    number-at-requires
-    number-at-requires-2
+    two-bytes-at-requires
+    two-bytes-at-requires-2
     read-section-requires
     read-section-requires-2
     read-section-requires-3

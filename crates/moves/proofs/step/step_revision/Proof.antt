@@ -47,16 +47,16 @@ pool-at-requires c κs = search needs
 
 replace-front-requires : tie.Need-replace-front-requires
 replace-front-requires c κs =
-    let a = c .before .before .before .before .before .before .before .before .before .before .before .before .args in
-    let e = c .before .before .before .before .before .before .before .before .before .before .read-revision .ensures .0 in
-    let h : c .before .before .before .before .before .before .before .before .before .before .read-revision .result .head .length ≤ a .m .length = rw e (head-fits (a .l) (now (a .card)) (configured (a .m) (now (a .plan))) (c .before .before .before .before .before .before .before .before .before .before .before .before .pre .0) (a .i) (c .before .before .before .before .before .before .before .before .before .before .before .before .pre .1)) in
-    let k = revision-known (a .l) (now (a .card)) (configured (a .m) (now (a .plan))) (c .before .before .before .before .before .before .before .before .before .before .before .before .pre .0) (a .i) (c .before .before .before .before .before .before .before .before .before .before .before .before .pre .1) in
-    let g = subst (GoodSpan (a .l) 0) (sym (ap (λ (x : RevisionEntry). x .body) e)) (c .before .before .before .before .before .before .before .before .before .before .before .before .pre .0 .card .revisions (a .i) k .body) in
+    let a = c .before .before .before .before .before .before .before .before .before .before .before .before .before .before .args in
+    let e = c .before .before .before .before .before .before .before .before .before .before .before .before .read-revision .ensures .0 in
+    let h : c .before .before .before .before .before .before .before .before .before .before .before .before .read-revision .result .head .length ≤ a .m .length = rw e (head-fits (a .l) (now (a .card)) (configured (a .m) (now (a .plan))) (c .before .before .before .before .before .before .before .before .before .before .before .before .before .before .pre .0) (a .i) (c .before .before .before .before .before .before .before .before .before .before .before .before .before .before .pre .1)) in
+    let k = revision-known (a .l) (now (a .card)) (configured (a .m) (now (a .plan))) (c .before .before .before .before .before .before .before .before .before .before .before .before .before .before .pre .0) (a .i) (c .before .before .before .before .before .before .before .before .before .before .before .before .before .before .pre .1) in
+    let g = subst (GoodSpan (a .l) 0) (sym (ap (λ (x : RevisionEntry). x .body) e)) (c .before .before .before .before .before .before .before .before .before .before .before .before .before .before .pre .0 .card .revisions (a .i) k .body) in
     let x = g .inside in
-    let w = c .before .before .before .before .before .before .before .before .before .before .before .before .pre .0 .card .layout .ends in
-    let f = c .before .before .before .before .before .before .before .before .before .before .before .before .pre .0 .fits in
-    let at = c .before .pool-at .ensures in
-    (h, f, omega arith, omega arith, c .before .before .before .before .before .before .before .before .before .before .before .before .pre .0 .zeros)
+    let w = c .before .before .before .before .before .before .before .before .before .before .before .before .before .before .pre .0 .card .layout .ends in
+    let f = c .before .before .before .before .before .before .before .before .before .before .before .before .before .before .pre .0 .fits in
+    let at = c .before .before .before .pool-at .ensures in
+    (h, f, omega arith, omega arith, c .before .before .before .before .before .before .before .before .before .before .before .before .before .before .pre .0 .zeros)
 
 taken-requires : tie.Need-taken-requires
 taken-requires c κs = (omega arith, omega arith)
@@ -64,15 +64,15 @@ taken-requires c κs = (omega arith, omega arith)
 returns-2 : tie.Need-returns-2
 unfolding plan configurationOf kind number
 returns-2 c =
-    let a = c .before .before .before .before .before .before .before .before .before .before .before .before .before .before .args in
+    let a = c .before .before .before .before .before .before .before .before .before .before .before .before .before .before .before .before .args in
     let b = now (a .card) in
     let d = configured (a .m) (now (a .plan)) in
-    let e = c .before .before .before .before .before .before .before .before .before .before .before .before .read-revision .ensures .0 in
-    let short : c .before .before .before .before .before .before .before .before .before .before .before .before .read-revision .result .body .length + (a .m .length - c .before .before .before .before .before .before .before .before .before .before .before .before .read-revision .result .head .length) ≤ 1024 = omega arith in
-    let t = revises-to (a .l) (now (a .card)) (configured (a .m) (now (a .plan))) (c .before .before .before .before .before .before .before .before .before .before .before .before .before .before .pre .0) (a .i) (c .before .before .before .before .before .before .before .before .before .before .before .before .before .before .pre .1) (rw e at short) in
-    let n = c .before .before .before .before .before .before .before .before .revised-length .ensures ∙ ap (λ (x : RevisionEntry). x .body .length + (a .m .length - x .head .length)) e ∙ sym (revised-length (a .l) (now (a .card)) (configured (a .m) (now (a .plan))) (c .before .before .before .before .before .before .before .before .before .before .before .before .before .before .pre .0) (a .i) (c .before .before .before .before .before .before .before .before .before .before .before .before .before .before .pre .1)) in
-    let moved = drop (c .before .before .before .before .before .before .before .before .before .before .before .before .read-revision .result .head .length) (take (a .m .length) (now (a .plan))) in
-    let q = c .before .replace-front .ensures ∙ (λ j. padded (part b (c .before .before .before .pool-at .ensures j) (c .before .before .before .before .before .before .before .before .before .before .before .before .read-revision .result .body .length) ++ moved)) ∙ ap (λ (x : RevisionEntry). padded (plan (a .l) b (x .body) ++ drop (x .head .length) (take (a .m .length) (now (a .plan))))) e in
+    let e = c .before .before .before .before .before .before .before .before .before .before .before .before .before .before .read-revision .ensures .0 in
+    let short : c .before .before .before .before .before .before .before .before .before .before .before .before .before .before .read-revision .result .body .length + (a .m .length - c .before .before .before .before .before .before .before .before .before .before .before .before .before .before .read-revision .result .head .length) ≤ 1024 = omega arith in
+    let t = revises-to (a .l) (now (a .card)) (configured (a .m) (now (a .plan))) (c .before .before .before .before .before .before .before .before .before .before .before .before .before .before .before .before .pre .0) (a .i) (c .before .before .before .before .before .before .before .before .before .before .before .before .before .before .before .before .pre .1) (rw e at short) in
+    let n = c .before .before .before .before .before .before .before .before .before .before .revised-length .ensures ∙ ap (λ (x : RevisionEntry). x .body .length + (a .m .length - x .head .length)) e ∙ sym (revised-length (a .l) (now (a .card)) (configured (a .m) (now (a .plan))) (c .before .before .before .before .before .before .before .before .before .before .before .before .before .before .before .before .pre .0) (a .i) (c .before .before .before .before .before .before .before .before .before .before .before .before .before .before .before .before .pre .1)) in
+    let moved = drop (c .before .before .before .before .before .before .before .before .before .before .before .before .before .before .read-revision .result .head .length) (take (a .m .length) (now (a .plan))) in
+    let q = c .before .replace-front .ensures ∙ (λ j. padded (part b (c .before .before .before .before .before .pool-at .ensures j) (c .before .before .before .before .before .before .before .before .before .before .before .before .before .before .read-revision .result .body .length) ++ moved)) ∙ ap (λ (x : RevisionEntry). padded (plan (a .l) b (x .body) ++ drop (x .head .length) (take (a .m .length) (now (a .plan))))) e in
     let f = finished-at (a .m .finished) _ _ n in
     let r = c .taken .ensures in (
       ap (λ (x : Stepped). x .transition) r ∙ ap transitionOf (sym t),
@@ -82,13 +82,4 @@ returns-2 c =
 pub step-revision-spec : {M : Type 1} → statement M
 step-revision-spec =
     tie.close
-    (tie.spec
-    read-revision-requires
-    (λ c. search needs)
-    revised-length-requires
-    longest-plan-requires
-    returns
-    pool-at-requires
-    replace-front-requires
-    taken-requires
-    returns-2)
+    (tie.spec read-revision-requires (λ c. search needs) revised-length-requires longest-plan-requires returns pool-at-requires (λ c. search needs) (λ c. search needs) replace-front-requires taken-requires returns-2)

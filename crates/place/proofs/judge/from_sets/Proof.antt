@@ -18,9 +18,9 @@ row-requires c κs = search needs
 returns : tie.Need-returns
 unfolding rowsFrom placeTable
 returns c =
-    let b = now (c .before .before .before .before .before .args .p) in
-    let good = c .before .both-known .ensures ∙ ap (λ (h : PlaceParts). bothGood (c .before .before .before .before .before .args .l .atoms) (h .beliefs) (h .goals)) (c .before .before .before .before .before .pre .1) in
+    let b = now (c .before .before .before .before .before .before .args .p) in
+    let good = c .before .both-known .ensures ∙ ap (λ (h : PlaceParts). bothGood (c .before .before .before .before .before .before .args .l .atoms) (h .beliefs) (h .goals)) (c .before .before .before .before .before .before .pre .1) in
     last-row _ _ b (c .before .both-known .result) (ap not (sym good)) (c .row .result) (c .row .ensures) (no-row b)
 
 pub from-sets-spec : {M : Type 1} → statement M
-from-sets-spec = tie.close (tie.spec both-known-requires row-requires returns)
+from-sets-spec = tie.close (tie.spec (λ c. search needs) both-known-requires row-requires returns)

@@ -19,10 +19,10 @@ actions-good-requires c κs = search needs
 returns : tie.Need-returns
 unfolding part
 returns c =
-    let b = now (c .before .before .before .args .p) in
-    let at = c .before .plan-at .ensures in
+    let b = now (c .before .before .before .before .args .p) in
+    let at = c .before .before .plan-at .ensures in
     let n : length (drop 44 b) ≡ length b - 44 = length-drop 44 b in
-    c .actions-good .ensures ∙ (λ i. actionsGood (c .before .before .before .args .l .actions) (part b (at i) (length b - at i))) ∙ ap (actionsGood (c .before .before .before .args .l .actions)) (take-all (length b - 44) (drop 44 b) (omega arith))
+    c .actions-good .ensures ∙ (λ i. actionsGood (c .before .before .before .before .args .l .actions) (part b (at i) (length b - at i))) ∙ ap (actionsGood (c .before .before .before .before .args .l .actions)) (take-all (length b - 44) (drop 44 b) (omega arith))
 
 pub plan-good-spec : {M : Type 1} → statement M
-plan-good-spec = tie.close (tie.spec plan-at-requires (λ c. search needs) actions-good-requires returns)
+plan-good-spec = tie.close (tie.spec plan-at-requires (λ c. search needs) (λ c. search needs) actions-good-requires returns)

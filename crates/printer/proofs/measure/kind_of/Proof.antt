@@ -14,4 +14,4 @@ returns-2 : tie.Need-returns-2
 returns-2 c = search needs
 
 pub kind-of-spec : {M : Type 1} → statement M
-kind-of-spec = tie.close (tie.spec read-node-requires returns returns-2)
+kind-of-spec = tie.close (tie.spec (λ c. search needs) read-node-requires returns returns-2)

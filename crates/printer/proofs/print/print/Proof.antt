@@ -64,16 +64,4 @@ returns-3 c =
 pub print-spec : {M : Type 1} → statement M
 print-spec =
     tie.close
-    (tie.spec
-    check-requires
-    enum-known-checked
-    enum-told
-    answer-of-requires
-    returns
-    row-requires
-    enum-told-2
-    enum-told-3
-    returns-2
-    print-node-requires
-    same-length
-    returns-3)
+    (tie.spec check-requires enum-known-checked enum-told answer-of-requires returns (λ c. search needs) row-requires enum-told-2 enum-told-3 returns-2 print-node-requires same-length returns-3)

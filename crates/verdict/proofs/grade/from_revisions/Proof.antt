@@ -33,7 +33,7 @@ revision-lowers-requires c κs = search needs
 returns : tie.Need-returns Inv-loop μ-loop
 unfolding agentFor agentOf revisionOf
 returns c =
-    let a = c .before .before .before .before .before .before .args in
+    let a = c .before .before .before .before .before .before .before .args in
     let l = c .before .before .before .loop in
     let b = now (a .card) in
     left-bad (lowers (weight b)) Offender.Revision (rule (a .l) b) (a .l .revisions .count) Verdict.Bounded (l .i) (omega arith) (sym (c .before .revision-lowers .ensures) ∙ not-true _ (c .if1 .taken)) (l .inv .1)
@@ -44,7 +44,7 @@ loop-less c = search needs
 loop-again : tie.Need-loop-again Inv-loop μ-loop
 unfolding agentFor agentOf revisionOf
 loop-again c =
-    let a = c .before .before .before .before .before .before .args in
+    let a = c .before .before .before .before .before .before .before .args in
     let l = c .before .before .before .loop in
     let b = now (a .card) in
     (omega arith, left-turn (lowers (weight b)) Offender.Revision (rule (a .l) b) (a .l .revisions .count) Verdict.Bounded (l .i) (omega arith) (sym (c .before .revision-lowers .ensures) ∙ not-false _ (c .if1 .left)) (l .inv .1))
@@ -52,7 +52,7 @@ loop-again c =
 returns-2 : tie.Need-returns-2 Inv-loop μ-loop
 unfolding agentFor agentOf revisionOf
 returns-2 c =
-    let a = c .before .before .before .before .args in
+    let a = c .before .before .before .before .before .args in
     let l = c .before .loop in
     let b = now (a .card) in
     left-none (lowers (weight b)) Offender.Revision (rule (a .l) b) (a .l .revisions .count) Verdict.Bounded (l .i) (omega arith) (l .inv .1)
@@ -60,13 +60,4 @@ returns-2 c =
 pub from-revisions-spec : {M : Type 1} → statement M
 from-revisions-spec =
     tie.close
-    (tie.spec
-    Inv-loop
-    μ-loop
-    loop-holds
-    revision-lowers-requires
-    returns
-    (λ c. search needs)
-    loop-less
-    loop-again
-    returns-2)
+    (tie.spec Inv-loop μ-loop (λ c. search needs) loop-holds revision-lowers-requires returns (λ c. search needs) loop-less loop-again returns-2)

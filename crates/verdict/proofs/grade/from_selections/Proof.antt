@@ -33,7 +33,7 @@ selection-light-requires c κs = search needs
 returns : tie.Need-returns Inv-loop μ-loop
 unfolding agentFor agentOf selectionOf
 returns c =
-    let a = c .before .before .before .before .before .before .args in
+    let a = c .before .before .before .before .before .before .before .args in
     let l = c .before .before .before .loop in
     let b = now (a .card) in
     left-bad (λ x. light (weight b) (x .π)) Offender.Selection (rule (a .l) b) (a .l .selections .count) (revisionsVerdict (a .l) b) (l .i) (omega arith) (sym (c .before .selection-light .ensures) ∙ not-true _ (c .if1 .taken)) (l .inv .1)
@@ -44,7 +44,7 @@ loop-less c = search needs
 loop-again : tie.Need-loop-again Inv-loop μ-loop
 unfolding agentFor agentOf selectionOf
 loop-again c =
-    let a = c .before .before .before .before .before .before .args in
+    let a = c .before .before .before .before .before .before .before .args in
     let l = c .before .before .before .loop in
     let b = now (a .card) in
     (omega arith, left-turn (λ x. light (weight b) (x .π)) Offender.Selection (rule (a .l) b) (a .l .selections .count) (revisionsVerdict (a .l) b) (l .i) (omega arith) (sym (c .before .selection-light .ensures) ∙ not-false _ (c .if1 .left)) (l .inv .1))
@@ -55,7 +55,7 @@ from-revisions-requires c κs = search needs
 returns-2 : tie.Need-returns-2 Inv-loop μ-loop
 unfolding agentFor agentOf selectionOf
 returns-2 c =
-    let a = c .before .before .before .before .before .args in
+    let a = c .before .before .before .before .before .before .args in
     let l = c .before .before .loop in
     let b = now (a .card) in
     c .from-revisions .ensures ∙ left-none (λ x. light (weight b) (x .π)) Offender.Selection (rule (a .l) b) (a .l .selections .count) (revisionsVerdict (a .l) b) (l .i) (omega arith) (l .inv .1)
@@ -63,14 +63,4 @@ returns-2 c =
 pub from-selections-spec : {M : Type 1} → statement M
 from-selections-spec =
     tie.close
-    (tie.spec
-    Inv-loop
-    μ-loop
-    loop-holds
-    selection-light-requires
-    returns
-    (λ c. search needs)
-    loop-less
-    loop-again
-    from-revisions-requires
-    returns-2)
+    (tie.spec Inv-loop μ-loop (λ c. search needs) loop-holds selection-light-requires returns (λ c. search needs) loop-less loop-again from-revisions-requires returns-2)

@@ -51,13 +51,4 @@ returns c =
 pub from-above-spec : {M : Type 1} → statement M
 from-above-spec =
     tie.close
-    (tie.spec
-    (λ c. search needs)
-    (λ c. search needs)
-    (λ c. search needs)
-    part-weight-requires
-    (λ c. search needs)
-    (λ c. search needs)
-    cast-result
-    sub-result
-    returns)
+    (tie.spec (λ c. search needs) (λ c. search needs) (λ c. search needs) (λ c. search needs) part-weight-requires (λ c. search needs) (λ c. search needs) cast-result sub-result returns)

@@ -53,12 +53,4 @@ returns c =
 pub from-below-spec : {M : Type 1} → statement M
 from-below-spec =
     tie.close
-    (tie.spec
-    (λ c. search needs)
-    (λ c. search needs)
-    part-weight-requires
-    (λ c. search needs)
-    (λ c. search needs)
-    cast-result
-    add-result
-    returns)
+    (tie.spec (λ c. search needs) (λ c. search needs) (λ c. search needs) part-weight-requires (λ c. search needs) (λ c. search needs) cast-result add-result returns)

@@ -27,7 +27,7 @@ sub-result c =
     let a = c .before .before .before .before .before .before .args in
     let b = now (a .card) in
     let e = weigh-part (weight b) b (a .pool .offset) (a .s .start) (a .s .length) in
-    let f = c .before .before .first-weight .ensures in
+    let f = c .before .first-weight .ensures in
     let g = c .first-weight2 .ensures in
     omega arith
 
@@ -37,19 +37,11 @@ returns-2 c =
     let a = c .before .before .before .before .before .before .args in
     let b = now (a .card) in
     let e = weigh-part (weight b) b (a .pool .offset) (a .s .start) (a .s .length) in
-    let f = c .before .before .first-weight .ensures in
+    let f = c .before .first-weight .ensures in
     let g = c .first-weight2 .ensures in
     omega arith
 
 pub plan-weight-spec : {M : Type 1} → statement M
 plan-weight-spec =
     tie.close
-    (tie.spec
-    (λ c. search needs)
-    part-weight-requires
-    returns
-    first-weight-requires
-    (λ c. search needs)
-    first-weight-requires-2
-    sub-result
-    returns-2)
+    (tie.spec (λ c. search needs) (λ c. search needs) (λ c. search needs) (λ c. search needs) part-weight-requires returns first-weight-requires (λ c. search needs) first-weight-requires-2 sub-result returns-2)

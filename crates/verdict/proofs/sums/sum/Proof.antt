@@ -86,18 +86,4 @@ returns c =
 pub sum-spec : {M : Type 1} → statement M
 sum-spec =
     tie.close
-    (tie.spec
-    Inv-loop
-    μ-loop
-    loop-holds
-    (λ c. search needs)
-    (λ c. search needs)
-    part-weight-requires
-    add-total
-    (λ c. search needs)
-    cast-sums
-    (λ c. search needs)
-    (λ c. search needs)
-    loop-less
-    loop-again
-    returns)
+    (tie.spec Inv-loop μ-loop (λ c. search needs) loop-holds (λ c. search needs) (λ c. search needs) (λ c. search needs) part-weight-requires add-total (λ c. search needs) cast-sums (λ c. search needs) (λ c. search needs) loop-less loop-again returns)

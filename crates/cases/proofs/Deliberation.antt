@@ -1,15 +1,15 @@
--- The cases, by computation.
+-- The cases of deliberation on the stripe card, by computation: its DeliberationCases.
 use mathlib.Core.Path.{refl}
 use mathlib.Core.List.{flatten}
 use Rattle.meaning.specs.Assembled.{assembled}
 use Rattle.meaning.specs.Stripe.{set, specification, selection, revision, stripeWith, stripe}
 use Rattle.meaning.specs.Cases.{loaded}
 use Rattle.meaning.proofs.Computing.{computing}
 use Rattle.deliberation.specs.Programs.{𝒲}
 use Rattle.deliberation.specs.FirstMove.{lowestAction, ifEnabled}
 use Rattle.deliberation.specs.Entries.{entryOf, entriesOf, programGood, programTable, numbersTable, goOnAnswer, firstMoveOf}
 use Rattle.deliberation.specs.Deliberate.{leads, deliberate, remainingOf, goesOn, deliberationEndingNumber}
 use Rattle.deliberation.specs.Cases.{entry, inNumbers, teaching, twoActions, twoActionsAgain, doubling, nested, lent, onFrom, withPlan, long, wrong, DeliberationCases}
 
 pub cases : DeliberationCases
 unfolding computing flatten assembled set specification selection revision stripeWith stripe loaded 𝒲 lowestAction ifEnabled entryOf entriesOf programGood programTable numbersTable goOnAnswer firstMoveOf leads deliberate remainingOf goesOn deliberationEndingNumber entry inNumbers teaching twoActions twoActionsAgain doubling nested lent onFrom withPlan long wrong

@@ -1,11 +1,11 @@
--- The P cases of document 01, computed.
+-- The cases of the guide on the stripe card, by computation: meaning's PCases, ClosedCases, FinishedCases and NextCases.
 use mathlib.Core.Path.{refl}
 use mathlib.Core.List.{flatten}
 use Rattle.meaning.specs.Assembled.{assembled}
 use Rattle.meaning.specs.Stripe.{set, specification, selection, revision, stripeWith, stripe, stripe-P4, stripe-P5, stripe-P9, stripe-P10, stripe-P13, stripe-two}
 use Rattle.meaning.specs.Numbers.{checkedNumber, endingNumber, comingNumber, comingChoice, verdictNumber, verdictOffender, verdictRule, offenderNumber, offenderRule}
 use Rattle.meaning.specs.Cases.{shown, shownCheck, shownReply, shownTake, shownGrade, shownWritten, shownRun, configuration, loaded, afterSteps, guideCode, stepLine, takenInTurn, placeP7, resting, PCases, stripe-bobbin, ClosedCases, havingFinished, shownFinished, FinishedCases, shownNext, NextCases}
 use Rattle.meaning.proofs.Computing.{computing}
 
 pub P-cases : PCases
 unfolding computing checkedNumber flatten assembled set specification selection revision stripeWith stripe stripe-P4 stripe-P5 stripe-P9 stripe-P10 stripe-P13 endingNumber verdictNumber verdictOffender verdictRule offenderNumber offenderRule shown shownCheck shownReply shownTake shownGrade shownWritten shownRun configuration loaded afterSteps guideCode stepLine takenInTurn placeP7 resting

@@ -1,0 +1,2 @@
+pub mod Stripe
+pub mod Deliberation
