@@ -57,7 +57,7 @@ held = ctypes.c_char_p, ctypes.c_size_t
 app.app_begin.argtypes = (*held, ctypes.c_char_p)
 app.app_next.argtypes = (*held, *held)
 app.app_made.argtypes = (*held, *held, ctypes.c_uint16, ctypes.c_char_p)
-buffer = ctypes.create_string_buffer(1068)
+buffer = ctypes.create_string_buffer(1100)
 assert app.app_begin(loop, len(loop), buffer) == -6
 count, moves = app.app_begin(card, len(card), buffer), []
 place = buffer.raw[:count]
