@@ -73,12 +73,12 @@
  * with it twice that; to print takes RIGTEMPLE_MOST_PRINTED_BYTES; a sheet has
  * RIGTEMPLE_MOST_SHEET_BYTES at most; a text to be read has no limit.
  *
- * Bytes of stack, as tests/stack.sh measures them on x86-64: check 528, load 704, grade 1,712,
- * list 1,376, next 1,344, take 1,424, run 1,408, deliberate 1,864, go_on 1,896, save 672,
- * restore 736, text 33,440 (24,928 where nothing nests, 80 more for the first bracket and 272 for
- * each further one), print 1,776, name 672. All but text run on a stack of 2,048. On 64-bit Arm
- * text takes 33,968, and each other call at most 56 more than on x86-64: all but text run on
- * 2,048.
+ * Bytes of stack, as tests/stack.sh measures them on x86-64: check 584, load 904, grade 1,736,
+ * list 1,512, next 1,464, take 1,640, run 1,592, deliberate 2,232, go_on 2,248, save 840,
+ * restore 888, text 33,440 (24,928 where nothing nests, 80 more for the first bracket and 272 for
+ * each further one), print 1,832, name 728. All but text run on a stack of 2,304. On 64-bit Arm
+ * text takes 33,952, and each other call at most 0 more than on x86-64: all but text run on
+ * 2,304.
  */
 #ifndef RIGTEMPLE_H
 #define RIGTEMPLE_H

@@ -95,7 +95,7 @@ if command -v cmake >/dev/null && command -v cc >/dev/null; then
     android_toolchain armv7-a armv7-none-linux-androideabi24 >"$room/armv7-a.cmake"
     expect 'another processor is refused' refused_by_cmake "the processor is 'armv7-a'" \
         -S "$root/examples/tablet" -B "$room/armv7-a" "-DCMAKE_TOOLCHAIN_FILE=$room/armv7-a.cmake"
-    for version in 3.999 4.0 2.0; do
+    for version in 4.999 5.0 3.3; do
         of_version "$version"
         expect "version $version is refused" refused_by_cmake "requested version \"$version\"" \
             -S "$room/version.$version" -B "$room/version.$version/build"
