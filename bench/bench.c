@@ -351,7 +351,7 @@ static void measure(struct line *lines, unsigned count)
 
 /* ---- tables ---- */
 
-enum { ROWS = sizeof rows / sizeof rows[0], INPUTS = 4, SHEDS = 2, GROWTHS = 9 };
+enum { ROWS = sizeof rows / sizeof rows[0], INPUTS = 5, SHEDS = 2, GROWTHS = 9 };
 enum { OF_PROGRAMS = SHEDS * sizeof program_rows / sizeof program_rows[0] };
 
 static struct line lines[ROWS * INPUTS + OF_PROGRAMS];
@@ -409,10 +409,13 @@ int main(void)
     typical_card(&inputs[1].card);
     worst_card(&inputs[2].card, 0);
     worst_card(&inputs[3].card, 1);
+    typical_card(&inputs[4].card);
+    widen(&inputs[4].card);
     prepare(&inputs[0], "stripe, endless");
     prepare(&inputs[1], "maximal, typical");
     prepare(&inputs[2], "maximal, worst: revisions");
     prepare(&inputs[3], "maximal, worst: acts, revisions");
+    prepare(&inputs[4], "maximal, typical, edition 2");
     prepare_program(&inputs[0], 3);
     prepare_program(&inputs[1], 50);
     for (unsigned i = 0; i < INPUTS; i++)

@@ -1,5 +1,5 @@
 /*
- * The engine: document 01's eight calls in plain C, with document 02's wishes 1, 4, 5 and 6, and
+ * The engine: document 01's eight calls in plain C, with document 02's wishes 1, 4, 5, 6 and 9, and
  * with `next` and `go on`.
  *
  * A card is checked once a call; after that nothing is tested that its acceptance settles. All
@@ -41,8 +41,10 @@ enum { A_MOVE };                                               /* what comes nex
 enum { FINISHED = 1, STUCK, TOO_LONG };                        /* the others of a deliberation */
 enum { BOUNDED, OPEN };                                        /* the verdicts */
 enum { NONE, INITIAL_PLAN, SELECTION_RULE, REVISION_RULE };    /* the offenders */
-enum { NODE_BYTES = 4, SPECIFICATION_BYTES = 36, SELECTION_BYTES = 8, REVISION_BYTES = 12 };
-enum { SET_BYTES = 16, HEADER_BYTES = 64, PLACE_BYTES = 44, ENTRY_BYTES = 4 };
+enum { NODE_BYTES = 4, SELECTION_BYTES = 8, REVISION_BYTES = 12, ENTRY_BYTES = 4 };
+enum { SET_BYTES = 32, NARROW_SET_BYTES = 16 };                /* of edition 2, and of edition 1 */
+enum { LEAST_FILE_BYTES = 4 };                                 /* mark and edition */
+enum { SETS_OF_CARD = 32, SETS_OF_PLACE = 12, SETS_OF_SPECIFICATION = 4 }; /* where sets begin */
 enum { MOST_ENTRIES = 256, LONGEST_PLAN = 1024, LARGEST_POOL = 8192, MOST_CHOICES = 768 };
 enum { LONGEST_PROGRAM = 128 };
 enum { MOST_FINISHED = 65535 };
@@ -51,14 +53,16 @@ enum { NO_MOVE = -1 };
 /* What a condition is made of; a number past the last node is UNKNOWN. */
 enum { BELIEF_ATOM = 1, GOAL_ATOM = 2, UNKNOWN = 4 };
 
-/* A set of atoms as two words. */
+/* A set of atoms as four words; the last two are empty in edition 1. */
 struct set {
-    uint64_t low, high;
+    uint64_t word[SET_BYTES / 8];
 };
 
-/* A card, taken apart: how many of each, and where each section begins. */
+/* A card, taken apart: its edition, the bytes of a set and what follows from them, how many of
+ * each, and where each section begins. */
 struct card {
     const uint8_t *bytes;
+    unsigned edition, set_bytes, header_bytes, specification_bytes, place_bytes;
     unsigned atoms, actions, nodes, specifications, selections, revisions, pool_bytes;
     const uint8_t *weight, *node, *specification, *selection, *revision, *pool;
     struct set known; /* the atoms that the card has */
@@ -86,18 +90,47 @@ static inline void put_number(uint8_t *at, unsigned value)
     at[1] = (uint8_t)(value >> 8);
 }
 
-static inline struct set read_set(const uint8_t *at)
+/* A set of so many bytes, 16 or 32. */
+static inline struct set read_set(const uint8_t *at, unsigned bytes)
 {
-    struct set s;
-    memcpy(&s.low, at, 8);
-    memcpy(&s.high, at + 8, 8);
+    struct set s = {{0}};
+    memcpy(s.word, at, NARROW_SET_BYTES);
+    if (bytes == SET_BYTES)
+        memcpy(s.word + 2, at + NARROW_SET_BYTES, NARROW_SET_BYTES);
     return s;
+}
+
+/* A set of a configuration, which has no edition. */
+static inline struct set wide_set(const uint8_t *at)
+{
+    return read_set(at, SET_BYTES);
 }
 
 static inline void put_set(uint8_t *at, struct set s)
 {
-    memcpy(at, &s.low, 8);
-    memcpy(at + 8, &s.high, 8);
+    memcpy(at, s.word, SET_BYTES);
+}
+
+static inline struct set set_with(struct set s, struct set other)
+{
+    for (unsigned i = 0; i < SET_BYTES / 8; i++)
+        s.word[i] |= other.word[i];
+    return s;
+}
+
+static inline struct set set_without(struct set s, struct set other)
+{
+    for (unsigned i = 0; i < SET_BYTES / 8; i++)
+        s.word[i] &= ~other.word[i];
+    return s;
+}
+
+static inline int same_set(struct set s, struct set other)
+{
+    uint64_t bits = 0;
+    for (unsigned i = 0; i < SET_BYTES / 8; i++)
+        bits |= s.word[i] ^ other.word[i];
+    return bits == 0;
 }
 
 /* "Atom k is bit (k modulo 8) of byte (k divided by 8)." */
@@ -109,7 +142,7 @@ static inline uint8_t has_atom(const uint8_t *set, unsigned atom)
 /* Whether all atoms of a set are known to the card. */
 static inline int known_set(const struct card *c, struct set s)
 {
-    return ((s.low & ~c->known.low) | (s.high & ~c->known.high)) == 0;
+    return same_set(set_without(s, c->known), (struct set){{0}});
 }
 
 /* Whether each byte is the number of an action: the greatest is. */
@@ -139,7 +172,18 @@ static struct set first_atoms(unsigned atoms)
         unsigned left = atoms > 8 * i ? atoms - 8 * i : 0;
         bytes[i] = left >= 8 ? 0xFF : (uint8_t)((1u << left) - 1);
     }
-    return read_set(bytes);
+    return wide_set(bytes);
+}
+
+/* Reads the edition, 1 or 2, and what follows from it; whether it is one of the two. */
+static int read_edition(struct card *c)
+{
+    c->edition = number(c->bytes + 2);
+    c->set_bytes = c->edition == 1 ? NARROW_SET_BYTES : SET_BYTES;
+    c->header_bytes = SETS_OF_CARD + 2 * c->set_bytes;
+    c->specification_bytes = SETS_OF_SPECIFICATION + 2 * c->set_bytes;
+    c->place_bytes = SETS_OF_PLACE + 2 * c->set_bytes;
+    return c->edition - 1 < 2;
 }
 
 /* Reads the counts of the header; whether each is in its range (row 3). */
@@ -153,9 +197,10 @@ static int read_counts(struct card *c)
     c->selections = number(header + 16);
     c->revisions = number(header + 20);
     c->pool_bytes = number(header + 24);
-    return c->atoms - 1 < 128 && c->actions - 1 < MOST_ENTRIES && c->nodes - 1 < MOST_ENTRIES &&
-           c->specifications <= MOST_ENTRIES && c->selections <= MOST_ENTRIES &&
-           c->revisions <= MOST_ENTRIES && c->pool_bytes <= LARGEST_POOL;
+    return c->atoms - 1 < 8 * c->set_bytes && c->actions - 1 < MOST_ENTRIES &&
+           c->nodes - 1 < MOST_ENTRIES && c->specifications <= MOST_ENTRIES &&
+           c->selections <= MOST_ENTRIES && c->revisions <= MOST_ENTRIES &&
+           c->pool_bytes <= LARGEST_POOL;
 }
 
 /* "The sections follow the weights in the header's order with no gap; the card ends with the
@@ -163,16 +208,16 @@ static int read_counts(struct card *c)
 static int read_offsets(struct card *c, size_t card_len)
 {
     const uint8_t *header = c->bytes;
-    unsigned node = HEADER_BYTES + 2 * c->actions;
+    unsigned node = c->header_bytes + 2 * c->actions;
     unsigned specification = node + NODE_BYTES * c->nodes;
-    unsigned selection = specification + SPECIFICATION_BYTES * c->specifications;
+    unsigned selection = specification + c->specification_bytes * c->specifications;
     unsigned revision = selection + SELECTION_BYTES * c->selections;
     unsigned pool = revision + REVISION_BYTES * c->revisions;
     if (number(header + 10) != node || number(header + 14) != specification ||
         number(header + 18) != selection || number(header + 22) != revision ||
         number(header + 26) != pool || card_len != pool + c->pool_bytes)
         return 0;
-    c->weight = header + HEADER_BYTES;
+    c->weight = header + c->header_bytes;
     c->node = header + node;
     c->specification = header + specification;
     c->selection = header + selection;
@@ -233,18 +278,28 @@ static inline unsigned bad_plan(const struct card *c, unsigned start, unsigned l
     return (start + length > c->pool_bytes) | (length - least > LONGEST_PLAN - least);
 }
 
+/* Add and Del of a specification. */
+static inline struct set add_of(const struct card *c, const uint8_t *specification)
+{
+    return read_set(specification + SETS_OF_SPECIFICATION, c->set_bytes);
+}
+
+static inline struct set del_of(const struct card *c, const uint8_t *specification)
+{
+    return read_set(specification + SETS_OF_SPECIFICATION + c->set_bytes, c->set_bytes);
+}
+
 /* Whether a specification breaks its rule (row 7); the union of all sets goes to `sets`. */
 static unsigned bad_specifications(const struct card *c, const uint8_t *form, struct set *sets)
 {
     unsigned bad = 0;
     struct set all = *sets;
     for (unsigned i = 0; i < c->specifications; i++) {
-        const uint8_t *entry = c->specification + SPECIFICATION_BYTES * i;
-        struct set add = read_set(entry + 4), del = read_set(entry + 20);
+        const uint8_t *entry = c->specification + c->specification_bytes * i;
         bad |= (entry[0] >= c->actions) | (form[entry[1]] & (GOAL_ATOM | UNKNOWN));
         bad |= entry[2] | entry[3];
-        all.low |= add.low | del.low;
-        all.high |= add.high | del.high;
+        all = set_with(all, add_of(c, entry));
+        all = set_with(all, del_of(c, entry));
     }
     *sets = all;
     return bad;
@@ -275,16 +330,19 @@ static unsigned bad_revisions(const struct card *c, const uint8_t *form)
     return bad;
 }
 
-/* The card's check, rows 1 to 9 in the table's order; if done, `c` is the card taken apart and
- * `form` tells what each node is made of. */
+/* The card's check, rows 1 to 9 in the table's order, "a file under 4 bytes is 1, then a wrong mark
+ * or edition is 2, then one shorter than its edition's header is 1"; if done, `c` is the card taken
+ * apart and `form` tells what each node is made of. */
 static uint16_t check_forms(const uint8_t *card, size_t card_len, struct card *c,
                             uint8_t form[MOST_ENTRIES])
 {
-    if (card_len < HEADER_BYTES)
+    if (card_len < LEAST_FILE_BYTES)
         return SHORT;
-    if (card[0] != 0x33 || card[1] != 0x41 || number(card + 2) != 1)
-        return MARK;
     c->bytes = card;
+    if (card[0] != 0x33 || card[1] != 0x41 || !read_edition(c))
+        return MARK;
+    if (card_len < c->header_bytes)
+        return SHORT;
     if (!read_counts(c))
         return COUNT;
     if (!read_offsets(c, card_len))
@@ -293,9 +351,8 @@ static uint16_t check_forms(const uint8_t *card, size_t card_len, struct card *c
         return WEIGHT;
     if (!good_nodes(c, form))
         return NODE;
-    struct set sets = read_set(card + 32), goals = read_set(card + 48);
-    sets.low |= goals.low;
-    sets.high |= goals.high;
+    struct set sets = set_with(read_set(card + SETS_OF_CARD, c->set_bytes),
+                               read_set(card + SETS_OF_CARD + c->set_bytes, c->set_bytes));
     if (bad_specifications(c, form, &sets) | bad_selections(c, form) | bad_revisions(c, form) |
         bad_plan(c, number(card + 28), number(card + 30), 0))
         return RULE;
@@ -320,8 +377,8 @@ uint16_t engine_check(const uint8_t *card, size_t card_len)
 static int known_configuration(const struct card *c, const uint8_t *beliefs, const uint8_t *goals,
                                const uint8_t *plan, unsigned length, unsigned phase)
 {
-    return length <= LONGEST_PLAN && phase <= 2 && known_set(c, read_set(beliefs)) &&
-           known_set(c, read_set(goals)) && known_actions(c, plan, length) &&
+    return length <= LONGEST_PLAN && phase <= 2 && known_set(c, wide_set(beliefs)) &&
+           known_set(c, wide_set(goals)) && known_actions(c, plan, length) &&
            all_zero(plan + length, LONGEST_PLAN - length);
 }
 
@@ -341,15 +398,15 @@ static void empty(struct parts d)
 /* "the goals are those not believed": of the goals those that are not in the beliefs. */
 static inline struct set struck_by(struct set beliefs, struct set goals)
 {
-    return (struct set){goals.low & ~beliefs.low, goals.high & ~beliefs.high};
+    return set_without(goals, beliefs);
 }
 
 /* Writes a configuration. */
-static void fill(struct parts d, const uint8_t *beliefs, const uint8_t *goals, const uint8_t *plan,
+static void fill(struct parts d, struct set beliefs, struct set goals, const uint8_t *plan,
                  unsigned length, unsigned phase, unsigned finished)
 {
-    memcpy(d.beliefs, beliefs, SET_BYTES);
-    memcpy(d.goals, goals, SET_BYTES);
+    put_set(d.beliefs, beliefs);
+    put_set(d.goals, goals);
     memcpy(d.plan, plan, length);
     memset(d.plan + length, 0, LONGEST_PLAN - length);
     *d.length = (uint16_t)length;
@@ -367,8 +424,10 @@ uint16_t engine_load(const uint8_t *card, size_t card_len, uint8_t *beliefs, uin
         empty(d);
         return answer;
     }
-    fill(d, card + 32, card + 48, c.pool + number(card + 28), number(card + 30), 0, 0);
-    put_set(goals, struck_by(read_set(beliefs), read_set(goals)));
+    struct set believed = read_set(card + SETS_OF_CARD, c.set_bytes);
+    struct set wanted = read_set(card + SETS_OF_CARD + c.set_bytes, c.set_bytes);
+    fill(d, believed, struck_by(believed, wanted), c.pool + number(card + 28), number(card + 30), 0,
+         0);
     return answer;
 }
 
@@ -511,7 +570,7 @@ static int next_specification(const struct card *c, const uint8_t *mark, unsigne
                               unsigned i)
 {
     for (; i < c->specifications; i++) {
-        const uint8_t *entry = c->specification + SPECIFICATION_BYTES * i;
+        const uint8_t *entry = c->specification + c->specification_bytes * i;
         if (entry[0] == action && mark[entry[1]])
             return (int)i;
     }
@@ -580,16 +639,15 @@ static inline unsigned finished_after(unsigned finished, unsigned length)
 
 /* "Beliefs become (beliefs with Add) without Del."; "after an action the goals are those not
  * believed". Whether either has changed. */
-static int act(const uint8_t *specification, uint8_t *beliefs, uint8_t *goals)
+static int act(const struct card *c, const uint8_t *specification, uint8_t *beliefs, uint8_t *goals)
 {
-    struct set add = read_set(specification + 4), del = read_set(specification + 20);
-    struct set b = read_set(beliefs), g = read_set(goals);
-    struct set believed = {(b.low | add.low) & ~del.low, (b.high | add.high) & ~del.high};
+    struct set b = wide_set(beliefs), g = wide_set(goals);
+    struct set believed = set_with(b, add_of(c, specification));
+    believed = set_without(believed, del_of(c, specification));
     struct set wanted = struck_by(believed, g);
     put_set(beliefs, believed);
     put_set(goals, wanted);
-    return ((b.low ^ believed.low) | (b.high ^ believed.high) | (g.low ^ wanted.low) |
-            (g.high ^ wanted.high)) != 0;
+    return !same_set(b, believed) || !same_set(g, wanted);
 }
 
 /* Puts `body` in the place of the plan's first `head_length` actions; what is left of a longer
@@ -658,13 +716,13 @@ static uint16_t take_action(const struct card *c, struct parts d, unsigned i, ui
     uint8_t mark[MOST_ENTRIES];
     if (i >= c->specifications)
         return NO_RULE;
-    const uint8_t *entry = c->specification + SPECIFICATION_BYTES * i;
+    const uint8_t *entry = c->specification + c->specification_bytes * i;
     if (*d.length == 0 || entry[0] != d.plan[0])
         return FRONT;
     judge(c, 1u + entry[1], d.beliefs, d.goals, mark);
     if (!mark[entry[1]])
         return refuse_condition(c, mark, entry[1], settled);
-    act(entry, d.beliefs, d.goals);
+    act(c, entry, d.beliefs, d.goals);
     replace(d, 1, c->pool, 0);
     *d.phase = REVISE;
     return DONE;
@@ -765,7 +823,7 @@ static inline int move(struct walk *w, unsigned kind, unsigned i)
         put_in_front(w, 0, c->selection + SELECTION_BYTES * i + 2);
     } else if (kind == ACT) {
         w->length--;
-        if (act(c->specification + SPECIFICATION_BYTES * i, w->beliefs, w->goals))
+        if (act(c, c->specification + c->specification_bytes * i, w->beliefs, w->goals))
             judge(c, c->nodes, w->beliefs, w->goals, w->mark);
     } else {
         const uint8_t *rule = c->revision + REVISION_BYTES * i;
@@ -1106,7 +1164,8 @@ uint16_t engine_deliberate(const uint8_t *card, size_t card_len, const uint8_t *
 /* ---- save and restore ---- */
 
 /* "Bytes 33 50 hex; edition 1 at 2; plan length L at 4; plan offset 44 at 6; phase at 8", the
- * finished count "in bytes 10 and 11", "beliefs at 12; goals at 28; the plan's L bytes at 44". */
+ * finished count "in bytes 10 and 11", "beliefs at 12; goals at 28; the plan's L bytes at 44"; in
+ * edition 2 goals at 44 and the plan at 76. "A place is saved in its card's edition." */
 uint16_t engine_save(const uint8_t *card, size_t card_len, const uint8_t *beliefs,
                      const uint8_t *goals, const uint8_t *plan, uint16_t length, uint8_t phase,
                      uint16_t finished, uint8_t *place, size_t place_len, uint16_t *count)
@@ -1118,37 +1177,51 @@ uint16_t engine_save(const uint8_t *card, size_t card_len, const uint8_t *belief
         return answer;
     if (!known_configuration(&c, beliefs, goals, plan, length, phase))
         return CONFIGURATION;
-    if (place_len < (size_t)PLACE_BYTES + length)
+    if (place_len < (size_t)c.place_bytes + length)
         return NO_ROOM;
     place[0] = 0x33;
     place[1] = 0x50;
-    put_number(place + 2, 1);
+    put_number(place + 2, c.edition);
     put_number(place + 4, length);
-    put_number(place + 6, PLACE_BYTES);
+    put_number(place + 6, c.place_bytes);
     put_number(place + 8, phase);
     put_number(place + 10, finished);
-    memcpy(place + 12, beliefs, SET_BYTES);
-    memcpy(place + 28, goals, SET_BYTES);
-    memcpy(place + PLACE_BYTES, plan, length);
-    *count = (uint16_t)(PLACE_BYTES + length);
+    memcpy(place + SETS_OF_PLACE, beliefs, c.set_bytes);
+    memcpy(place + SETS_OF_PLACE + c.set_bytes, goals, c.set_bytes);
+    memcpy(place + c.place_bytes, plan, length);
+    *count = (uint16_t)(c.place_bytes + length);
     return DONE;
 }
 
-/* A place against a card: rows 1, 2, 3, 4, 8, 9. */
+/* The beliefs and the goals of a place. */
+static inline struct set beliefs_of(const struct card *c, const uint8_t *place)
+{
+    return read_set(place + SETS_OF_PLACE, c->set_bytes);
+}
+
+static inline struct set goals_of(const struct card *c, const uint8_t *place)
+{
+    return read_set(place + SETS_OF_PLACE + c->set_bytes, c->set_bytes);
+}
+
+/* A place against a card: rows 1, 2, 1 again, 3, 4, 8, 9. "A place whose edition isn't its card's
+ * is met with refusal 2." */
 static uint16_t check_place(const struct card *c, const uint8_t *place, size_t place_len)
 {
-    if (place_len < PLACE_BYTES)
+    if (place_len < LEAST_FILE_BYTES)
         return SHORT;
-    if (place[0] != 0x33 || place[1] != 0x50 || number(place + 2) != 1)
+    if (place[0] != 0x33 || place[1] != 0x50 || number(place + 2) != c->edition)
         return MARK;
+    if (place_len < c->place_bytes)
+        return SHORT;
     unsigned length = number(place + 4);
     if (length > LONGEST_PLAN || number(place + 8) > 2)
         return COUNT;
-    if (number(place + 6) != PLACE_BYTES || place_len != PLACE_BYTES + length)
+    if (number(place + 6) != c->place_bytes || place_len != c->place_bytes + length)
         return OFFSETS;
-    if (!known_actions(c, place + PLACE_BYTES, length))
+    if (!known_actions(c, place + c->place_bytes, length))
         return ACTION_BYTE;
-    if (!known_set(c, read_set(place + 12)) || !known_set(c, read_set(place + 28)))
+    if (!known_set(c, beliefs_of(c, place)) || !known_set(c, goals_of(c, place)))
         return ATOM;
     return DONE;
 }
@@ -1165,7 +1238,7 @@ uint16_t engine_restore(const uint8_t *card, size_t card_len, const uint8_t *pla
     if (answer != DONE)
         empty(d);
     else
-        fill(d, place + 12, place + 28, place + PLACE_BYTES, number(place + 4), number(place + 8),
-             number(place + 10));
+        fill(d, beliefs_of(&c, place), goals_of(&c, place), place + c.place_bytes,
+             number(place + 4), number(place + 8), number(place + 10));
     return answer;
 }

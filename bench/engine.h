@@ -1,7 +1,7 @@
 /*
- * The engine: the eight calls of document 01, with document 02's wishes 1, 2, 4, 5, 6 and 8, and
- * `next` and `go on`, in hand-written C, with no proofs, as the program that the library is measured
- * against. The parameters and answers are those of the functions `rigtemple_..._parts` in
+ * The engine: the eight calls of document 01, with document 02's wishes 1, 2, 4, 5, 6, 8 and
+ * 9, and `next` and `go on`, in hand-written C, with no proofs, as the program that the library is
+ * measured against. The parameters and answers are those of the functions `rigtemple_..._parts` in
  * include/rigtemple.h.
  */
 #ifndef RIGTEMPLE_ENGINE_H

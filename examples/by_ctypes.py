@@ -24,7 +24,7 @@ What is refused of it is told and left as it is. Without a file the card begins.
 The second command prints the name of each action: of the shed's sheet, or of the master's where the shed has none. A refusal ends the
 program with status 1. HOW-TO-LINK.txt of the library's folder makes the shared object from the archive.
 
-The symbols of the library are the fourteen functions `rigtemple_..._parts`, over the parts of a configuration: what rigtemple.h calls
+The symbols of the library are the fourteen functions `rigtemple_4_..._parts`, over the parts of a configuration: what rigtemple.h calls
 `rigtemple_load` and so on is made of them in the header. Declare all their types: an undeclared length would be passed as 32 bits.
 """
 
@@ -65,7 +65,7 @@ class Configuration:
     """The parts of a configuration."""
 
     def __init__(self):
-        self.beliefs, self.goals, self.plan = (c_uint8 * 16)(), (c_uint8 * 16)(), (c_uint8 * 1024)()
+        self.beliefs, self.goals, self.plan = (c_uint8 * 32)(), (c_uint8 * 32)(), (c_uint8 * 1024)()
         self.length, self.phase, self.finished = c_uint16(), c_uint8(), c_uint16()
 
     def read(self):
@@ -85,11 +85,11 @@ class Guide:
     def __init__(self, library, card):
         self.library, self.card = ctypes.CDLL(library), card
         for call, types in CALLS.items():
-            function = getattr(self.library, "rigtemple_%s_parts" % call)
+            function = getattr(self.library, "rigtemple_4_%s_parts" % call)
             function.argtypes, function.restype = types, c_uint16
 
     def __call__(self, call, *words):
-        answer = getattr(self.library, "rigtemple_%s_parts" % call)(self.card, len(self.card), *words)
+        answer = getattr(self.library, "rigtemple_4_%s_parts" % call)(self.card, len(self.card), *words)
         if answer != 0:
             raise Refused("%s is refused with %d" % (call, answer))
 
@@ -105,7 +105,7 @@ class Guide:
         return c
 
     def saved(self, c):
-        size, place = c_uint16(), (c_uint8 * 1068)()
+        size, place = c_uint16(), (c_uint8 * 1100)()
         self("save", *c.read(), place, len(place), byref(size))
         return bytes(place[: size.value])
 

@@ -39,8 +39,9 @@
  * What holds for every call:
  *
  *  - It ends, on all bytes and all numbers, and answers a number: 0 for done, another for a
- *    refusal. Where more than one refusal would fit, the card's come first (1 to 9 in that
- *    order), then the place's (1, 2, 3, 4, 8, 9) or those of the program and its numbers (19) and
+ *    refusal. Where more than one refusal would fit, the card's come first (1 for a file under 4
+ *    bytes, 2, 1 for one shorter than its edition's header, and 3 to 9 in that order), then the
+ *    place's (the same, of 1, 2, 3, 4, 8, 9) or those of the program and its numbers (19) and
  *    the configuration's (13), then 14, 15, 16, 11 and 12. A text is refused with 17, 18, 25, then
  *    with what the card that it would make is refused with, then with 12; a name with 1 to 9, then
  *    20 for the shed's sheet, 20 for the master's, and 21. No call answers 10.
@@ -53,19 +54,31 @@
  *    each call, and what is not good is refused, a card with 1 to 9, a program or its numbers with
  *    19, a sheet with 20.
  *
- * Memory to lend: the card (RIGTEMPLE_MOST_CARD_BYTES), a configuration (1,062 bytes), a list
- * of RIGTEMPLE_MOST_LIST_ENTRIES (1,536 bytes) and a place of RIGTEMPLE_MOST_PLACE_BYTES are
- * always enough: 27,794 bytes together. A program takes RIGTEMPLE_MOST_PROGRAM_BYTES at most, and
- * what remains of it RIGTEMPLE_MOST_REMAINING, to go on with it twice that; to print takes
- * RIGTEMPLE_MOST_PRINTED_BYTES; a sheet has RIGTEMPLE_MOST_SHEET_BYTES at most; a text to be read
- * has no limit.
+ * Cards and places have an edition, 1 or 2, in their bytes: edition 1 has up to 128 atoms and sets
+ * of 16 bytes, edition 2 up to 256 and sets of 32. Every call takes cards of both. A place is saved
+ * in its card's edition, and one of the other edition is refused with 2. A configuration has no
+ * edition: its sets are 32 bytes, and under a card of edition 1 an atom from 128 on is unknown.
  *
- * Bytes of stack, as tests/stack.sh measures them on x86-64: check 528, load 704, grade 1,712,
- * list 1,376, next 1,344, take 1,424, run 1,408, deliberate 1,864, go_on 1,896, save 672,
- * restore 736, text 33,440 (24,928 where nothing nests, 80 more for the first bracket and 272 for
- * each further one), print 1,776, name 672. All but text run on a stack of 2,048. On 64-bit Arm
- * text takes 33,968, and each other call at most 56 more than on x86-64: all but text run on
- * 2,048.
+ * New in 4.0: cards and places of edition 2, and so sets of 32 bytes in struct
+ * rigtemple_configuration, larger cards and places, and refusal 2 before 1 for a file of 4 bytes or
+ * more with a wrong mark or edition. Files of edition 1 that were accepted are read as before. An
+ * app has to be compiled anew with this header and to lend RIGTEMPLE_SET_BYTES where it lends sets.
+ * The symbols of the library have the version's first number in their names, so that an app that
+ * was built with an older header does not link with this library.
+ *
+ * Memory to lend: the card (RIGTEMPLE_MOST_CARD_BYTES), a configuration (1,094 bytes), a list
+ * of RIGTEMPLE_MOST_LIST_ENTRIES (1,536 bytes) and a place of RIGTEMPLE_MOST_PLACE_BYTES are
+ * always enough: 36,082 bytes together, or 27,826 for cards of edition 1 alone. A program takes
+ * RIGTEMPLE_MOST_PROGRAM_BYTES at most, and what remains of it RIGTEMPLE_MOST_REMAINING, to go on
+ * with it twice that; to print takes RIGTEMPLE_MOST_PRINTED_BYTES; a sheet has
+ * RIGTEMPLE_MOST_SHEET_BYTES at most; a text to be read has no limit.
+ *
+ * Bytes of stack, as tests/stack.sh measures them on x86-64: check 584, load 904, grade 1,736,
+ * list 1,512, next 1,464, take 1,640, run 1,592, deliberate 2,232, go_on 2,248, save 840,
+ * restore 888, text 33,440 (24,928 where nothing nests, 80 more for the first bracket and 272 for
+ * each further one), print 1,832, name 728. All but text run on a stack of 2,304. On 64-bit Arm
+ * text takes 33,952, and each other call at most 0 more than on x86-64: all but text run on
+ * 2,304.
  */
 #ifndef RIGTEMPLE_H
 #define RIGTEMPLE_H
@@ -79,9 +92,9 @@ extern "C" {
 
 /* The version of this header's interface. The first number rises with a change that an app has
  * to follow, and the second is then 0; the second rises with what is only added. */
-#define RIGTEMPLE_VERSION "3.3"
-#define RIGTEMPLE_VERSION_FIRST 3
-#define RIGTEMPLE_VERSION_SECOND 3
+#define RIGTEMPLE_VERSION "4.0"
+#define RIGTEMPLE_VERSION_FIRST 4
+#define RIGTEMPLE_VERSION_SECOND 0
 
 /* Marks an answer that must not be ignored, for the compilers that know it. */
 #if defined(__cplusplus) && __cplusplus >= 201703L
@@ -95,10 +108,13 @@ extern "C" {
 #endif
 
 /* Sizes, each with its unit. */
-#define RIGTEMPLE_SET_BYTES 16          /* a set of atoms */
-#define RIGTEMPLE_MOST_CARD_BYTES 24128 /* the largest card */
+#define RIGTEMPLE_SET_BYTES 32          /* a set of atoms in a configuration */
+#define RIGTEMPLE_MOST_ATOMS 256        /* the atoms that a card of edition 2 can have */
+#define RIGTEMPLE_MOST_CARD_BYTES 32352 /* the largest card, of edition 2 */
 #define RIGTEMPLE_MOST_PLAN_ACTIONS 1024
-#define RIGTEMPLE_MOST_PLACE_BYTES 1068 /* the largest place: 44 and the longest plan */
+#define RIGTEMPLE_MOST_PLACE_BYTES 1100 /* the largest place: 76 and the longest plan */
+#define RIGTEMPLE_MOST_CARD_BYTES_OF_EDITION_1 24128 /* its largest: no text makes a larger one */
+#define RIGTEMPLE_MOST_PLACE_BYTES_OF_EDITION_1 1068 /* its largest: 44 and the longest plan */
 #define RIGTEMPLE_MOST_LIST_ENTRIES 768 /* choices that there are codes for: no list is longer */
 #define RIGTEMPLE_MOST_PRINTED_BYTES 894 /* the longest condition that is printed */
 #define RIGTEMPLE_ENTRY_BYTES 4          /* an entry of a program */
@@ -149,9 +165,10 @@ static inline const char *rigtemple_answer_sentence(uint16_t answer)
 {
     static const char *const sentences[] = {
         "nothing was refused",
-        "the card is under 64 bytes, or the place under 44",
-        "the first two bytes are not 33 41 hex (a card) or 33 50 hex (a place), or the edition "
-        "is not 1",
+        "the card or place is under 4 bytes, or shorter than its edition's header: 64 bytes of a "
+        "card and 44 of a place in edition 1, 96 and 76 in edition 2",
+        "the first two bytes are not 33 41 hex (a card) or 33 50 hex (a place), the edition is not "
+        "1 or 2, or a place's edition is not its card's",
         "the number of atoms, of actions or of a section's entries or bytes is out of range; in a "
         "place the plan is over 1,024 or the phase over 2",
         "an offset or the total length is not the required one",
@@ -267,83 +284,99 @@ struct rigtemple_configuration {
 };
 
 /* ---- the functions of the library: the fourteen calls over the parts of a configuration.
- * `beliefs` and `goals` are 16 bytes each, `plan` is 1,024 bytes. `remaining` is 128 bytes. ---- */
+ * `beliefs` and `goals` are 32 bytes each, `plan` is 1,024 bytes, `remaining` is 128 bytes. An app
+ * writes rigtemple_..._parts in C and C++; the symbol has the version's first number too. ---- */
+
+#define rigtemple_check_parts rigtemple_4_check_parts
+#define rigtemple_load_parts rigtemple_4_load_parts
+#define rigtemple_grade_parts rigtemple_4_grade_parts
+#define rigtemple_list_parts rigtemple_4_list_parts
+#define rigtemple_next_parts rigtemple_4_next_parts
+#define rigtemple_take_parts rigtemple_4_take_parts
+#define rigtemple_run_parts rigtemple_4_run_parts
+#define rigtemple_deliberate_parts rigtemple_4_deliberate_parts
+#define rigtemple_go_on_parts rigtemple_4_go_on_parts
+#define rigtemple_save_parts rigtemple_4_save_parts
+#define rigtemple_restore_parts rigtemple_4_restore_parts
+#define rigtemple_text_parts rigtemple_4_text_parts
+#define rigtemple_print_parts rigtemple_4_print_parts
+#define rigtemple_name_parts rigtemple_4_name_parts
 
 RIGTEMPLE_LOOK_AT_ANSWER
-uint16_t rigtemple_check_parts(const uint8_t *card, size_t card_len);
+uint16_t rigtemple_4_check_parts(const uint8_t *card, size_t card_len);
 
 RIGTEMPLE_LOOK_AT_ANSWER
-uint16_t rigtemple_load_parts(const uint8_t *card, size_t card_len, uint8_t *beliefs,
-                              uint8_t *goals, uint8_t *plan, uint16_t *length, uint8_t *phase,
-                              uint16_t *finished);
+uint16_t rigtemple_4_load_parts(const uint8_t *card, size_t card_len, uint8_t *beliefs,
+                                uint8_t *goals, uint8_t *plan, uint16_t *length, uint8_t *phase,
+                                uint16_t *finished);
 
 RIGTEMPLE_LOOK_AT_ANSWER
-uint16_t rigtemple_grade_parts(const uint8_t *card, size_t card_len, uint8_t *verdict,
-                               uint8_t *offender, uint16_t *number);
+uint16_t rigtemple_4_grade_parts(const uint8_t *card, size_t card_len, uint8_t *verdict,
+                                 uint8_t *offender, uint16_t *number);
 
 RIGTEMPLE_LOOK_AT_ANSWER
-uint16_t rigtemple_list_parts(const uint8_t *card, size_t card_len, const uint8_t *beliefs,
-                              const uint8_t *goals, const uint8_t *plan, uint16_t length,
-                              uint8_t phase, uint16_t finished, uint16_t *list,
-                              size_t room_in_entries, uint16_t *entries);
+uint16_t rigtemple_4_list_parts(const uint8_t *card, size_t card_len, const uint8_t *beliefs,
+                                const uint8_t *goals, const uint8_t *plan, uint16_t length,
+                                uint8_t phase, uint16_t finished, uint16_t *list,
+                                size_t room_in_entries, uint16_t *entries);
 
 RIGTEMPLE_LOOK_AT_ANSWER
-uint16_t rigtemple_next_parts(const uint8_t *card, size_t card_len, const uint8_t *beliefs,
-                              const uint8_t *goals, const uint8_t *plan, uint16_t length,
-                              uint8_t phase, uint16_t finished, uint8_t *coming,
-                              uint16_t *choice);
+uint16_t rigtemple_4_next_parts(const uint8_t *card, size_t card_len, const uint8_t *beliefs,
+                                const uint8_t *goals, const uint8_t *plan, uint16_t length,
+                                uint8_t phase, uint16_t finished, uint8_t *coming,
+                                uint16_t *choice);
 
 RIGTEMPLE_LOOK_AT_ANSWER
-uint16_t rigtemple_take_parts(const uint8_t *card, size_t card_len, uint8_t *beliefs,
-                              uint8_t *goals, uint8_t *plan, uint16_t *length, uint8_t *phase,
-                              uint16_t *finished, uint16_t choice, uint16_t *node);
+uint16_t rigtemple_4_take_parts(const uint8_t *card, size_t card_len, uint8_t *beliefs,
+                                uint8_t *goals, uint8_t *plan, uint16_t *length, uint8_t *phase,
+                                uint16_t *finished, uint16_t choice, uint16_t *node);
 
 RIGTEMPLE_LOOK_AT_ANSWER
-uint16_t rigtemple_run_parts(const uint8_t *card, size_t card_len, uint8_t *beliefs,
-                             uint8_t *goals, uint8_t *plan, uint16_t *length, uint8_t *phase,
-                             uint16_t *finished, uint16_t budget, uint16_t *moves,
-                             uint8_t *ending);
+uint16_t rigtemple_4_run_parts(const uint8_t *card, size_t card_len, uint8_t *beliefs,
+                               uint8_t *goals, uint8_t *plan, uint16_t *length, uint8_t *phase,
+                               uint16_t *finished, uint16_t budget, uint16_t *moves,
+                               uint8_t *ending);
 
 RIGTEMPLE_LOOK_AT_ANSWER
-uint16_t rigtemple_deliberate_parts(const uint8_t *card, size_t card_len, const uint8_t *program,
-                                    size_t program_len, uint8_t *beliefs, uint8_t *goals,
-                                    uint8_t *plan, uint16_t *length, uint8_t *phase,
-                                    uint16_t *finished, uint16_t budget, uint16_t *moves,
-                                    uint8_t *ending, uint8_t *remaining,
-                                    uint8_t *remaining_length);
+uint16_t rigtemple_4_deliberate_parts(const uint8_t *card, size_t card_len, const uint8_t *program,
+                                      size_t program_len, uint8_t *beliefs, uint8_t *goals,
+                                      uint8_t *plan, uint16_t *length, uint8_t *phase,
+                                      uint16_t *finished, uint16_t budget, uint16_t *moves,
+                                      uint8_t *ending, uint8_t *remaining,
+                                      uint8_t *remaining_length);
 
 RIGTEMPLE_LOOK_AT_ANSWER
-uint16_t rigtemple_go_on_parts(const uint8_t *card, size_t card_len, const uint8_t *program,
-                               size_t program_len, const uint8_t *numbers, size_t numbers_len,
-                               uint8_t *beliefs, uint8_t *goals, uint8_t *plan, uint16_t *length,
-                               uint8_t *phase, uint16_t *finished, uint16_t budget,
-                               uint16_t *moves, uint8_t *ending, uint8_t *remaining,
-                               uint8_t *remaining_length);
+uint16_t rigtemple_4_go_on_parts(const uint8_t *card, size_t card_len, const uint8_t *program,
+                                 size_t program_len, const uint8_t *numbers, size_t numbers_len,
+                                 uint8_t *beliefs, uint8_t *goals, uint8_t *plan, uint16_t *length,
+                                 uint8_t *phase, uint16_t *finished, uint16_t budget,
+                                 uint16_t *moves, uint8_t *ending, uint8_t *remaining,
+                                 uint8_t *remaining_length);
 
 RIGTEMPLE_LOOK_AT_ANSWER
-uint16_t rigtemple_save_parts(const uint8_t *card, size_t card_len, const uint8_t *beliefs,
-                              const uint8_t *goals, const uint8_t *plan, uint16_t length,
-                              uint8_t phase, uint16_t finished, uint8_t *place,
-                              size_t room_in_bytes, uint16_t *bytes);
+uint16_t rigtemple_4_save_parts(const uint8_t *card, size_t card_len, const uint8_t *beliefs,
+                                const uint8_t *goals, const uint8_t *plan, uint16_t length,
+                                uint8_t phase, uint16_t finished, uint8_t *place,
+                                size_t room_in_bytes, uint16_t *bytes);
 
 RIGTEMPLE_LOOK_AT_ANSWER
-uint16_t rigtemple_restore_parts(const uint8_t *card, size_t card_len, const uint8_t *place,
-                                 size_t place_len, uint8_t *beliefs, uint8_t *goals,
-                                 uint8_t *plan, uint16_t *length, uint8_t *phase,
-                                 uint16_t *finished);
+uint16_t rigtemple_4_restore_parts(const uint8_t *card, size_t card_len, const uint8_t *place,
+                                   size_t place_len, uint8_t *beliefs, uint8_t *goals,
+                                   uint8_t *plan, uint16_t *length, uint8_t *phase,
+                                   uint16_t *finished);
 
 RIGTEMPLE_LOOK_AT_ANSWER
-uint16_t rigtemple_text_parts(const uint8_t *text, size_t text_len, uint8_t *card,
-                              size_t room_in_bytes, uint16_t *bytes, size_t *place);
+uint16_t rigtemple_4_text_parts(const uint8_t *text, size_t text_len, uint8_t *card,
+                                size_t room_in_bytes, uint16_t *bytes, size_t *place);
 
 RIGTEMPLE_LOOK_AT_ANSWER
-uint16_t rigtemple_print_parts(const uint8_t *card, size_t card_len, uint16_t node, uint8_t *text,
-                               size_t room_in_bytes, uint16_t *bytes);
+uint16_t rigtemple_4_print_parts(const uint8_t *card, size_t card_len, uint16_t node, uint8_t *text,
+                                 size_t room_in_bytes, uint16_t *bytes);
 
 RIGTEMPLE_LOOK_AT_ANSWER
-uint16_t rigtemple_name_parts(const uint8_t *card, size_t card_len, const uint8_t *shed,
-                              size_t shed_len, const uint8_t *master, size_t master_len,
-                              uint16_t action, uint8_t *sheet, uint16_t *start, uint16_t *length);
+uint16_t rigtemple_4_name_parts(const uint8_t *card, size_t card_len, const uint8_t *shed,
+                                size_t shed_len, const uint8_t *master, size_t master_len,
+                                uint16_t action, uint8_t *sheet, uint16_t *start, uint16_t *length);
 
 /* ---- the fourteen calls ---- */
 
@@ -516,9 +549,10 @@ static inline uint16_t rigtemple_go_on(const uint8_t *card, size_t card_len,
 }
 
 /* Saves a configuration as a place. `room_in_bytes` is how many bytes `place` has;
- * RIGTEMPLE_MOST_PLACE_BYTES are always enough. Writes 44 bytes and one for each action of the
- * plan, no others, and their number to `bytes`. `finished` stands in bytes 10 and 11 of them, low
- * byte first. A place does not say which card it came from: keep that beside it.
+ * RIGTEMPLE_MOST_PLACE_BYTES are always enough. Writes 44 bytes, or 76 under a card of edition 2,
+ * and one for each action of the plan, no others, and their number to `bytes`. `finished` stands in
+ * bytes 10 and 11 of them, low byte first. A place does not say which card it came from: keep that
+ * beside it.
  * Answers 0, or 1 to 9, 13, or 12 if the room is too short. A refusal writes nothing to
  * `place`, and 0 to `bytes`. */
 RIGTEMPLE_LOOK_AT_ANSWER
@@ -547,8 +581,9 @@ static inline uint16_t rigtemple_restore(const uint8_t *card, size_t card_len,
 }
 
 /* Makes a card from a text, as docs/TEXT.md has its grammar. `room_in_bytes` is how many bytes
- * `card` has; RIGTEMPLE_MOST_CARD_BYTES are always enough. The card is written to the front of
- * `card`, no bytes after it, and its length to `bytes`; rigtemple_check answers 0 for it.
+ * `card` has; RIGTEMPLE_MOST_CARD_BYTES_OF_EDITION_1 are always enough. The card, of edition 1, is
+ * written to the front of `card`, no bytes after it, and its length to `bytes`; rigtemple_check
+ * answers 0 for it.
  * Answers 0; or 17 if the text is not of the grammar, 18 if brackets and ! nest more than 32 deep,
  * 25 if a number, or how many lines, nodes or actions there are, is too large for a card; or 3 or
  * 5 to 9 as rigtemple_check would for the card; or 12 if the room is too short. A refusal writes

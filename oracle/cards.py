@@ -1,4 +1,5 @@
-"""Cards and places described in plain values, laid out as document 01 says.
+"""Cards and places described in plain values, laid out as document 01 and request 9 of
+document 02 ("more facts") say, in edition 1 or 2.
 
 A description can also say what the document forbids (a wrong mark, an offset
 written over, bytes too many), so that damages are made from descriptions too.
@@ -7,22 +8,46 @@ written over, bytes too many), so that damages are made from descriptions too.
 import struct
 from dataclasses import dataclass, field, replace
 
-CARD_LIMIT = 24128
+# The longest card of any edition, and the longest of each.
+CARD_LIMIT = 32352
+CARD_LIMITS = {1: 24128, 2: 32352}
+EDITIONS = (1, 2)
 PLAN_LIMIT = 1024
 WEIGHT_LIMIT = 1024
 
 TRUE, BELIEVES, HAS_GOAL, NOT, AND, OR = range(6)
 
 SMALLEST_CARD = 70
+SMALLEST_CARDS = {1: 70, 2: 102}
 
 
 def atoms_set(*atoms):
-    """ "A set of atoms is 16 bytes; atom k is bit (k modulo 8) of byte (k
-    divided by 8)." """
-    return sum(1 << atom for atom in set(atoms)).to_bytes(16, "little")
+    """ "Atom k is bit (k modulo 8) of byte (k divided by 8)." The set is 32 bytes here, as
+    in edition 2; laid out in edition 1 it is the first 16 of them."""
+    return sum(1 << atom for atom in set(atoms)).to_bytes(32, "little")
 
 
 NO_ATOMS = atoms_set()
+
+
+def set_bytes(edition):
+    """ "A set of atoms is 16 bytes"; "edition 2 has sets of 32 bytes"."""
+    return 16 * edition
+
+
+def most_atoms(edition):
+    """The most atoms of a card: 128, and 256 in edition 2."""
+    return 128 * edition
+
+
+def place_header(edition):
+    """Where a place's plan starts: at 44, and "at 76" in edition 2."""
+    return 12 + 2 * set_bytes(edition)
+
+
+def card_header(edition):
+    """Where a card's weights start: at 64, and at 96 in edition 2."""
+    return 32 + 2 * set_bytes(edition)
 
 
 # --- a card's description ---------------------------------------------------
@@ -40,7 +65,7 @@ class Node:
 
 @dataclass(frozen=True)
 class Specification:
-    """ "Specification, 36 bytes: action, node, 0, 0, Add, Del." """
+    """ "Specification, 36 bytes: action, node, 0, 0, Add, Del"; 68 in edition 2."""
 
     action: int
     node: int
@@ -78,8 +103,10 @@ class Revision:
 
 @dataclass
 class Description:
-    """A card. `header` holds numbers written over those of the header, by where
-    they stand; `rest` is put after the pool; `cut`, if any, is how many bytes
+    """A card. `layout` is the edition in which it is laid out, `edition` the number that
+    stands for it where that is another, `entries` the edition of the specifications'
+    size where that is another. `header` holds numbers written over those of the header,
+    by where they stand; `rest` is put after the pool; `cut`, if any, is how many bytes
     are kept."""
 
     atoms: int
@@ -94,7 +121,9 @@ class Description:
     beliefs: bytes = NO_ATOMS
     goals: bytes = NO_ATOMS
     mark: bytes = b"\x33\x41"
-    edition: int = 1
+    layout: int = 1
+    edition: int = None
+    entries: int = None
     header: dict = field(default_factory=dict)
     rest: bytes = b""
     cut: int = None
@@ -118,9 +147,10 @@ def node_bytes(node):
     return bytes([node.kind, node.a, node.b, node.zero])
 
 
-def specification_bytes(entry):
-    """The 36 bytes of a specification."""
-    return bytes([entry.action, entry.node, entry.zero_2, entry.zero_3]) + entry.add + entry.delete
+def specification_bytes(entry, edition):
+    """The 36 bytes of a specification, or 68 of edition 2."""
+    sets = entry.add[:set_bytes(edition)] + entry.delete[:set_bytes(edition)]
+    return bytes([entry.action, entry.node, entry.zero_2, entry.zero_3]) + sets
 
 
 def selection_bytes(entry):
@@ -147,11 +177,12 @@ def revision_bytes(entry):
 def sections(description):
     """ "The sections follow the weights in the header's order": for each section
     the number of its entries or bytes, and its bytes."""
+    edition = description.entries or description.layout
     return [
         (len(description.nodes), b"".join(map(node_bytes, description.nodes))),
         (
             len(description.specifications),
-            b"".join(map(specification_bytes, description.specifications)),
+            b"".join(specification_bytes(entry, edition) for entry in description.specifications),
         ),
         (len(description.selections), b"".join(map(selection_bytes, description.selections))),
         (len(description.revisions), b"".join(map(revision_bytes, description.revisions))),
@@ -160,9 +191,10 @@ def sections(description):
 
 
 def header_bytes(description, parts):
-    """The 64 bytes of the header, by the table of "The card, edition 1"."""
-    offset = 64 + 2 * len(description.weights)
-    numbers = [description.edition, description.atoms, len(description.weights)]
+    """The 64 bytes of the header, by the table of "The card, edition 1"; 96 in edition 2."""
+    offset = card_header(description.layout) + 2 * len(description.weights)
+    edition = description.layout if description.edition is None else description.edition
+    numbers = [edition, description.atoms, len(description.weights)]
     for count, part in parts:
         numbers += [count, offset]
         offset += len(part)
@@ -170,7 +202,8 @@ def header_bytes(description, parts):
     header = bytearray(description.mark + struct.pack("<15H", *numbers))
     for at, value in sorted(description.header.items()):
         struct.pack_into("<H", header, at, value)
-    return bytes(header) + description.beliefs + description.goals
+    size = set_bytes(description.layout)
+    return bytes(header) + description.beliefs[:size] + description.goals[:size]
 
 
 def card(description):
@@ -189,17 +222,20 @@ def card(description):
 class PlaceDescription:
     """A place: "bytes 33 50 hex; edition 1 at 2; plan length L at 4; plan offset
     44 at 6; phase at 8; ... beliefs at 12; goals at 28; the plan's L bytes at 44",
-    and the finished count "in bytes 10 and 11". `length` stands for L where it is not
-    the plan's own."""
+    and the finished count "in bytes 10 and 11"; in edition 2 with goals at 44 and the
+    plan at 76. `layout` is the edition in which it is laid out, `edition` and `offset`
+    stand for its own where they are others, `length` for L where it is not the plan's
+    own."""
 
     plan: bytes = b""
     phase: int = 0
     beliefs: bytes = NO_ATOMS
     goals: bytes = NO_ATOMS
     mark: bytes = b"\x33\x50"
-    edition: int = 1
+    layout: int = 1
+    edition: int = None
     length: int = None
-    offset: int = 44
+    offset: int = None
     finished: int = 0
     rest: bytes = b""
     cut: int = None
@@ -208,11 +244,67 @@ class PlaceDescription:
 def place(description):
     """The bytes of a place."""
     length = len(description.plan) if description.length is None else description.length
-    numbers = (description.edition, length, description.offset)
-    numbers += (description.phase, description.finished)
+    edition = description.layout if description.edition is None else description.edition
+    header, size = place_header(description.layout), set_bytes(description.layout)
+    offset = header if description.offset is None else description.offset
+    numbers = (edition, length, offset, description.phase, description.finished)
     whole = description.mark + struct.pack("<5H", *numbers)
-    whole += description.beliefs + description.goals + description.plan + description.rest
+    whole += description.beliefs[:size] + description.goals[:size]
+    whole += description.plan + description.rest
     return whole if description.cut is None else whole[:description.cut]
+
+
+# --- cards of the other edition ---------------------------------------------
+
+
+def renamed(description, name):
+    """The same card with other atoms, in place: atom k is `name(k)`."""
+
+    def others(held):
+        return atoms_set(*(name(k) for k in range(256) if held[k // 8] >> k % 8 & 1))
+
+    description.nodes = [
+        replace(node, a=name(node.a)) if node.kind in (BELIEVES, HAS_GOAL) else node
+        for node in description.nodes
+    ]
+    description.beliefs, description.goals = map(others, (description.beliefs, description.goals))
+    description.specifications = [
+        replace(entry, add=others(entry.add), delete=others(entry.delete))
+        for entry in description.specifications
+    ]
+
+
+def with_atoms(description, atoms):
+    """The same card with so many atoms at most, in place."""
+    if description.atoms > atoms:
+        description.atoms = atoms
+        renamed(description, lambda k: k % atoms)
+
+
+def in_edition(description, edition):
+    """The same card laid out in an edition, in place, with as many atoms as that can have."""
+    description.layout = edition
+    with_atoms(description, most_atoms(edition))
+    return description
+
+
+def spread(random, description, most=256):
+    """The same card of edition 2 with 129 to `most` atoms, and its own anywhere among
+    them, in place."""
+    count = random.randint(129, most)
+    if description.atoms <= count:
+        among = random.sample(range(count), description.atoms)
+        high = random.randrange(len(among))
+        if max(among) < 128:
+            among[high] = random.randrange(128, count)
+        description.atoms = count
+        renamed(description, lambda k: among[k])
+
+
+def some_edition(random, largest, least=SMALLEST_CARDS[2]):
+    """Edition 2 about half the time, where `least` bytes, its least, are at most
+    `largest`."""
+    return 2 if largest >= least and random.random() < 0.5 else 1
 
 
 # --- cards the document or the drill names ----------------------------------
@@ -269,26 +361,73 @@ def shared_nodes_card():
     )
 
 
-def maximal_card():
-    """Every section at its most: 24,128 bytes."""
-    nodes = [Node(TRUE), Node(BELIEVES, 127), Node(HAS_GOAL, 127)]
+def maximal_card(edition=1):
+    """Every section at its most: 24,128 bytes, and 32,352 in edition 2."""
+    atoms = most_atoms(edition)
+    nodes = [Node(TRUE), Node(BELIEVES, atoms - 1), Node(HAS_GOAL, atoms - 1)]
     nodes += [Node(OR, 0, k - 1) for k in range(3, 255)] + [Node(OR, 0, 1)]
     return Description(
-        atoms=128,
+        layout=edition,
+        atoms=atoms,
         weights=[1 + 4 * k % WEIGHT_LIMIT for k in range(256)],
         nodes=nodes,
         specifications=[
-            Specification(k, 255, add=atoms_set(k // 2), delete=atoms_set(127 - k // 2))
-            for k in range(256)
+            Specification(k, 255, add=atoms_set(own), delete=atoms_set(atoms - 1 - own))
+            for k, own in enumerate(k * atoms // 256 for k in range(256))
         ],
         selections=[Selection(255, 2, 32 * k % 7169, PLAN_LIMIT) for k in range(256)],
         revisions=[Revision(255, k, 1, 8192 - k, k) for k in range(256)],
         pool=bytes(k * 7 % 256 for k in range(8192)),
         start=7168,
         length=PLAN_LIMIT,
-        beliefs=atoms_set(*range(64)),
-        goals=atoms_set(*range(128)),
+        beliefs=atoms_set(*range(atoms // 2)),
+        goals=atoms_set(*range(atoms)),
     )
+
+
+def high_atoms_card():
+    """An edition 2 card of 256 atoms whose conditions, sets and goals are on atoms of both
+    halves: 0, 100 and 127, 128 and 255."""
+    return Description(
+        layout=2,
+        atoms=256,
+        weights=[1, 1, 2, 6],
+        nodes=[
+            Node(TRUE),
+            Node(BELIEVES, 128),
+            Node(BELIEVES, 100),
+            Node(NOT, 1),
+            Node(AND, 1, 2),
+            Node(HAS_GOAL, 255),
+            Node(HAS_GOAL, 127),
+            Node(OR, 5, 6),
+        ],
+        specifications=[
+            Specification(0, 4, add=atoms_set(255, 127), delete=atoms_set(128)),
+            Specification(1, 0, add=atoms_set(128)),
+            Specification(2, 3, add=atoms_set(100), delete=atoms_set(127, 255)),
+        ],
+        selections=[Selection(0, 7, 0, 1)],
+        revisions=[Revision(3, 0, 1, 1, 3), Revision(1, 0, 1, 3, 1)],
+        pool=bytes([3, 2, 1, 0]),
+        beliefs=atoms_set(0, 127),
+        goals=atoms_set(127, 255),
+    )
+
+
+def smallest_of_edition_2():
+    """The smallest card, in edition 2: 102 bytes."""
+    return in_edition(smallest_card(), 2)
+
+
+def stripe_of_edition_2():
+    """The stripe card in edition 2, with its four atoms: 383 bytes."""
+    return in_edition(stripe_card(), 2)
+
+
+def maximal_of_edition_2():
+    """Every section at its most: 32,352 bytes."""
+    return maximal_card(2)
 
 
 # --- sizes ------------------------------------------------------------------
@@ -305,14 +444,15 @@ class Sizes:
     selections: int
     revisions: int
     pool: int
+    edition: int = 1
 
     def card_bytes(self):
         """The bytes of a card of these sizes."""
         return (
-            64
+            card_header(self.edition)
             + 2 * self.actions
             + 4 * self.nodes
-            + 36 * self.specifications
+            + (4 + 2 * set_bytes(self.edition)) * self.specifications
             + 8 * self.selections
             + 12 * self.revisions
             + self.pool
@@ -320,24 +460,32 @@ class Sizes:
 
 
 LEAST = Sizes(1, 1, 1, 0, 0, 0, 0)
-MOST = Sizes(128, 256, 256, 256, 256, 256, 8192)
+MOST = {edition: Sizes(most_atoms(edition), 256, 256, 256, 256, 256, 8192, edition) for edition in EDITIONS}
 SIZE_NAMES = ("atoms", "actions", "nodes", "specifications", "selections", "revisions", "pool")
 
 
-def small_sizes(random):
+# How many atoms a small card has.
+SMALL_ATOMS = {
+    1: (1, 2, 3, 4, 5, 8, 9, 16, 127, 128),
+    2: (1, 2, 3, 5, 8, 16, 127, 128, 129, 130, 136, 192, 255, 256),
+}
+
+
+def small_sizes(random, edition):
     """Sizes of a small card."""
     return Sizes(
-        random.choice((1, 2, 3, 4, 5, 8, 9, 16, 127, 128)),
+        random.choice(SMALL_ATOMS[edition]),
         random.randint(1, 6),
         random.randint(1, 12),
         random.randint(0, 8),
         random.randint(0, 4),
         random.randint(0, 5),
         random.choice((0, 1, 2, 6, 12, 20, 30, 40, 60)),
+        edition,
     )
 
 
-def lively_sizes(random):
+def lively_sizes(random, edition):
     """Sizes of a small card with something of everything."""
     return Sizes(
         random.randint(2, 6),
@@ -347,50 +495,52 @@ def lively_sizes(random):
         random.randint(1, 4),
         random.randint(1, 5),
         random.randint(8, 50),
+        edition,
     )
 
 
-def middle_sizes(random):
+def middle_sizes(random, edition):
     """Sizes of a card between the small and the maximal ones."""
     return Sizes(
-        random.randint(1, 128),
+        random.randint(1, most_atoms(edition)),
         random.randint(1, 60),
         random.randint(2, 100),
         random.randint(0, 60),
         random.randint(0, 60),
         random.randint(0, 60),
         random.choice((0, 100, 1023, 1024, 1025, 3000)),
+        edition,
     )
 
 
-def edge_sizes(random):
+def edge_sizes(random, edition):
     """Sizes each at its least, at its most, or small."""
-    sizes = small_sizes(random)
+    sizes = small_sizes(random, edition)
     for name in SIZE_NAMES:
         where = random.randrange(4)
         if where == 0:
             setattr(sizes, name, getattr(LEAST, name))
         elif where == 1:
-            setattr(sizes, name, getattr(MOST, name))
+            setattr(sizes, name, getattr(MOST[edition], name))
     return sizes
 
 
-def one_edge_sizes(random):
+def one_edge_sizes(random, edition):
     """Sizes of a lively card with one of them at its most."""
-    sizes = lively_sizes(random)
+    sizes = lively_sizes(random, edition)
     name = random.choice(SIZE_NAMES)
-    setattr(sizes, name, getattr(MOST, name))
+    setattr(sizes, name, getattr(MOST[edition], name))
     return sizes
 
 
-def least_sizes(random):
+def least_sizes(random, edition):
     """Sizes of the smallest card."""
-    return replace(LEAST)
+    return replace(LEAST, edition=edition)
 
 
-def most_sizes(random):
+def most_sizes(random, edition):
     """Sizes of the maximal card."""
-    return replace(MOST)
+    return replace(MOST[edition])
 
 
 # The shapes of good cards, each with how many of a hundred have it.
@@ -405,17 +555,17 @@ SHAPES = (
 )
 
 
-def some_sizes(random, largest):
+def some_sizes(random, largest, edition):
     """Sizes of some shape whose card has at most `largest` bytes."""
-    if largest < SMALLEST_CARD:
-        raise ValueError("the smallest card has %d bytes" % SMALLEST_CARD)
+    if largest < SMALLEST_CARDS[edition]:
+        raise ValueError("the smallest card has %d bytes" % SMALLEST_CARDS[edition])
     shares = [share for share, _ in SHAPES]
     shapes = [shape for _, shape in SHAPES]
     for _ in range(60):
-        sizes = random.choices(shapes, shares)[0](random)
+        sizes = random.choices(shapes, shares)[0](random, edition)
         if sizes.card_bytes() <= largest:
             return sizes
-    return replace(LEAST)
+    return least_sizes(random, edition)
 
 
 # --- the seeded generator of good cards -------------------------------------
@@ -585,6 +735,7 @@ def card_under(random, sizes, conditions):
     pool = bytes(random.choice(palette) for _ in range(sizes.pool))
     start, length = some_plan(random, sizes.pool, 0, (0, 0, 1, 2, 4))
     return Description(
+        layout=sizes.edition,
         atoms=sizes.atoms,
         weights=make_weights(random, sizes.actions),
         nodes=conditions.nodes,
@@ -625,7 +776,7 @@ def nested_conditions(random, atoms, count):
 def nested_card(random):
     """A small card whose entries have conditions of "not", "and" and "or" over
     one another, so that what settles a condition is often deep below it."""
-    sizes = lively_sizes(random)
+    sizes = lively_sizes(random, 1)
     sizes.nodes = random.randint(12, 30)
     made = nested_conditions(random, sizes.atoms, sizes.nodes)
     return card_under(random, sizes, Conditions(made.nodes, made.belief[-8:], made.goal[-8:]))
@@ -959,45 +1110,63 @@ def woven_card(random):
     )
 
 
-def good_card(random, largest=CARD_LIMIT):
-    """A good card of some shape and temper, of at most `largest` bytes."""
-    style = random.random()
-    if style < 0.6:
-        description = woven_card(random) if style < 0.3 else nested_card(random)
-        if random.random() < 0.25:
-            random.choice(TEMPERS)(random, description)
+def lively_card(random, edition):
+    """A small card in which much goes on, laid out in an edition; of edition 2, half of
+    them have their atoms anywhere among 129 to 256."""
+    description = in_edition(random.choice((woven_card, nested_card))(random), edition)
+    if random.random() < 0.25:
+        random.choice(TEMPERS)(random, description)
+    if edition == 2 and random.random() < 0.5:
+        spread(random, description)
+    return description
+
+
+def good_card(random, largest=CARD_LIMIT, edition=None):
+    """A good card of some shape and temper, of at most `largest` bytes; of an edition, or
+    of either."""
+    edition = edition or some_edition(random, largest)
+    if random.random() < 0.6:
+        description = lively_card(random, edition)
         if len(card(description)) <= largest:
             return description
-    description = make_card(random, some_sizes(random, largest))
+    description = make_card(random, some_sizes(random, largest, edition))
     random.choice(TEMPERS)(random, description)
     return description
 
 
-def roomy_sizes(random):
+def roomy_sizes(random, edition):
     """Sizes of a lively card, now and then of a larger one, all with room below
     their most; its pool can be a plan."""
     if random.random() < 0.92:
-        return lively_sizes(random)
+        return lively_sizes(random, edition)
     return Sizes(
-        random.randint(2, 126),
+        random.randint(2, most_atoms(edition) - 2),
         random.randint(2, 120),
         random.randint(4, 200),
         random.randint(3, 200),
         random.randint(1, 200),
         random.randint(1, 200),
         random.randint(8, 1000),
+        edition,
     )
 
 
-def roomy_card(random, largest=CARD_LIMIT):
-    """A good card with an entry of each kind, with a condition of each kind, and
-    with room below each most: what the damages start from. The stripe card,
-    where none is small enough."""
+# The least that a roomy card of edition 2 has.
+ROOMY = 348
+
+
+def roomy_card(random, largest=CARD_LIMIT, edition=None):
+    """A good card of an edition, or of either, with an entry of each kind, with a
+    condition of each kind, and with room below each most: what the damages start from. The
+    stripe card, where none is small enough."""
+    edition = edition or some_edition(random, largest, ROOMY)
     for _ in range(60):
-        sizes = roomy_sizes(random)
+        sizes = roomy_sizes(random, edition)
         if sizes.card_bytes() <= largest:
             description = make_card(random, sizes)
             if random.random() < 0.5:
                 temper_bounded(random, description)
+            if edition == 2 and random.random() < 0.5:
+                spread(random, description, 254)
             return description
-    return stripe_card()
+    return in_edition(stripe_card(), edition)

@@ -268,9 +268,9 @@ def some_budget(random, card, configuration):
     return 1500
 
 
-def save_request(random, configuration):
+def save_request(random, accepted, configuration):
     """A save with a room around the number needed."""
-    rooms = damage.rooms_around(44 + configuration.length, 1100)
+    rooms = damage.rooms_around(accepted.edition.place_header + configuration.length, 1130)
     return request_about(random, drill.SAVE, configuration, random.choice(rooms))
 
 
@@ -281,7 +281,7 @@ def requests_on(random, card, accepted, configuration, takes):
     made += take_requests(random, accepted, configuration, codes, takes)
     budget = some_budget(random, card, configuration)
     made.append(request_about(random, drill.RUN, configuration, budget))
-    made.append(save_request(random, configuration))
+    made.append(save_request(random, accepted, configuration))
     if random.random() < 0.5:
         made.append(request_restore(guide.save(card, configuration, 2048)[1]))
     return made
@@ -342,7 +342,7 @@ def call_of_kind(random, kind, configuration):
         drill.LIST: (0, 1, 5),
         drill.TAKE: (0, 256, 512, 65535),
         drill.RUN: (0, 1, 40),
-        drill.SAVE: (0, 44, 50, 1068, 1069),
+        drill.SAVE: (0, 44, 50, 76, 82, 1068, 1069, 1100, 1101),
     }[kind]
     return request_about(random, kind, configuration, random.choice(value))
 
@@ -364,9 +364,10 @@ def damaged_configuration_requests(random, accepted, held):
     return made
 
 
-def place_description(configuration):
-    """The place of a configuration, described."""
+def place_description(configuration, edition=1):
+    """The place of a configuration in an edition, described."""
     return cards.PlaceDescription(
+        layout=edition,
         plan=configuration.plan[:configuration.length],
         phase=configuration.phase,
         beliefs=configuration.beliefs,
@@ -385,7 +386,7 @@ def damaged_place_requests(random, accepted, held):
     ]
     made = []
     for some in chosen:
-        described = place_description(random.choice(held))
+        described = place_description(random.choice(held), accepted.edition.number)
         place = damage.damaged_place(random, accepted, described, *some)
         if place is not None:
             made.append(request_restore(place))
@@ -425,10 +426,11 @@ def damaged_requests(random, base):
             one = random.choice(damage.CONFIGURATION_DAMAGES)
             held = one.change(random, accepted, held) or held
         made.append(request_about(random, kind, held, random.choice((0, 1, 50, 1000))))
-    place = cards.place(place_description(random_configuration(random, accepted)))
+    edition = accepted.edition.number
+    place = cards.place(place_description(random_configuration(random, accepted), edition))
     if random.random() < 0.5:
         one = random.choice(damage.PLACE_DAMAGES)
-        described = place_description(loaded)
+        described = place_description(loaded, edition)
         place = damage.damaged_place(random, accepted, described, one) or place
     made.append(request_restore(place))
     return made
@@ -441,6 +443,10 @@ NAMED_CARDS = (
     ("the smallest card", cards.smallest_card),
     ("the shared-nodes card", cards.shared_nodes_card),
     ("the maximal card", cards.maximal_card),
+    ("the card of high atoms", cards.high_atoms_card),
+    ("the stripe card in edition 2", cards.stripe_of_edition_2),
+    ("the smallest card of edition 2", cards.smallest_of_edition_2),
+    ("the maximal card of edition 2", cards.maximal_of_edition_2),
 )
 
 
@@ -476,10 +482,11 @@ def damages_named(random, item):
     return damage.pair_of_damages(random, *item)
 
 
-def damaged_case(random, item, largest):
-    """A case of a damaged card, or None if it is too large."""
+def damaged_case(random, item, largest, edition=None):
+    """A case of a damaged card, made of one of an edition or of either; None if it is too
+    large."""
     damages = damages_named(random, item)
-    description = cards.roomy_card(random, largest)
+    description = cards.roomy_card(random, largest, edition)
     base, card = cards.card(description), damage.damaged_card(random, description, *damages)
     if len(card) > largest:
         return None
@@ -499,11 +506,11 @@ def next_damaged_case(random, items, largest):
     return good_case(random, largest)
 
 
-def generate(seed, cards, largest=24128):
+def generate(seed, count, largest=cards.CARD_LIMIT):
     """So many cases, by seed: good cards and damaged ones in turn, none of more
     than `largest` bytes."""
     items = itertools.cycle(damage_order(seed))
-    for index in range(cards):
+    for index in range(count):
         random = Random("%s %d" % (seed, index))
         if index % 2 == 1:
             yield next_damaged_case(random, items, largest)
@@ -564,7 +571,7 @@ def text_case(random, items, largest):
     return Case("texts and prints", card, made + [request_plain(drill.CHECK)])
 
 
-def generate_texts(seed, count, largest=24128):
+def generate_texts(seed, count, largest=cards.CARD_LIMIT):
     """So many cases of texts and prints, by seed: no card and no text of more than
     `largest` bytes."""
     items = itertools.cycle(damage_order(seed))
@@ -612,7 +619,7 @@ def program_case(random, items, largest):
     return Case("programs", card, program_requests(random, card, accepted, 10))
 
 
-def generate_programs(seed, count, largest=24128):
+def generate_programs(seed, count, largest=cards.CARD_LIMIT):
     """So many cases of programs, by seed: no card of more than `largest` bytes."""
     items = itertools.cycle(damage_order(seed))
     for index in range(count):
@@ -683,7 +690,7 @@ def refused_cuts_case(random, items, largest):
     return Case("numbers about another card", card, made)
 
 
-def generate_cuts(seed, count, largest=24128):
+def generate_cuts(seed, count, largest=cards.CARD_LIMIT):
     """Cases with so many deliberations that are cut, by seed, no card of more than
     `largest` bytes; and cases of damaged cards among them."""
     items = itertools.cycle(damage_order(seed))
@@ -762,7 +769,7 @@ def next_requests(random, card, held):
     return [request_next(random, held), request_about(random, drill.RUN, held, 1)]
 
 
-def generate_next(seed, count, largest=24128):
+def generate_next(seed, count, largest=cards.CARD_LIMIT):
     """Cases with so many next moves asked for, by seed, each with a run with budget 1 beside
     it: no card of more than `largest` bytes."""
     items, made = itertools.cycle(damage_order(seed)), 0
@@ -805,12 +812,12 @@ def long_name_requests(random, actions, largest):
 def name_card(random, items, largest):
     """A card for names: mostly a small one of some actions, now and then any good one, a
     damaged one, or one of 256 actions."""
-    style = random.random()
+    style, edition = random.random(), random.choice(cards.EDITIONS)
     card = b""
     if style < 0.75:
-        card = sheets.actions_card(random.choice(ACTION_COUNTS))
+        card = sheets.actions_card(random.choice(ACTION_COUNTS), edition)
     elif style < 0.77:
-        card = sheets.actions_card(random.choice((255, 256)))
+        card = sheets.actions_card(random.choice((255, 256)), edition)
     elif style < 0.85:
         card = next_damaged_case(random, items, largest).card
     if card == b"" or len(card) > largest:
@@ -829,7 +836,7 @@ def name_case(random, items, largest):
     return Case("names", card, name_requests(random, actions, count, largest))
 
 
-def generate_names(seed, count, largest=24128):
+def generate_names(seed, count, largest=cards.CARD_LIMIT):
     """So many cases of names, by seed: no card and no sheet of more than `largest`
     bytes."""
     items = itertools.cycle(damage_order(seed))
@@ -887,7 +894,7 @@ def main():
     parser.add_argument("--names", type=int, default=0)
     parser.add_argument("--cuts", type=int, default=0)
     parser.add_argument("--next", type=int, default=0)
-    parser.add_argument("--largest", type=int, default=24128)
+    parser.add_argument("--largest", type=int, default=cards.CARD_LIMIT)
     parser.add_argument("--requests", required=True)
     parser.add_argument("--answers", required=True)
     asked = parser.parse_args()

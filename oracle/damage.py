@@ -1,5 +1,5 @@
-"""Damages: what document 01's refusals are given for, each clause broken alone,
-two at once, and each range just inside and just outside.
+"""Damages: what document 01's refusals and those of request 9 of document 02 are given
+for, each clause broken alone, two at once, and each range just inside and just outside.
 
 A damage changes a description in place. The expected number is the document's,
 written beside the damage.
@@ -26,7 +26,7 @@ def damaged_card(random, description, *damages):
     """The bytes of a described card after some damages. The lowest row is
     changed last, so that no other change covers it."""
     description = cards.copied(description)
-    for damage in sorted(damages, key=lambda damage: -damage.number):
+    for damage in sorted(damages, key=lambda damage: -row_of(damage)):
         damage.change(random, description)
     return cards.card(description)
 
@@ -100,10 +100,47 @@ def more(count, value):
     return lambda description: count(description) + value
 
 
-# --- 1 short ----------------------------------------------------------------
+# --- editions ---------------------------------------------------------------
+
+
+def of_edition(edition, made):
+    """A change of a card that is laid out in an edition first."""
+
+    def change(random, description):
+        cards.in_edition(description, edition)
+        made(random, description)
+
+    return change
+
+
+def other_edition(description):
+    """The edition that a card is not laid out in."""
+    return 3 - description.layout
+
+
+def card_header(description):
+    """The bytes of the header."""
+    return cards.card_header(description.layout)
+
+
+def last_bit(description):
+    """The last bit of a set."""
+    return cards.most_atoms(description.layout) - 1
+
+
+# --- 1 short, before 2 ------------------------------------------------------
+
+TINY_DAMAGES = [Damage("short: %d bytes" % size, 1, put(cut=size)) for size in (0, 1, 2, 3)]
+
+# --- 1 short, after 2 -------------------------------------------------------
 
 SHORT_DAMAGES = [
-    Damage("short: %d bytes" % size, 1, put(cut=size)) for size in (0, 1, 2, 3, 4, 32, 48, 62, 63)
+    Damage("short: %d bytes of edition %d" % (size, edition), 1, of_edition(edition, put(cut=size)))
+    for edition, sizes in ((1, (4, 5, 32, 48, 62, 63)), (2, (4, 63, 64, 65, 94, 95)))
+    for size in sizes
+] + [
+    Damage("short: %d bytes of edition 1, edition 2 said" % size, 1, of_edition(1, put(cut=size, edition=2)))
+    for size in (64, 70, 95)
 ]
 
 # --- 2 mark -----------------------------------------------------------------
@@ -116,13 +153,13 @@ MARK_DAMAGES = [
     Damage("mark: zeros", 2, put(mark=b"\0\0")),
 ] + [
     Damage("mark: edition %d" % edition, 2, put(edition=edition))
-    for edition in (0, 2, 256, 257, 65535)
+    for edition in (0, 3, 256, 257, 258, 512, 65535)
 ]
 
 # --- 3 count ----------------------------------------------------------------
 
 COUNT_HEADERS = (
-    ("atoms", 4, (0, 129, 255, 256, 65535)),
+    ("atoms", 4, (0, 257, 512, 65535)),
     ("actions", 6, (0, 257, 512, 65535)),
     ("nodes", 8, (0, 257, 512, 65535)),
     ("specifications", 12, (257, 512, 65535)),
@@ -184,11 +221,22 @@ def fill_up_nodes(count):
     return change
 
 
+def wide_card_of_edition_1(random, description):
+    """A card of edition 2 with over 128 atoms, edition 1 said."""
+    cards.in_edition(description, 2)
+    description.atoms = max(129, description.atoms)
+    description.edition = 1
+
+
 COUNT_DAMAGES = [
     Damage("count: header says %s %d" % (name, value), 3, header(at, value))
     for name, at, values in COUNT_HEADERS
     for value in values
 ] + [
+    Damage("count: header says atoms %d in edition 1" % value, 3, of_edition(1, header(4, value)))
+    for value in (129, 130, 255, 256)
+] + [
+    Damage("count: over 128 atoms, edition 1 said", 3, wide_card_of_edition_1),
     Damage("count: no atoms, alone", 3, no_atoms_at_all),
     Damage("count: no actions, alone", 3, no_actions_at_all),
     Damage("count: no nodes, alone", 3, no_nodes_at_all),
@@ -255,8 +303,23 @@ def empty_section_without_offset(section, at):
 
 
 def longest_and_one(random, description):
-    """24,129 bytes in all."""
-    description.rest = bytes(cards.CARD_LIMIT + 1 - len(cards.card(description)))
+    """One byte more than any card of the edition: 24,129 bytes in all, or 32,353."""
+    longest = cards.CARD_LIMITS[description.layout]
+    description.rest = bytes(longest + 1 - len(cards.card(description)))
+
+
+def other_edition_said(random, description):
+    """The other edition said, of a card that could have that one's atoms."""
+    cards.with_atoms(description, cards.most_atoms(1))
+    description.edition = other_edition(description)
+
+
+def offsets_of_the_other_edition(random, description):
+    """Each section's offset as the other edition has it."""
+    laid_out = replace(description, layout=other_edition(description), header={}, cut=None)
+    held = cards.card(laid_out)
+    for _, at in OFFSET_NAMES:
+        description.header[at] = guide.number(held, at)
 
 
 def one_byte_less(random, description):
@@ -273,7 +336,7 @@ OFFSET_DAMAGES = (
     + [
         Damage("offsets: %s %d" % (name, value), 4, header(at, value))
         for name, at in OFFSET_NAMES
-        for value in (0, 64, 65535)
+        for value in (0, 64, 96, 65535)
     ]
     + [
         Damage("offsets: header says one of %s more" % name, 4, header(at, more(length_of(at), 1)))
@@ -296,9 +359,16 @@ OFFSET_DAMAGES = (
         Damage("offsets: one byte more", 4, put(rest=b"\0")),
         Damage("offsets: 256 bytes more", 4, put(rest=bytes(256))),
         Damage("offsets: one byte less", 4, one_byte_less),
-        Damage("offsets: the header alone", 4, put(cut=64)),
-        Damage("offsets: 65 bytes", 4, put(cut=65)),
-        Damage("offsets: 24,129 bytes", 4, longest_and_one),
+        Damage("offsets: the header alone", 4, put(cut=card_header)),
+        Damage("offsets: the header and one byte", 4, put(cut=more(card_header, 1))),
+        Damage("offsets: 24,129 bytes", 4, of_edition(1, longest_and_one)),
+        Damage("offsets: 32,353 bytes", 4, of_edition(2, longest_and_one)),
+        Damage("offsets: edition 2 said of edition 1", 4, of_edition(1, other_edition_said)),
+        Damage("offsets: edition 1 said of edition 2", 4, of_edition(2, other_edition_said)),
+        Damage("offsets: those of edition 2 in edition 1", 4, of_edition(1, offsets_of_the_other_edition)),
+        Damage("offsets: those of edition 1 in edition 2", 4, of_edition(2, offsets_of_the_other_edition)),
+        Damage("offsets: specifications of 68 in edition 1", 4, of_edition(1, put(entries=2))),
+        Damage("offsets: specifications of 36 in edition 2", 4, of_edition(2, put(entries=1))),
     ]
 )
 
@@ -354,7 +424,7 @@ def leaf_damages():
             Damage("node: %s, b 1" % name, 6, node(lambda own, d, k=kind: Node(k, 0, 1))),
             Damage("node: %s, b 255" % name, 6, node(lambda own, d, k=kind: Node(k, 0, 255))),
             Damage("node: %s the number of atoms" % name, 6, node(lambda own, d, k=kind: Node(k, d.atoms))),
-            Damage("node: %s 128" % name, 6, node(lambda own, d, k=kind: Node(k, 128))),
+            Damage("node: %s 128" % name, 6, of_edition(1, node(lambda own, d, k=kind: Node(k, 128)))),
             Damage("node: %s 255" % name, 6, node(lambda own, d, k=kind: Node(k, 255))),
         ]
     return made
@@ -598,6 +668,17 @@ def set_atom(section, name, atom):
     return change
 
 
+def few_atoms(made):
+    """A change of a card of edition 2 that has at most 128 atoms."""
+
+    def change(random, description):
+        cards.in_edition(description, 2)
+        cards.with_atoms(description, 128)
+        made(random, description)
+
+    return change
+
+
 SET_FIELDS = (
     ("initial", "beliefs"),
     ("initial", "goals"),
@@ -608,23 +689,36 @@ SET_FIELDS = (
 ATOM_DAMAGES = [
     Damage("atom: %s %s, %s" % (section, name, what), 9, set_atom(section, name, atom))
     for section, name in SET_FIELDS
-    for what, atom in (("the number of atoms", atoms), ("one more", more(atoms, 1)), ("127", 127))
+    for what, atom in (("the number of atoms", atoms), ("one more", more(atoms, 1)), ("the last bit", last_bit))
+] + [
+    Damage("atom: %s %s, %d of edition 2" % (section, name, atom), 9, few_atoms(set_atom(section, name, atom)))
+    for section, name in SET_FIELDS
+    for atom in (128, 135, 192, 255)
 ]
 
-CARD_DAMAGES = (
-    SHORT_DAMAGES
-    + MARK_DAMAGES
-    + COUNT_DAMAGES
-    + OFFSET_DAMAGES
-    + WEIGHT_DAMAGES
-    + NODE_DAMAGES
-    + RULE_DAMAGES
-    + ACTION_BYTE_DAMAGES
-    + ATOM_DAMAGES
+# The rows in the order in which they are tested: "a file under 4 bytes is 1, then a wrong
+# mark or edition is 2, then one shorter than its edition's header is 1", then 3 to 9.
+CARD_ROWS = (
+    TINY_DAMAGES,
+    MARK_DAMAGES,
+    SHORT_DAMAGES,
+    COUNT_DAMAGES,
+    OFFSET_DAMAGES,
+    WEIGHT_DAMAGES,
+    NODE_DAMAGES,
+    RULE_DAMAGES,
+    ACTION_BYTE_DAMAGES,
+    ATOM_DAMAGES,
 )
+CARD_DAMAGES = [damage for row in CARD_ROWS for damage in row]
 
 # "They are tested in the table's order": every two different rows at once.
-CARD_PAIRS = [(low, high) for low in range(1, 10) for high in range(low + 1, 10)]
+CARD_PAIRS = [(low, high) for high in range(len(CARD_ROWS)) for low in range(high)]
+
+
+def row_of(damage):
+    """The row of a damage of a card or a place in the order; 0 for a value inside a range."""
+    return ROW_OF_NAME.get(damage.name, 0)
 
 
 def damages_of(number):
@@ -638,12 +732,20 @@ def changes_a_count(damage):
     return damage.name.startswith(("offsets: header says", "offsets: no "))
 
 
+def lays_out_anew(damage):
+    """Whether a damage changes the edition that a card is laid out in, or the one that is
+    said, and so could cover another that does."""
+    return "edition" in damage.name
+
+
 def pair_of_damages(random, low, high):
     """Two damages of different rows, neither covering the other."""
-    others = damages_of(high)
-    if low == guide.COUNT:
+    first, others = random.choice(CARD_ROWS[low]), CARD_ROWS[high]
+    if CARD_ROWS[low] is COUNT_DAMAGES:
         others = [damage for damage in others if not changes_a_count(damage)]
-    return random.choice(damages_of(low)), random.choice(others)
+    if CARD_ROWS[low] not in (TINY_DAMAGES, MARK_DAMAGES):
+        others = [damage for damage in others if not lays_out_anew(damage)]
+    return first, random.choice(others)
 
 
 # --- ranges, just inside and just outside -----------------------------------
@@ -655,22 +757,28 @@ def one_atom(random, description):
     description.nodes = [
         replace(n, a=0) if n.kind in (BELIEVES, HAS_GOAL) else n for n in description.nodes
     ]
-    description.beliefs = bytes([description.beliefs[0] & 1]) + bytes(15)
-    description.goals = bytes([description.goals[0] & 1]) + bytes(15)
+    description.beliefs = bytes([description.beliefs[0] & 1]) + bytes(31)
+    description.goals = bytes([description.goals[0] & 1]) + bytes(31)
     description.specifications = [
         replace(
-            e, add=bytes([e.add[0] & 1]) + bytes(15), delete=bytes([e.delete[0] & 1]) + bytes(15)
+            e, add=bytes([e.add[0] & 1]) + bytes(31), delete=bytes([e.delete[0] & 1]) + bytes(31)
         )
         for e in description.specifications
     ]
 
 
-def all_atoms(random, description):
-    """128 atoms, the last one in a condition and in every kind of set."""
-    description.atoms = 128
-    description.nodes += [Node(BELIEVES, 127), Node(HAS_GOAL, 127)]
-    for section, name in SET_FIELDS:
-        set_atom(section, name, 127)(random, description)
+def all_atoms(edition, count):
+    """A change to so many atoms, the last one in a condition and in every kind of set."""
+
+    def change(random, description):
+        cards.in_edition(description, edition)
+        cards.with_atoms(description, count)
+        description.atoms, last = count, count - 1
+        description.nodes += [Node(BELIEVES, last), Node(HAS_GOAL, last)]
+        for section, name in SET_FIELDS:
+            set_atom(section, name, last)(random, description)
+
+    return change
 
 
 def one_action(random, description):
@@ -714,8 +822,15 @@ def no_pool(random, description):
 
 
 RANGES_OF_COUNTS = [
-    Damage("range: 1 atom", 0, one_atom),
-    Damage("range: 128 atoms", 0, all_atoms),
+    Damage("range: 1 atom of edition 1", 0, of_edition(1, one_atom)),
+    Damage("range: 1 atom of edition 2", 0, of_edition(2, one_atom)),
+    Damage("range: 128 atoms of edition 1", 0, all_atoms(1, 128)),
+    Damage("range: 127 atoms of edition 2", 0, all_atoms(2, 127)),
+    Damage("range: 128 atoms of edition 2", 0, all_atoms(2, 128)),
+    Damage("range: 129 atoms of edition 2", 0, all_atoms(2, 129)),
+    Damage("range: 136 atoms of edition 2", 0, all_atoms(2, 136)),
+    Damage("range: 255 atoms of edition 2", 0, all_atoms(2, 255)),
+    Damage("range: 256 atoms of edition 2", 0, all_atoms(2, 256)),
     Damage("range: 1 action", 0, one_action),
     Damage("range: 256 actions", 0, all_actions),
     Damage("range: 1 node", 0, one_node),
@@ -728,7 +843,8 @@ RANGES_OF_COUNTS = [
     Damage("range: 256 revisions", 0, fill_up("revisions", 256)),
     Damage("range: pool of 0", 0, no_pool),
     Damage("range: pool of 8,192", 0, fill_up("pool", 8192)),
-    Damage("range: edition 1", 0, put(edition=1)),
+    Damage("range: edition 1", 0, of_edition(1, put(edition=1))),
+    Damage("range: edition 2", 0, of_edition(2, put(edition=2))),
     Damage("range: weight 1", 0, weight(1)),
     Damage("range: weight 1,024", 0, weight(1024)),
     Damage("range: weight 1,023", 0, weight(1023)),
@@ -807,7 +923,7 @@ def damaged_place(random, card, description, *damages):
     """The bytes of a described place after some damages, or None where the card
     leaves no room for one of them. The lowest row is changed last."""
     description = replace(description)
-    for damage in sorted(damages, key=lambda damage: -damage.number):
+    for damage in sorted(damages, key=lambda damage: -row_of(damage)):
         if damage.change(random, card, description) is False:
             return None
     return cards.place(description)
@@ -843,7 +959,7 @@ def place_atom(name, above):
     set; none where there is no such bit."""
 
     def change(random, card, description):
-        if card.atoms + above > 127:
+        if card.atoms + above > cards.most_atoms(description.layout) - 1:
             return False
         setattr(description, name, with_atom(getattr(description, name), card.atoms + above))
         return True
@@ -863,6 +979,39 @@ def place_of_action(value):
     return change
 
 
+def place_of_atom(name, atom):
+    """A change that puts an atom into a set, where there is such a bit and the card has it
+    not."""
+
+    def change(random, card, description):
+        if not card.atoms <= atom < cards.most_atoms(description.layout):
+            return False
+        setattr(description, name, with_atom(getattr(description, name), atom))
+        return True
+
+    return change
+
+
+def place_of_edition(edition, made):
+    """A change of a place that is laid out in an edition; none where that is not its
+    card's."""
+
+    def change(random, card, description):
+        return False if description.layout != edition else made(random, card, description)
+
+    return change
+
+
+def place_header(description):
+    """The bytes of the header of a place."""
+    return cards.place_header(description.layout)
+
+
+def other_place_header(description):
+    """The bytes of the header of a place of the other edition."""
+    return cards.place_header(other_edition(description))
+
+
 def plan_length(by):
     """L, `by` away from the plan's bytes."""
     return lambda description: max(0, len(description.plan) + by)
@@ -874,17 +1023,38 @@ def longer_plan(random, card, description):
     description.length = None
 
 
-PLACE_DAMAGES = (
-    [Damage("place short: %d bytes" % size, 1, place_put(cut=size)) for size in (0, 1, 2, 4, 12, 28, 43)]
-    + [
+TINY_PLACES = [
+    Damage("place short: %d bytes" % size, 1, place_put(cut=size)) for size in (0, 1, 2, 3)
+]
+
+PLACE_MARKS = (
+    [
         Damage("place mark: %s" % mark.hex(), 2, place_put(mark=mark))
         for mark in (b"\x32\x50", b"\x33\x51", b"\x50\x33", b"\x33\x41", b"\0\0")
     ]
     + [
         Damage("place mark: edition %d" % edition, 2, place_put(edition=edition))
-        for edition in (0, 2, 256, 257, 65535)
+        for edition in (0, 3, 256, 257, 258, 512, 65535)
     ]
     + [
+        Damage("place mark: the other edition said", 2, place_put(edition=other_edition)),
+        Damage("place mark: a place of the other edition", 2, place_put(layout=other_edition)),
+        Damage("place mark: the other edition's header", 2, place_put(layout=other_edition, plan=b"")),
+    ]
+)
+
+SHORT_PLACES = [
+    Damage(
+        "place short: %d bytes of edition %d" % (size, edition),
+        1,
+        place_of_edition(edition, place_put(cut=size)),
+    )
+    for edition, sizes in ((1, (4, 5, 12, 28, 42, 43)), (2, (4, 12, 43, 44, 45, 74, 75)))
+    for size in sizes
+]
+
+PLACE_COUNTS = (
+    [
         Damage("place count: L 1,025 alone", 3, longer_plan),
         Damage("place count: L 1,025", 3, place_put(length=1025)),
         Damage("place count: L 65,535", 3, place_put(length=65535)),
@@ -893,10 +1063,14 @@ PLACE_DAMAGES = (
         Damage("place count: phase %d" % phase, 3, place_put(phase=phase))
         for phase in (3, 4, 255, 256, 258, 512, 65535)
     ]
-    + [
+)
+
+PLACE_OFFSETS = (
+    [
         Damage("place offsets: offset %d" % offset, 4, place_put(offset=offset))
-        for offset in (0, 43, 45, 256, 300, 65535)
+        for offset in (0, 43, 45, 75, 77, 256, 300, 332, 65535)
     ]
+    + [Damage("place offsets: the other edition's", 4, place_put(offset=other_place_header))]
     + [
         Damage("place offsets: one byte more", 4, place_put(rest=b"\0")),
         Damage("place offsets: many bytes more", 4, place_put(rest=bytes(1500))),
@@ -910,17 +1084,45 @@ PLACE_DAMAGES = (
         Damage("place offsets: header alone, L 1", 4, place_put(plan=b"", length=1)),
         Damage("place offsets: header alone, L 1,024", 4, place_put(plan=b"", length=1024)),
     ]
-    + [
-        Damage("place action byte: the number of actions", 8, place_action(0)),
-        Damage("place action byte: one more", 8, place_action(1)),
-        Damage("place action byte: 255", 8, place_of_action(255)),
-        Damage("place action byte: 128", 8, place_of_action(128)),
+)
+
+PLACE_ACTION_BYTES = [
+    Damage("place action byte: the number of actions", 8, place_action(0)),
+    Damage("place action byte: one more", 8, place_action(1)),
+    Damage("place action byte: 255", 8, place_of_action(255)),
+    Damage("place action byte: 128", 8, place_of_action(128)),
+]
+
+PLACE_ATOMS = (
+    [
         Damage("place atom: beliefs, the number of atoms", 9, place_atom("beliefs", 0)),
         Damage("place atom: beliefs, one more", 9, place_atom("beliefs", 1)),
         Damage("place atom: goals, the number of atoms", 9, place_atom("goals", 0)),
         Damage("place atom: goals, one more", 9, place_atom("goals", 1)),
     ]
+    + [
+        Damage("place atom: %s, %d" % (name, atom), 9, place_of_atom(name, atom))
+        for name in ("beliefs", "goals")
+        for atom in (127, 128, 192, 255)
+    ]
 )
+
+# The rows of a place in the order in which they are tested.
+PLACE_ROWS = (
+    TINY_PLACES,
+    PLACE_MARKS,
+    SHORT_PLACES,
+    PLACE_COUNTS,
+    PLACE_OFFSETS,
+    PLACE_ACTION_BYTES,
+    PLACE_ATOMS,
+)
+PLACE_DAMAGES = [damage for row in PLACE_ROWS for damage in row]
+
+# The row of each damage, by its name.
+ROW_OF_NAME = {
+    damage.name: at for rows in (CARD_ROWS, PLACE_ROWS) for at, row in enumerate(rows, 1) for damage in row
+}
 
 
 def place_long(length):
@@ -949,18 +1151,12 @@ PLACE_RANGES = [
 ]
 
 # Every two different rows of a place at once.
-PLACE_NUMBERS = (1, 2, 3, 4, 8, 9)
-PLACE_PAIRS = [(low, high) for low in PLACE_NUMBERS for high in PLACE_NUMBERS if low < high]
-
-
-def place_damages_of(number):
-    """The damages of a place that a refusal is given for."""
-    return [damage for damage in PLACE_DAMAGES if damage.number == number]
+PLACE_PAIRS = [(low, high) for high in range(len(PLACE_ROWS)) for low in range(high)]
 
 
 def pair_of_place_damages(random, low, high):
     """Two damages of different rows of a place."""
-    return random.choice(place_damages_of(low)), random.choice(place_damages_of(high))
+    return random.choice(PLACE_ROWS[low]), random.choice(PLACE_ROWS[high])
 
 
 # --- configurations ---------------------------------------------------------
@@ -1005,9 +1201,20 @@ def with_belief_or_goal(name, above):
     where there is no such bit."""
 
     def change(random, card, held):
-        if card.atoms + above > 127:
+        if card.atoms + above > 255:
             return None
         return held._replace(**{name: with_atom(getattr(held, name), card.atoms + above)})
+
+    return change
+
+
+def with_atom_of(name, atom):
+    """An atom put into a set; None where the card has it."""
+
+    def change(random, card, held):
+        if atom < card.atoms:
+            return None
+        return held._replace(**{name: with_atom(getattr(held, name), atom)})
 
     return change
 
@@ -1064,6 +1271,11 @@ CONFIGURATION_DAMAGES = [
     Damage("configuration: beliefs, one more", 13, with_belief_or_goal("beliefs", 1)),
     Damage("configuration: goals, the number of atoms", 13, with_belief_or_goal("goals", 0)),
     Damage("configuration: goals, one more", 13, with_belief_or_goal("goals", 1)),
+] + [
+    Damage("configuration: %s, %d" % (name, atom), 13, with_atom_of(name, atom))
+    for name in ("beliefs", "goals")
+    for atom in (127, 128, 129, 191, 192, 255)
+] + [
     Damage("configuration: a byte after the plan's end", 13, with_byte_after_end("end")),
     Damage("configuration: a byte at 1,023", 13, with_byte_after_end("array")),
     Damage("configuration: length one less", 13, with_length_less),

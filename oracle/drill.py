@@ -1,6 +1,6 @@
 """The drill: requests on standard input, an answer for each on standard output.
 
-The requests and answers are those of drill.md, with what the requests 1, 2, 4, 6 and 8 of
+The requests and answers are those of drill.md, with what the requests 1, 2, 4, 6, 8 and 9 of
 document 02 add to them, and with 21 "go on" and 22 "next"; numbers of two or four bytes are
 low byte first.
 """
@@ -65,10 +65,10 @@ class Reader:
         return value
 
     def image(self):
-        """An image: "beliefs, goals (16 bytes each), plan length (2), phase (1), the
+        """An image: "beliefs, goals (32 bytes each), plan length (2), phase (1), the
         finished count (2), m (2, at most 1,024), and the first m bytes of the plan's
         array; the rest of the array is zero"."""
-        beliefs, goals = self.next_bytes(16), self.next_bytes(16)
+        beliefs, goals = self.next_bytes(guide.SET_BYTES), self.next_bytes(guide.SET_BYTES)
         length, phase, finished = self.number(), self.byte(), self.number()
         plan = self.next_bytes(self.number(IMAGE_LIMIT)).ljust(guide.PLAN_LIMIT, b"\0")
         return guide.Configuration(beliefs, goals, plan, length, phase, finished)

@@ -1,6 +1,6 @@
 """The eight calls of document 01 over plain values, with the requests 1 ("say why a
-move is closed"), 4 ("count the picks") and 5 ("a goal falls when its fact is believed")
-of document 02; and the call that tells the guide's own next move.
+move is closed"), 4 ("count the picks"), 5 ("a goal falls when its fact is believed") and
+9 ("more facts") of document 02; and the call that tells the guide's own next move.
 
 Written from the two documents alone. Every function says which sentence of them
 it stands for.
@@ -49,24 +49,53 @@ WEIGHT_LIMIT = 1024
 # "Stopping at 65,535."
 FINISHED_LIMIT = 65535
 
-CARD_HEADER = 64
-PLACE_HEADER = 44
+# "A file under 4 bytes is 1": mark and edition.
+LEAST_FILE = 4
+
 CARD_MARK = b"\x33\x41"
 PLACE_MARK = b"\x33\x50"
-EDITION = 1
+
+
+class Edition(NamedTuple):
+    """An edition of card and place: the bytes of a set, and what follows from them.
+    "Edition 2 of card and place has sets of 32 bytes, so a card's header grows to 96
+    bytes before the weights and a place's plan starts at 76." """
+
+    number: int
+    set_bytes: int
+
+    @property
+    def atoms(self):
+        """The most atoms: "1..128" of edition 1, and 256 of edition 2."""
+        return 8 * self.set_bytes
+
+    @property
+    def card_header(self):
+        """The bytes before the weights: 64, 96."""
+        return 32 + 2 * self.set_bytes
+
+    @property
+    def specification(self):
+        """The bytes of a specification: 36, 68."""
+        return 4 + 2 * self.set_bytes
+
+    @property
+    def place_header(self):
+        """The bytes before a place's plan: 44, 76."""
+        return 12 + 2 * self.set_bytes
+
+
+EDITIONS = {1: Edition(1, 16), 2: Edition(2, 32)}
+
+# A configuration has no edition: its sets are those of the wider one.
+SET_BYTES = 32
 
 # Where the card's header holds the number of a section's entries; the
 # section's offset stands two bytes later.
 NODES, SPECIFICATIONS, SELECTIONS, REVISIONS, POOL = 8, 12, 16, 20, 24
 
-# "The sections follow the weights in the header's order": where the count
-# stands, and the bytes of one entry.
-SECTIONS = ((NODES, 4), (SPECIFICATIONS, 36), (SELECTIONS, 8), (REVISIONS, 12), (POOL, 1))
-WIDTH = dict(SECTIONS)
-
-# The table's ranges: where the number stands, the least and the most.
+# The table's ranges but for the atoms': where the number stands, the least and the most.
 COUNT_RANGES = (
-    (4, 1, 128),
     (6, 1, 256),
     (NODES, 1, 256),
     (SPECIFICATIONS, 0, 256),
@@ -92,7 +121,7 @@ class Configuration(NamedTuple):
 
 # "The empty one (no atoms, empty plan, phase 0)", of which no transition has left the
 # plan empty.
-EMPTY = Configuration(bytes(16), bytes(16), bytes(PLAN_LIMIT), 0, 0, 0)
+EMPTY = Configuration(bytes(SET_BYTES), bytes(SET_BYTES), bytes(PLAN_LIMIT), 0, 0, 0)
 
 
 class Node(NamedTuple):
@@ -105,7 +134,7 @@ class Node(NamedTuple):
 
 
 class Specification(NamedTuple):
-    """ "Specification, 36 bytes: action, node, 0, 0, Add, Del." """
+    """ "Specification, 36 bytes: action, node, 0, 0, Add, Del"; 68 in edition 2."""
 
     action: int
     node: int
@@ -147,6 +176,16 @@ def number(data, at):
     return data[at] + 256 * data[at + 1]
 
 
+def edition_of(file):
+    """The edition, at 2 of a card or a place."""
+    return EDITIONS[number(file, 2)]
+
+
+def widened(atoms):
+    """A set of an edition as a configuration holds it."""
+    return atoms.ljust(SET_BYTES, b"\0")
+
+
 def atoms_of(card):
     """The number of atoms, at 4 of the card."""
     return number(card, 4)
@@ -157,15 +196,27 @@ def actions_of(card):
     return number(card, 6)
 
 
+def sections(edition):
+    """ "The sections follow the weights in the header's order": where the count
+    stands, and the bytes of one entry."""
+    return (NODES, 4), (SPECIFICATIONS, edition.specification), (SELECTIONS, 8), (REVISIONS, 12), (POOL, 1)
+
+
 def section(card, at):
     """The bytes of the section whose count stands at `at` of the header."""
-    offset = number(card, at + 2)
-    return card[offset:offset + number(card, at) * WIDTH[at]]
+    offset, width = number(card, at + 2), dict(sections(edition_of(card)))[at]
+    return card[offset:offset + number(card, at) * width]
 
 
 def weights_of(card):
-    """ "64: weights, one for each action." """
-    return struct.unpack_from("<%dH" % actions_of(card), card, CARD_HEADER)
+    """ "64: weights, one for each action"; at 96 in edition 2."""
+    return struct.unpack_from("<%dH" % actions_of(card), card, edition_of(card).card_header)
+
+
+def initial_sets(card):
+    """ "32, 48: initial beliefs, initial goals"; at 32 and 64 in edition 2."""
+    goals = 32 + edition_of(card).set_bytes
+    return card[32:goals], card[goals:edition_of(card).card_header]
 
 
 def nodes_of(card):
@@ -175,7 +226,8 @@ def nodes_of(card):
 
 def specifications_of(card):
     """The specifications of the card, from 0."""
-    entries = struct.iter_unpack("<BBBB16s16s", section(card, SPECIFICATIONS))
+    size = edition_of(card).set_bytes
+    entries = struct.iter_unpack("<BBBB%ds%ds" % (size, size), section(card, SPECIFICATIONS))
     return [Specification(*fields) for fields in entries]
 
 
@@ -192,7 +244,7 @@ def revisions_of(card):
 
 
 def members(atoms):
-    """ "A set of atoms is 16 bytes; atom k is bit (k modulo 8) of byte (k
+    """ "A set of atoms is 16 bytes", or 32; "atom k is bit (k modulo 8) of byte (k
     divided by 8)": the set as one number whose bit k is atom k."""
     return int.from_bytes(atoms, "little")
 
@@ -273,28 +325,34 @@ def judged_over(node, found):
 # --- the refusals of a card, row by row -------------------------------------
 
 
-def card_is_short(card):
-    """1 short: "card under 64 bytes"."""
-    return len(card) < CARD_HEADER
+def file_is_under_4_bytes(file):
+    """1 short: "a file under 4 bytes is 1"."""
+    return len(file) < LEAST_FILE
 
 
 def card_mark_differs(card):
-    """2 mark: "first two bytes or edition differ"."""
-    return card[0:2] != CARD_MARK or number(card, 2) != EDITION
+    """2 mark: "then a wrong mark or edition is 2"."""
+    return card[0:2] != CARD_MARK or number(card, 2) not in EDITIONS
+
+
+def card_is_short(card):
+    """1 short: "then one shorter than its edition's header is 1"."""
+    return len(card) < edition_of(card).card_header
 
 
 def card_count_is_out_of_range(card):
     """3 count: "the number of atoms, of actions or of a section's entries or
     bytes is out of range"."""
-    return any(not least <= number(card, at) <= most for at, least, most in COUNT_RANGES)
+    ranges = ((4, 1, edition_of(card).atoms), *COUNT_RANGES)
+    return any(not least <= number(card, at) <= most for at, least, most in ranges)
 
 
 def card_offset_differs(card):
     """4 offsets: "an offset or the total length is not the required one"; "the
     sections follow the weights in the header's order with no gap; the card
     ends with the pool"."""
-    required = CARD_HEADER + 2 * actions_of(card)
-    for at, width in SECTIONS:
+    required = edition_of(card).card_header + 2 * actions_of(card)
+    for at, width in sections(edition_of(card)):
         if number(card, at + 2) != required:
             return True
         required += number(card, at) * width
@@ -405,16 +463,18 @@ def card_action_byte_is_wrong(card):
 def card_atom_is_wrong(card):
     """9 atom: "a set has a bit at or above the number of atoms": the initial
     beliefs, the initial goals, each Add and each Del."""
-    sets = [card[32:48], card[48:64]]
+    sets = [*initial_sets(card)]
     for entry in specifications_of(card):
         sets += [entry.add, entry.delete]
     return any(has_unknown_atom(atoms, atoms_of(card)) for atoms in sets)
 
 
-# "They are tested in the table's order, the card first with 1 to 9."
+# "They are tested in the table's order, the card first with 1 to 9"; 1 stands before 2 and
+# after it.
 CARD_ROWS = (
-    (SHORT, card_is_short),
+    (SHORT, file_is_under_4_bytes),
     (MARK, card_mark_differs),
+    (SHORT, card_is_short),
     (COUNT, card_count_is_out_of_range),
     (OFFSETS, card_offset_differs),
     (WEIGHT, card_weight_is_wrong),
@@ -455,6 +515,7 @@ class RevisionRule(NamedTuple):
 class Card:
     """An accepted card, its plans read from the pool."""
 
+    edition: Edition
     atoms: int
     actions: int
     weights: tuple
@@ -474,7 +535,9 @@ def read_card(card):
     def plan(start, length):
         return pool[start:start + length]
 
+    beliefs, goals = initial_sets(card)
     return Card(
+        edition_of(card),
         atoms_of(card),
         actions_of(card),
         weights_of(card),
@@ -492,8 +555,8 @@ def read_card(card):
             )
             for entry in revisions_of(card)
         ),
-        card[32:48],
-        card[48:64],
+        widened(beliefs),
+        widened(goals),
         plan(number(card, 28), number(card, 30)),
     )
 
@@ -511,14 +574,20 @@ def judge(card):
 # --- the refusals of a place, row by row ------------------------------------
 
 
-def place_is_short(place, card):
-    """1 short: "place under 44"."""
-    return len(place) < PLACE_HEADER
+def place_is_under_4_bytes(place, card):
+    """1 short: "a file under 4 bytes is 1"."""
+    return len(place) < LEAST_FILE
 
 
 def place_mark_differs(place, card):
-    """2 mark: "first two bytes or edition differ"."""
-    return place[0:2] != PLACE_MARK or number(place, 2) != EDITION
+    """2 mark: "then a wrong mark or edition is 2"; "a place whose edition isn't its
+    card's is met with refusal 2"."""
+    return place[0:2] != PLACE_MARK or number(place, 2) != card.edition.number
+
+
+def place_is_short(place, card):
+    """1 short: "then one shorter than its edition's header is 1"."""
+    return len(place) < card.edition.place_header
 
 
 def place_count_is_out_of_range(place, card):
@@ -528,24 +597,32 @@ def place_count_is_out_of_range(place, card):
 
 
 def place_offset_differs(place, card):
-    """4 offsets: "plan offset 44 at 6", "exactly 44 + L bytes"."""
-    return number(place, 6) != PLACE_HEADER or len(place) != PLACE_HEADER + number(place, 4)
+    """4 offsets: "plan offset 44 at 6", "exactly 44 + L bytes"; 76 in edition 2."""
+    header = card.edition.place_header
+    return number(place, 6) != header or len(place) != header + number(place, 4)
 
 
 def place_action_byte_is_wrong(place, card):
     """8 action byte: "a pool or plan byte is not below the number of actions"."""
-    return has_unknown_action(place[PLACE_HEADER:], card.actions)
+    return has_unknown_action(place[card.edition.place_header:], card.actions)
+
+
+def place_sets(place, edition):
+    """ "Beliefs at 12; goals at 28"; at 12 and 44 in edition 2."""
+    goals = 12 + edition.set_bytes
+    return place[12:goals], place[goals:edition.place_header]
 
 
 def place_atom_is_wrong(place, card):
     """9 atom: "a set has a bit at or above the number of atoms"."""
-    return has_unknown_atom(place[12:28], card.atoms) or has_unknown_atom(place[28:44], card.atoms)
+    return any(has_unknown_atom(atoms, card.atoms) for atoms in place_sets(place, card.edition))
 
 
-# "Then a place with 1, 2, 3, 4, 8, 9."
+# "Then a place with 1, 2, 3, 4, 8, 9"; 1 stands before 2 and after it.
 PLACE_ROWS = (
-    (SHORT, place_is_short),
+    (SHORT, place_is_under_4_bytes),
     (MARK, place_mark_differs),
+    (SHORT, place_is_short),
     (COUNT, place_count_is_out_of_range),
     (OFFSETS, place_offset_differs),
     (ACTION_BYTE, place_action_byte_is_wrong),
@@ -567,7 +644,8 @@ def judge_place(place, card):
 def configuration_is_wrong(configuration, card):
     """13 configuration: "the configuration handed in has a plan over 1,024, an
     action or atom unknown to the card, a phase over 2, or anything but zero
-    after the plan's end". It has no rule for the finished count."""
+    after the plan's end". It has no rule for the finished count. Under a card of edition
+    1 an atom from 128 on is unknown, as any other that it does not have."""
     beliefs, goals, plan, length, phase, _ = configuration
     return (
         length > PLAN_LIMIT
@@ -661,7 +739,7 @@ def selected(card, configuration, n):
 
 def not_believed(goals, beliefs):
     """ "Goals are struck by the beliefs": the goals that are "those not believed"."""
-    return (members(goals) & ~members(beliefs)).to_bytes(16, "little")
+    return (members(goals) & ~members(beliefs)).to_bytes(SET_BYTES, "little")
 
 
 def acted(card, configuration, n):
@@ -670,7 +748,7 @@ def acted(card, configuration, n):
     which "replaces Definition 9's rule for goals"."""
     specification = card.specifications[n]
     add, delete = members(specification.add), members(specification.delete)
-    beliefs = ((members(configuration.beliefs) | add) & ~delete).to_bytes(16, "little")
+    beliefs = ((members(configuration.beliefs) | add) & ~delete).to_bytes(SET_BYTES, "little")
     plan = configuration.plan[1:configuration.length]
     return beliefs, not_believed(configuration.goals, beliefs), plan
 
@@ -864,15 +942,18 @@ def save(card, configuration, room):
     """ "Saving writes 44 + L bytes and no others." The place: "bytes 33 50 hex;
     edition 1 at 2; plan length L at 4; plan offset 44 at 6; phase at 8; ...
     beliefs at 12; goals at 28; the plan's L bytes at 44". The finished count "stands
-    in bytes 10 and 11 of the place"."""
-    refusal, _ = judge_both(card, configuration)
+    in bytes 10 and 11 of the place". "A place is saved in its card's edition", with 76
+    for 44 and the goals at 44 in edition 2."""
+    refusal, accepted = judge_both(card, configuration)
     if refusal != DONE:
         return refusal, b""
     beliefs, goals, plan, length, phase, finished = configuration
-    if PLACE_HEADER + length > room:
+    edition = accepted.edition
+    if edition.place_header + length > room:
         return NO_ROOM, b""
-    header = PLACE_MARK + struct.pack("<HHHHH", EDITION, length, PLACE_HEADER, phase, finished)
-    return DONE, header + beliefs + goals + plan[:length]
+    numbers = edition.number, length, edition.place_header, phase, finished
+    sets = beliefs[:edition.set_bytes] + goals[:edition.set_bytes]
+    return DONE, PLACE_MARK + struct.pack("<HHHHH", *numbers) + sets + plan[:length]
 
 
 def restore(card, place):
@@ -884,7 +965,8 @@ def restore(card, place):
         refusal = judge_place(place, accepted)
     if refusal != DONE:
         return refusal, EMPTY
-    plan = place[PLACE_HEADER:]
+    beliefs, goals = map(widened, place_sets(place, accepted.edition))
+    plan = place[accepted.edition.place_header:]
     array = plan.ljust(PLAN_LIMIT, b"\0")
     phase, finished = number(place, 8), number(place, 10)
-    return DONE, Configuration(place[12:28], place[28:44], array, len(plan), phase, finished)
+    return DONE, Configuration(beliefs, goals, array, len(plan), phase, finished)

@@ -12,7 +12,7 @@ from cards import AND, BELIEVES, HAS_GOAL, NOT, OR, TRUE, Node
 ROOM_LIMIT = 2048
 
 # The atoms of these cards, so that numbers of one, two and three digits are printed.
-ATOMS = (1, 9, 10, 11, 99, 100, 101, 127, 128)
+ATOMS = (1, 9, 10, 11, 99, 100, 101, 127, 128, 129, 200, 255, 256, 256)
 
 
 def some_leaf(random, atoms):
@@ -91,8 +91,9 @@ def some_card(random, largest=cards.CARD_LIMIT):
     hardly anything else. The smallest card, where none is small enough."""
     for _ in range(60):
         atoms = random.choice(ATOMS)
+        layout = random.choice((1, 1, 2)) if atoms <= 128 else 2
         nodes = random.choice(SHAPES)(random, atoms)
-        card = cards.card(cards.Description(atoms=atoms, weights=[1], nodes=nodes))
+        card = cards.card(cards.Description(layout=layout, atoms=atoms, weights=[1], nodes=nodes))
         if len(card) <= largest:
             return card
     return cards.card(cards.smallest_card())

@@ -1,14 +1,14 @@
 """The program of document 01's section "The stripe card".
 
-"A program reads a card on standard input (at most 24,129 bytes), loads it and
-runs with budget 1,000."
+"A program reads a card on standard input", loads it and "runs with budget 1,000". "An
+edition 2 card is at most 32,352 bytes and the program reads one byte more."
 """
 
 import sys
 
 import guide
 
-INPUT_LIMIT = 24129
+INPUT_LIMIT = 32353
 BUDGET = 1000
 KIND_NAMES = ("select", "act", "revise")
 VERDICT_NAMES = ("bounded", "open")

@@ -31,9 +31,10 @@ def sheet(names, count=None, offsets=None):
     return struct.pack("<%dH" % (1 + len(offsets)), count, *offsets) + b"".join(names)
 
 
-def actions_card(actions):
+def actions_card(actions, edition=1):
     """A small card of so many actions."""
-    return cards.card(cards.Description(atoms=1, weights=[1] * actions, nodes=[Node(TRUE)]))
+    weights = [1] * actions
+    return cards.card(cards.Description(layout=edition, atoms=1, weights=weights, nodes=[Node(TRUE)]))
 
 
 # --- names by hand ----------------------------------------------------------

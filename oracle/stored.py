@@ -6,9 +6,10 @@ writes against the second.
     python3 oracle/stored.py --check    # says whether the files are just that
 
 Both files follow from a fixed seed and hold every clause of document 01's refusal
-table and of those of the requests 1, 2, 6 and 8, every range just inside, the edges of
+table and of those of the requests 1, 2, 6, 8 and 9, every range just inside, the edges of
 plans, rooms and budgets, the finished count of request 4, the goals struck by request 5,
-programs of request 6, deliberations that are gone on with, next moves and names of request 8.
+programs of request 6, deliberations that are gone on with, next moves and names of request
+8; all of it for cards of edition 1 and, but for what knows no set, of edition 2.
 """
 
 import argparse
@@ -47,15 +48,20 @@ ANSWERS = os.path.join("crates", "drill", "stdout")
 
 # The most bytes of a damaged card: the first of these that its damage fits in.
 SIZES = (300, 700, 1500, 3500, 11000, 65535)
-SMALL = SIZES[0]
+SMALL = {1: SIZES[0], 2: 480}
+
+# Of a damage of edition 2, every third card over so many bytes.
+LONG_CARD = 3500
 
 # A longer request is left out where there are others to choose from.
-SHORT_REQUEST = 150
+SHORT_REQUEST = 182
 
-# Atoms that no small card has.
+# Atoms that no small card has: those that an edition 1 place can hold, and the others.
 SET_ATOMS = (8, 15, 16, 63, 64, 119, 120, 127)
+WIDE_ATOMS = (128, 135, 136, 191, 192, 247, 248, 255)
 
 STRIPE = cards.card(cards.stripe_card())
+STRIPES = {1: STRIPE, 2: cards.card(cards.stripe_of_edition_2())}
 
 
 def random_of(*what):
@@ -63,17 +69,22 @@ def random_of(*what):
     return Random(" ".join([SEED] + [str(word) for word in what]))
 
 
-def small_card(random):
-    """A small good card with an entry of each kind, and the same card read."""
-    card = cards.card(cards.roomy_card(random, SMALL))
+def small_card(random, edition=1):
+    """A small good card of an edition with an entry of each kind, and the same card read."""
+    card = cards.card(cards.roomy_card(random, SMALL[edition], edition))
     return card, guide.judge(card)[1]
 
 
-def tempered_card(random, temper):
-    """A small good card of some temper."""
-    description = cards.roomy_card(random, SMALL)
+def tempered_card(random, temper, edition=1):
+    """A small good card of an edition and of some temper."""
+    description = cards.roomy_card(random, SMALL[edition], edition)
     temper(random, description)
     return cards.card(description)
+
+
+def in_turn(index):
+    """The editions in turn."""
+    return 1 + index % 2
 
 
 # --- cards of no bytes and cards with names ---------------------------------
@@ -106,10 +117,11 @@ def named_cases():
 # --- damaged cards ----------------------------------------------------------
 
 
-def damaged_case(name, item):
-    """A case of some damages, with as small a card as they fit in."""
-    for largest in SIZES:
-        case = cases.damaged_case(random_of(name), item, largest)
+def damaged_case(name, item, edition=1):
+    """A case of some damages to a card of an edition, with as small a card as they fit
+    in."""
+    for largest in SIZES[edition - 1:]:
+        case = cases.damaged_case(random_of(name, edition), item, largest, edition)
         if case is not None:
             return case
     raise ValueError("no card for %s" % name)
@@ -125,12 +137,18 @@ def thinned(case, turn, count):
 
 def damaged_cases():
     """Each clause of the refusals 1 to 9 alone, and every two rows at once, twice:
-    "they are tested in the table's order". Check answers for each, and the other
-    calls take turns."""
-    named = [(one.name, (one,)) for one in damage.CARD_DAMAGES]
-    named += [("%s %s" % (pair, again), pair) for again in range(2) for pair in damage.CARD_PAIRS]
-    for turn, (name, item) in enumerate(named):
-        yield thinned(damaged_case(name, item), turn, 3)
+    "they are tested in the table's order"; for cards of either edition. Check answers for
+    each, and the other calls take turns."""
+    named = [(one.name, (one,), edition) for one in damage.CARD_DAMAGES for edition in cards.EDITIONS]
+    named += [
+        ("%s %s" % (pair, edition), pair, edition)
+        for edition in cards.EDITIONS
+        for pair in damage.CARD_PAIRS
+    ]
+    for turn, (name, item, edition) in enumerate(named):
+        case = damaged_case(name, item, edition)
+        if edition == 1 or len(case.card) <= LONG_CARD or turn % 6 == 1:
+            yield thinned(case, turn // 2, 4 - edition)
 
 
 def loaded_requests(random, card, takes):
@@ -141,10 +159,13 @@ def loaded_requests(random, card, takes):
 
 
 def range_cases():
-    """Each range of a card just inside, and the calls on what it loads to."""
-    for one in damage.CARD_RANGES:
-        case = damaged_case(one.name, (one,))
-        yield case._replace(requests=loaded_requests(random_of(one.name), case.card, 2))
+    """Each range of a card of either edition just inside, and the calls on what it loads
+    to."""
+    for turn, (one, edition) in enumerate(itertools.product(damage.CARD_RANGES, cards.EDITIONS)):
+        case = damaged_case(one.name, (one,), edition)
+        if edition == 1 or len(case.card) <= LONG_CARD or turn % 6 == 1:
+            random = random_of(one.name, edition)
+            yield case._replace(requests=loaded_requests(random, case.card, 3 - edition))
 
 
 # --- damaged configurations and places --------------------------------------
@@ -161,10 +182,11 @@ def short_configuration(random, accepted):
 def configuration_cases():
     """Each clause of 13 and each range just inside, with each of list, take, run
     and save; once from a plan, and once from the empty configuration, where that
-    can be damaged so."""
-    for one in damage.CONFIGURATION_DAMAGES + damage.CONFIGURATION_RANGES:
-        random = random_of(one.name)
-        card, accepted = small_card(random)
+    can be damaged so; under cards of either edition."""
+    changes = damage.CONFIGURATION_DAMAGES + damage.CONFIGURATION_RANGES
+    for one, edition in itertools.product(changes, cards.EDITIONS):
+        random = random_of(one.name, edition)
+        card, accepted = small_card(random, edition)
         made = []
         for held in (short_configuration(random, accepted), guide.EMPTY):
             changed = one.change(random, accepted, held)
@@ -173,26 +195,41 @@ def configuration_cases():
                     cases.call_of_kind(random, kind, changed)
                     for kind in cases.CALLS_ON_CONFIGURATIONS
                 ]
-        yield Case(one.name, card, made)
+        if made:
+            yield Case(one.name, card, made)
 
 
-def place_case(again, damages):
-    """A restore of a place with some damages."""
+def place_case(edition, damages):
+    """A restore of a place of an edition with some damages; none, where there is no such
+    place."""
     name = " and ".join(one.name for one in damages)
-    random = random_of(name, again)
-    card, accepted = small_card(random)
-    described = cases.place_description(short_configuration(random, accepted))
-    place = damage.damaged_place(random, accepted, described, *damages)
-    return Case(name, card, [cases.request_restore(place)])
+    for again in range(8):
+        random = random_of(name, edition, again)
+        card, accepted = small_card(random, edition)
+        described = cases.place_description(short_configuration(random, accepted), edition)
+        place = damage.damaged_place(random, accepted, described, *damages)
+        if place is not None:
+            return [Case(name, card, [cases.request_restore(place)])]
+    return []
+
+
+def place_pair_case(edition, pair):
+    """A restore of a place of an edition with damages of two rows."""
+    for again in itertools.count():
+        damages = damage.pair_of_place_damages(random_of(pair, edition, again), *pair)
+        found = place_case(edition, damages)
+        if found:
+            return found
 
 
 def place_cases():
     """Each clause of a place's refusals and each range just inside, and every
-    two rows of a place at once, twice."""
-    for one in damage.PLACE_DAMAGES + damage.PLACE_RANGES:
-        yield place_case(0, (one,))
-    for again, pair in itertools.product(range(2), damage.PLACE_PAIRS):
-        yield place_case(again, damage.pair_of_place_damages(random_of(pair, again), *pair))
+    two rows of a place at once; of either edition."""
+    alone = damage.PLACE_DAMAGES + damage.PLACE_RANGES
+    for one, edition in itertools.product(alone, cards.EDITIONS):
+        yield from place_case(edition, (one,))
+    for edition, pair in itertools.product(cards.EDITIONS, damage.PLACE_PAIRS):
+        yield from place_pair_case(edition, pair)
 
 
 def longest_place_case():
@@ -201,24 +238,27 @@ def longest_place_case():
     return Case("a place of 4,096 bytes", STRIPE, [cases.request_restore(place)])
 
 
-def set_case(name, atom):
-    """Calls on a configuration with an atom that the card has not, and a restore
-    of its place."""
-    what = "atom %d in the %s" % (atom, name)
+def set_case(name, atom, edition):
+    """Calls on a configuration with an atom that the card of an edition has not, and a
+    restore of its place, where that can hold the atom."""
+    what = "atom %d in the %s, edition %d" % (atom, name, edition)
     random = random_of(what)
-    card, accepted = small_card(random)
+    card = cards.card(cards.in_edition(cards.roomy_card(random, SMALL[1], 1), edition))
+    _, accepted = guide.judge(card)
     held = short_configuration(random, accepted)
     held = held._replace(**{name: damage.with_atom(getattr(held, name), atom)})
     made = [cases.call_of_kind(random, kind, held) for kind in cases.CALLS_ON_CONFIGURATIONS]
-    made.append(cases.request_restore(cards.place(cases.place_description(held))))
+    if atom < cards.most_atoms(edition):
+        made.append(cases.request_restore(cards.place(cases.place_description(held, edition))))
     return Case(what, card, made)
 
 
 def set_cases():
     """ "A set has a bit at or above the number of atoms", in the first and the last
-    bytes of both sets and between."""
-    for name, atom in itertools.product(("beliefs", "goals"), SET_ATOMS):
-        yield set_case(name, atom)
+    bytes of both sets and between; "under an edition 1 card" from 128 on too."""
+    atoms = SET_ATOMS + WIDE_ATOMS
+    for edition, name, atom in itertools.product(cards.EDITIONS, ("beliefs", "goals"), atoms):
+        yield set_case(name, atom, edition)
 
 
 # --- long plans -------------------------------------------------------------
@@ -231,26 +271,27 @@ def long_plan(length):
     return guide.Configuration(cards.atoms_set(0, 3), cards.atoms_set(2), plan, length, 2, 300)
 
 
-def long_plan_case(length):
+def long_plan_case(length, edition):
     """The calls on a plan of that many actions: what a revision leaves has one
     more, and the last of these is over 1,024."""
-    random, held = random_of("long", length), long_plan(length)
+    random, held, header = random_of("long", length), long_plan(length), cards.place_header(edition)
     asked = [(drill.LIST, 1), (drill.LIST, 0), (drill.TAKE, 512), (drill.TAKE, 513)]
     asked += [(drill.RUN, budget) for budget in (0, 1, 2, 40)]
-    asked += [(drill.SAVE, 44 + length), (drill.SAVE, 43 + length)]
+    asked += [(drill.SAVE, header + length), (drill.SAVE, header - 1 + length)]
     made = [cases.request_about(random, kind, held, value) for kind, value in asked]
-    made.append(cases.request_restore(cards.place(cases.place_description(held))))
-    return Case("a plan of %d actions" % length, STRIPE, made)
+    made.append(cases.request_restore(cards.place(cases.place_description(held, edition))))
+    return Case("a plan of %d actions" % length, STRIPES[edition], made)
 
 
 def long_plan_cases():
     """Plans of 1,022, 1,023 and 1,024 actions, and revisions of growing cards
     that leave exactly 1,024 and 1,025."""
     for length in (1022, 1023, 1024):
-        yield long_plan_case(length)
+        yield long_plan_case(length, 1)
+    yield long_plan_case(1024, 2)
     for index in range(10):
         random = random_of("full", index)
-        card = tempered_card(random, cards.temper_growing)
+        card = tempered_card(random, cards.temper_growing, in_turn(index))
         made = cases.full_requests(random, guide.judge(card)[1])
         yield Case("full %d" % index, card, made)
 
@@ -278,7 +319,10 @@ def nested_case(index):
     """False conditions of a card with nested ones, and the choices refused in what
     it loads to."""
     random = random_of("nested", index)
-    card = cards.card(cards.nested_card(random))
+    description = cards.in_edition(cards.nested_card(random), in_turn(index))
+    if index % 2 == 1:
+        cards.spread(random, description)
+    card = cards.card(description)
     _, accepted = guide.judge(card)
     made = [request for _ in range(4) for request in cases.closed_requests(random, accepted)]
     loaded = guide.load(card)[1]
@@ -329,7 +373,7 @@ def turned_case(index):
     keep it"."""
     name = "finished: turned %d" % index
     random, made = random_of(name), []
-    card = tempered_card(random, cards.temper_endless)
+    card = tempered_card(random, cards.temper_endless, in_turn(index))
     held = guide.load(card)[1]._replace(finished=random.choice((0, 65530, 65534)))
     for budget in (1, 2, 3, 5, 8):
         made.append(cases.request_about(random, drill.RUN, held, budget))
@@ -398,7 +442,7 @@ def room_requests(random, card, held):
     """Lists and saves with exactly the room needed, one less, one more, and
     none."""
     _, count, _ = guide.list_choices(card, held, drill.LIST_LIMIT)
-    size = 44 + held.length
+    size = guide.edition_of(card).place_header + held.length
     rooms = [(drill.LIST, room) for room in damage.rooms_around(count, count + 7)]
     rooms += [(drill.SAVE, room) for room in damage.rooms_around(size, size + 9)]
     return [cases.request_about(random, kind, held, room) for kind, room in rooms]
@@ -413,7 +457,7 @@ def room_cases():
     yield Case("the longest lists and buffers", STRIPE, made)
     for index in range(14):
         random = random_of("rooms", index)
-        card, accepted = small_card(random)
+        card, accepted = small_card(random, in_turn(index))
         made = []
         for held in (guide.load(card)[1], short_configuration(random, accepted)):
             made += room_requests(random, card, held)
@@ -458,7 +502,7 @@ def budget_cases():
     for temper, count in RUN_TEMPERS:
         for index in range(count):
             name = "budgets, %s %d" % (temper.__name__, index)
-            yield budget_case(name, tempered_card(random_of(name, "card"), temper))
+            yield budget_case(name, tempered_card(random_of(name, "card"), temper, in_turn(index)))
 
 
 # --- verdicts ---------------------------------------------------------------
@@ -478,7 +522,8 @@ def verdict_cases():
     revision rule."""
     for temper, index in itertools.product(GRADE_TEMPERS, range(12)):
         name = "verdict, %s %d" % (temper.__name__, index)
-        yield Case(name, tempered_card(random_of(name), temper), cases.plain_requests())
+        card = tempered_card(random_of(name), temper, in_turn(index))
+        yield Case(name, card, cases.plain_requests())
 
 
 # --- texts ------------------------------------------------------------------
@@ -623,10 +668,19 @@ def printed_by_hand_case():
     return print_case("prints by hand", card, roots)
 
 
+def wide_atoms_case():
+    """Atoms from 128 on in conditions of an edition 2 card."""
+    nodes = [cards.Node(kind, atom) for kind in (cards.BELIEVES, cards.HAS_GOAL) for atom in WIDE_ATOMS]
+    nodes += [cards.Node(cards.NOT, 7), cards.Node(cards.AND, 16, 15), cards.Node(cards.OR, 17, 8)]
+    description = cards.Description(layout=2, atoms=256, weights=[1], nodes=nodes)
+    return print_case("prints of atoms from 128 on", cards.card(description), range(len(nodes) + 1))
+
+
 def print_cases():
     """Conditions by hand; nodes around 32 deep and around 256 printed nodes; cards of
     each refusal; others by seed."""
     yield printed_by_hand_case()
+    yield wide_atoms_case()
     yield print_case("prints of the stripe card", STRIPE, [0, 1, 3, 4, 5, 6, 7, 255, 256, 65535])
     yield print_case("prints of shared nodes", closed.SHARED, [0, 1, 2, 6, 7, 8, 9, 32, 33, 34, 254, 255, 256])
     yield print_case("prints of a wide card", prints.WIDE, [126, 127, 128, 129])
@@ -644,7 +698,7 @@ def print_cases():
 # --- programs ---------------------------------------------------------------
 
 # Of the programs by seed, longer requests are left out.
-LONG_PROGRAM = 260
+LONG_PROGRAM = 292
 
 # A good program on the card of the programs by hand, and a configuration with a finished
 # count.
@@ -753,7 +807,7 @@ def seeded_programs():
         yield Case("programs %d" % index, card, short)
     for index in range(6):
         random = random_of("long programs", index)
-        card, accepted = small_card(random)
+        card, accepted = small_card(random, in_turn(index))
         made = []
         for make in (schemes.shared, schemes.deep):
             whole = programs.program(make(random, accepted))
@@ -774,7 +828,7 @@ def program_cases():
 # --- going on ---------------------------------------------------------------
 
 # Of the numbers by hand, longer requests are left out but for these.
-LONG_GONE_ON = 300
+LONG_GONE_ON = 332
 MOST_NUMBERS = (
     "gone on: 65 whiles, budget 99",
     "gone on: full, budget 9",
@@ -970,7 +1024,7 @@ def seeded_names():
         actions = random.choice((1, 2, 3, 5, 9))
         made = cases.name_requests(random, actions, 14, 400)
         short = [request for request in made if len(request) <= LONG_NAME]
-        yield Case("names %d" % index, sheets.actions_card(actions), short[:8])
+        yield Case("names %d" % index, sheets.actions_card(actions, in_turn(index)), short[:8])
 
 
 def name_cases():

@@ -144,7 +144,7 @@ def reached(state, beliefs, goals, plan, kind):
 
 def atoms(held):
     """The atoms of a set of the card."""
-    return frozenset(k for k in range(128) if held[k // 8] >> k % 8 & 1)
+    return frozenset(k for k in range(8 * len(held)) if held[k // 8] >> k % 8 & 1)
 
 
 def executed(card, state):

@@ -299,7 +299,7 @@ class BySeed(unittest.TestCase):
         """Each number, each ending, no, one and many numbers; deliberations of which moves
         are made before and after the cut."""
         numbers, endings, given, cut = Counter(), Counter(), Counter(), 0
-        for case in cases.generate_cuts(1, 600, 700):
+        for case in cases.generate_cuts(1, 900, 700):
             self.assertLessEqual(len(case.card), 700)
             before = 0
             for request in case.requests:

@@ -3,8 +3,10 @@ damages' numbers, the closed moves of request 1, the finished count of request 4
 struck goals of request 5, the drill's bytes, that a seed gives the same bytes, and what
 the stored requests hold. Those of request 2 are in `test_text.py`, those of request 6 in
 `test_deliberation.py`, those of going on in `test_going_on.py`, those of the next move in
-`test_next.py`, those of request 8 in `test_names.py`; they run with these."""
+`test_next.py`, those of request 8 in `test_names.py`, those of request 9 in
+`test_editions.py`; they run with these."""
 
+import itertools
 import time
 from collections import Counter
 import unittest
@@ -28,6 +30,7 @@ import slips
 import stored
 import struck
 import test_deliberation
+import test_editions
 import test_going_on
 import test_names
 import test_next
@@ -196,8 +199,15 @@ class NamedCards(unittest.TestCase):
         self.assertEqual(program.lines(STRIPE + b"\0"), ["refused 4"])
 
     def test_sizes(self):
-        """The smallest card has 70 bytes, the maximal one 24,128."""
-        for describe, size in ((cards.smallest_card, 70), (cards.maximal_card, 24128)):
+        """The smallest card has 70 bytes, the maximal one 24,128; 102 and "at most 32,352
+        bytes" in edition 2."""
+        for describe, size in (
+            (cards.smallest_card, 70),
+            (cards.maximal_card, 24128),
+            (cards.smallest_of_edition_2, 102),
+            (cards.stripe_of_edition_2, 383),
+            (cards.maximal_of_edition_2, 32352),
+        ):
             card = cards.card(describe())
             self.assertEqual((len(card), guide.check(card)), (size, 0))
 
@@ -222,39 +232,44 @@ class Damages(unittest.TestCase):
     def test_card_damages_alone(self):
         """Each clause broken alone, each range just inside."""
         random = Random("alone")
-        for one in (damage.CARD_DAMAGES + damage.CARD_RANGES) * 3:
+        for one in (damage.CARD_DAMAGES + damage.CARD_RANGES) * 4:
             card = damage.damaged_card(random, cards.roomy_card(random), one)
             self.assertEqual(guide.check(card), one.number, one.name)
 
     def test_card_damages_in_pairs(self):
         """Two clauses of different rows: the lower row answers."""
         random = Random("pairs")
-        for low, high in damage.CARD_PAIRS * 5:
+        for low, high in damage.CARD_PAIRS * 12:
             pair = damage.pair_of_damages(random, low, high)
             card = damage.damaged_card(random, cards.roomy_card(random), *pair)
-            self.assertEqual(guide.check(card), low, [one.name for one in pair])
+            self.assertEqual(guide.check(card), pair[0].number, [one.name for one in pair])
 
     def test_place_damages(self):
         """Each clause of a place alone and just inside, and the card first."""
         random = Random("places")
-        for one in (damage.PLACE_DAMAGES + damage.PLACE_RANGES) * 3:
+        for one in (damage.PLACE_DAMAGES + damage.PLACE_RANGES) * 6:
             card = cards.card(cards.roomy_card(random))
             _, accepted = guide.judge(card)
-            held = cases.place_description(cases.random_configuration(random, accepted))
+            configuration = cases.random_configuration(random, accepted)
+            held = cases.place_description(configuration, accepted.edition.number)
             place = damage.damaged_place(random, accepted, held, one)
-            self.assertEqual(guide.restore(card, place)[0], one.number, one.name)
-            self.assertEqual(guide.restore(card + b"\0", place), (4, guide.EMPTY))
+            if place is not None:
+                self.assertEqual(guide.restore(card, place)[0], one.number, one.name)
+                self.assertEqual(guide.restore(card + b"\0", place), (4, guide.EMPTY))
 
     def test_place_damages_in_pairs(self):
         """Two rows of a place at once: the lower answers."""
         random = Random("place pairs")
-        for low, high in damage.PLACE_PAIRS * 5:
+        for low, high in damage.PLACE_PAIRS * 20:
             card = cards.card(cards.roomy_card(random))
             _, accepted = guide.judge(card)
-            held = cases.place_description(cases.random_configuration(random, accepted))
+            configuration = cases.random_configuration(random, accepted)
+            held = cases.place_description(configuration, accepted.edition.number)
             pair = damage.pair_of_place_damages(random, low, high)
             place = damage.damaged_place(random, accepted, held, *pair)
-            self.assertEqual(guide.restore(card, place)[0], low, [one.name for one in pair])
+            if place is not None:
+                names = [one.name for one in pair]
+                self.assertEqual(guide.restore(card, place)[0], pair[0].number, names)
 
     def test_configuration_damages(self):
         """Each clause of 13 alone and just inside, in each of the four calls."""
@@ -443,7 +458,7 @@ class FinishedCounts(unittest.TestCase):
                     found, again = guide.take(card, held, choice), guide.take(card, other, choice)
                     self.assertEqual(found[:2], again[:2])
                     self.assertEqual(found[2][:5], again[2][:5])
-                place, again = guide.save(card, held, 1068)[1], guide.save(card, other, 1068)[1]
+                place, again = guide.save(card, held, 1100)[1], guide.save(card, other, 1100)[1]
                 self.assertEqual((place[:10], place[12:]), (again[:10], again[12:]))
 
 
@@ -509,13 +524,13 @@ class GoodCards(unittest.TestCase):
     def test_good_cards(self):
         """Every card is good, small enough, and comes back the same by place."""
         random = Random("good")
-        for largest in (70, 255, 700, 24128):
+        for largest in (70, 102, 255, 700, 24128, 32352):
             for _ in range(60):
                 card = cards.card(cards.good_card(random, largest))
                 self.assertEqual(guide.check(card), 0)
                 self.assertLessEqual(len(card), largest)
                 held = cases.random_configuration(random, guide.judge(card)[1])
-                place = guide.save(card, held, 1068)[1]
+                place = guide.save(card, held, 1100)[1]
                 self.assertEqual(guide.restore(card, place), (0, held))
 
     def test_bounded_runs(self):
@@ -612,7 +627,7 @@ def how_risen(before, after):
 
 def sorts_of_count(card, request, answer):
     """The sorts of finished count that a request with its answer is. The plan's length
-    is at 32 of an image, and the finished count at 35."""
+    is at 64 of an image, and the finished count at 67."""
     call, number = cases.CALL_NAMES[cases.column(request)], guide.number(answer, 0)
     if call == "restore" and number == 0:
         return [(call, request[13] != 0, request[14] != 0)]
@@ -624,9 +639,9 @@ def sorts_of_count(card, request, answer):
     if call == "save":
         return [(call, held.finished % 256 != 0, held.finished > 255)]
     if call == "run":
-        return [(call, how_risen(held.finished, guide.number(answer, 2 + 35)))]
+        return [(call, how_risen(held.finished, guide.number(answer, 2 + 67)))]
     how = {0: "none", 65535: "most"}.get(held.finished, "some")
-    return [(call, value // 256, guide.number(answer, 4 + 32) == 0, how)]
+    return [(call, value // 256, guide.number(answer, 4 + 64) == 0, how)]
 
 
 # What a sort of request about goals is called by: for a load whether a goal falls; for
@@ -679,7 +694,7 @@ def sorts_of_goals(card, request, answer):
     """The sorts of request about goals that a request with its answer is."""
     call, number = cases.CALL_NAMES[cases.column(request)], guide.number(answer, 0)
     if call == "load" and number == 0:
-        return [("load", answer[18:34] != card[48:64])]
+        return [("load", answer[34:66] != guide.widened(guide.initial_sets(card)[1]))]
     if call == "restore" and number == 0:
         return [(call, "believed goal")] if both(guide.restore(card, request[3:])[1]) else []
     if call not in ("list", "take", "run", "save"):
@@ -790,10 +805,10 @@ class Stored(unittest.TestCase):
 
     def test_same_bytes(self):
         """The bytes are the same each time, 3,000 requests at least, in files of
-        less than 1.6 million bytes."""
+        less than 2.8 million bytes."""
         self.assertEqual(stored.make_files(), (self.files, self.met))
         self.assertGreaterEqual(sum(map(sum, self.met)), 3000)
-        self.assertLess(max(map(len, self.files.values())), 1600000)
+        self.assertLess(max(map(len, self.files.values())), 2800000)
 
     def test_one_stream(self):
         """The drill's answers to the one file are the other."""
@@ -831,24 +846,27 @@ class Stored(unittest.TestCase):
     def test_unknown_atoms(self):
         """An atom past those of the card, in any byte of a set: 13, and 9 for the
         place."""
-        for name in ("beliefs", "goals"):
-            for atom in stored.SET_ATOMS:
-                case = self.named["atom %d in the %s" % (atom, name)]
-                self.assertEqual(self.numbers(case), [13, 13, 13, 13, 9], case.name)
+        atoms = stored.SET_ATOMS + stored.WIDE_ATOMS
+        for edition, name, atom in itertools.product(cards.EDITIONS, ("beliefs", "goals"), atoms):
+            case = self.named["atom %d in the %s, edition %d" % (atom, name, edition)]
+            place = [9] if atom < cards.most_atoms(edition) else []
+            self.assertEqual(self.numbers(case), [13] * 4 + place, case.name)
 
     def test_every_two_rows(self):
-        """Each two rows of a card and of a place at once, the lower answers."""
-        for damages, pairs in (
-            (damage.CARD_DAMAGES, damage.CARD_PAIRS),
-            (damage.PLACE_DAMAGES, damage.PLACE_PAIRS),
+        """Each two rows of a card and of a place at once, of either edition, the lower
+        answers: 1 for a file under 4 bytes, 2, then 1 for one shorter than its header."""
+        for rows, pairs in (
+            (damage.CARD_ROWS, damage.CARD_PAIRS),
+            (damage.PLACE_ROWS, damage.PLACE_PAIRS),
         ):
-            number = {one.name: one.number for one in damages}
+            of_name = {one.name: (at, one.number) for at, row in enumerate(rows) for one in row}
             met = set()
             for case in self.cases:
-                rows = sorted(number.get(name, 0) for name in case.name.split(" and "))
-                if len(rows) == 2 and rows[0] > 0:
-                    self.assertEqual(self.numbers(case)[0], rows[0], case.name)
-                    met.add(tuple(rows))
+                found = [of_name[name] for name in case.name.split(" and ") if name in of_name]
+                if len(found) == 2:
+                    found.sort()
+                    self.assertEqual(self.numbers(case)[0], found[0][1], case.name)
+                    met.add((found[0][0], found[1][0]))
             self.assertEqual(met, set(pairs))
 
     def test_every_answer_of_each_call(self):
@@ -884,7 +902,7 @@ class Stored(unittest.TestCase):
             spare, rooms = set(), set()
             for card, asked, _ in self.each(kind):
                 _, held, room = cases.read_about(asked)
-                needed = 44 + held.length
+                needed = guide.edition_of(card).place_header + held.length
                 if kind == drill.LIST:
                     needed = guide.list_choices(card, held, most)[1]
                 spare.add(room - needed if needed else None)
@@ -898,7 +916,7 @@ class Stored(unittest.TestCase):
         for kind in cases.CALLS_ON_CONFIGURATIONS:
             lengths = {cases.read_about(asked)[1].length for _, asked, _ in self.each(kind)}
             self.assertLessEqual({1022, 1023, 1024}, lengths)
-        taken = [(guide.number(a, 0), guide.number(a, 36)) for _, _, a in self.each(drill.TAKE)]
+        taken = [(guide.number(a, 0), guide.number(a, 68)) for _, _, a in self.each(drill.TAKE)]
         self.assertIn((0, 1024), taken)
         self.assertIn((11, 1024), taken)
 
@@ -927,7 +945,7 @@ class Stored(unittest.TestCase):
             case = self.named[name]
             self.assertEqual(cases.read_about(case.requests[0]), (drill.TAKE, held, choice), name)
             answer = drill.answer(card, *case.requests)
-            found = guide.number(answer, 0), guide.number(answer, 39)
+            found = guide.number(answer, 0), guide.number(answer, 71)
             self.assertEqual(found, (number, count), name)
         runs = [case for case in self.cases if case.name == "finished: runs"]
         found = [cases.read_about(asked)[1:] for case in runs for asked in case.requests]
@@ -1199,7 +1217,7 @@ class Stored(unittest.TestCase):
 class DrillBytes(unittest.TestCase):
     """The drill's requests and answers, written out by hand."""
 
-    LOADED = b"\x09" + bytes(15) + b"\x04" + bytes(15) + bytes([0, 0, 0, 0, 0, 0, 0])
+    LOADED = b"\x09" + bytes(31) + b"\x04" + bytes(31) + bytes([0, 0, 0, 0, 0, 0, 0])
     CARD = b"\x00\xff\x00" + STRIPE_BYTES
 
     def answers(self, *requests):
@@ -1209,7 +1227,7 @@ class DrillBytes(unittest.TestCase):
     def test_no_card(self):
         """At first the card is that of no bytes."""
         self.assertEqual(drill.answers(b"\x01"), b"\x01\x00")
-        self.assertEqual(drill.answers(b"\x02"), b"\x01\x00" + bytes(39))
+        self.assertEqual(drill.answers(b"\x02"), b"\x01\x00" + bytes(71))
         self.assertEqual(drill.answers(b"\x03"), b"\x01\x00" + bytes(4))
 
     def test_check_load_grade(self):
@@ -1227,7 +1245,7 @@ class DrillBytes(unittest.TestCase):
         """Selection 0; a code that is none; action 0, as the plan is empty: number,
         node 0, image."""
         request = b"\x05" + self.LOADED
-        after = self.LOADED[:32] + bytes([1, 0, 1, 0, 0, 1, 0, 4])
+        after = self.LOADED[:64] + bytes([1, 0, 1, 0, 0, 1, 0, 4])
         found = self.answers(request + b"\x00\x00", request + b"\x00\x03", request + b"\x00\x01")
         refused = b"\x0e\0\0\0" + self.LOADED + b"\x0f\0\0\0" + self.LOADED
         self.assertEqual(found, b"\0\0\0\0" + after + refused)
@@ -1235,29 +1253,30 @@ class DrillBytes(unittest.TestCase):
     def test_take_under_a_false_condition(self):
         """P6: 16 and node 2, and the configuration as it came in, with the least
         m."""
-        held = bytes(32) + bytes([1, 0, 0, 9, 8, 1, 0, 3])
-        wider = bytes(32) + bytes([1, 0, 0, 9, 8, 2, 0, 3, 0])
+        held = bytes(64) + bytes([1, 0, 0, 9, 8, 1, 0, 3])
+        wider = bytes(64) + bytes([1, 0, 0, 9, 8, 2, 0, 3, 0])
         found = self.answers(b"\x05" + wider + b"\x01\x02")
         self.assertEqual(found, b"\x10\0\x02\0" + held)
 
     def test_run(self):
         """Budget 4: the plan 2 0 has m 1, as its last byte is zero."""
         found = self.answers(b"\x06" + self.LOADED + b"\x04\x00")
-        after = b"\x0b" + bytes(15) + b"\x04" + bytes(15) + bytes([2, 0, 0, 0, 0, 1, 0, 2])
+        after = b"\x0b" + bytes(31) + b"\x04" + bytes(31) + bytes([2, 0, 0, 0, 0, 1, 0, 2])
         self.assertEqual(found, b"\0\0" + after + b"\x04\0" + b"\0")
 
     def test_finished_count(self):
         """The stripe card's run to its end, from the count 02FF hex: it ends with 0300
         hex, and its place has that in bytes 10 and 11."""
-        held = self.LOADED[:35] + b"\xff\x02" + bytes(2)
-        after = b"\x05" + bytes(31) + bytes([0, 0, 2, 0, 3, 0, 0])
+        held = self.LOADED[:67] + b"\xff\x02" + bytes(2)
+        after = b"\x05" + bytes(63) + bytes([0, 0, 2, 0, 3, 0, 0])
         found = self.answers(b"\x06" + held + b"\x09\0", b"\x07" + after + b"\x2c\0")
-        place = bytes.fromhex("3350 0100 0000 2C00 0200 0003") + after[:32]
+        place = bytes.fromhex("3350 0100 0000 2C00 0200 0003") + after[:16] + after[32:48]
         self.assertEqual(found, b"\0\0" + after + b"\x06\0\x01" + b"\0\0" + place)
 
     def test_save_and_restore(self):
         """A save in a room of 45 and of 43, and the place restored."""
-        place = bytes.fromhex("3350 0100 0000 2C00 0000 0000") + self.LOADED[:32]
+        sets = self.LOADED[:16] + self.LOADED[32:48]
+        place = bytes.fromhex("3350 0100 0000 2C00 0000 0000") + sets
         request = b"\x07" + self.LOADED
         found = self.answers(request + b"\x2d\0", request + b"\x2b\0", b"\x08\x2c\0" + place)
         expected = b"\0\0" + place + b"\xee" + b"\x0c\0" + b"\xee" * 43 + b"\0\0" + self.LOADED
@@ -1266,8 +1285,8 @@ class DrillBytes(unittest.TestCase):
     def test_refused_configuration_comes_back(self):
         """A byte after the plan's end: 13, and the configuration as it came in,
         with the least m."""
-        held = self.LOADED[:32] + bytes([0, 0, 0, 5, 1, 3, 0, 0, 7, 0])
-        back = self.LOADED[:32] + bytes([0, 0, 0, 5, 1, 2, 0, 0, 7])
+        held = self.LOADED[:64] + bytes([0, 0, 0, 5, 1, 3, 0, 0, 7, 0])
+        back = self.LOADED[:64] + bytes([0, 0, 0, 5, 1, 2, 0, 0, 7])
         found = self.answers(b"\x06" + held + b"\x09\0")
         self.assertEqual(found, b"\x0d\0" + back + b"\0\0\0")
 
@@ -1276,7 +1295,7 @@ class DrillBytes(unittest.TestCase):
         remains; in a budget of 2 it is stuck with that. A program of no bytes: 19."""
         asked = bytes([2, 0, 0, 0, 0, 0, 0, 0, 5, 0, 1, 0])
         about = b"\x0b\x0c\0" + asked + self.LOADED
-        after = self.LOADED[:32] + bytes([1, 0, 1, 0, 0, 1, 0, 4])
+        after = self.LOADED[:64] + bytes([1, 0, 1, 0, 0, 1, 0, 4])
         found = self.answers(about + b"\x01\0", about + b"\x02\0")
         for ending, at in ((b"\0", 0), (b"\x02", 1)):
             answer = b"\0\0" + after + b"\x01\0" + ending + b"\x01\0\x01"
@@ -1290,7 +1309,7 @@ class DrillBytes(unittest.TestCase):
         the whole it is as `deliberate`; of an entry that is none, or one too high before
         another, it is 19."""
         asked = b"\x15\x0c\0" + bytes([2, 0, 0, 0, 0, 0, 0, 0, 5, 0, 1, 0])
-        after = self.LOADED[:32] + bytes([1, 0, 1, 0, 0, 1, 0, 4])
+        after = self.LOADED[:64] + bytes([1, 0, 1, 0, 0, 1, 0, 4])
         found = self.answers(asked + b"\x01\0\x01" + after + b"\x01\0")
         self.assertEqual(found, b"\0\0" + after + b"\0\0" + b"\x02" + b"\x01\0\x01")
         none = asked + b"\0\0" + self.LOADED
@@ -1308,8 +1327,8 @@ class DrillBytes(unittest.TestCase):
     def test_next(self):
         """The stripe card's first move, selection 0; its second, revision 0; at rest; and
         with a phase of 3."""
-        second = self.LOADED[:32] + bytes([1, 0, 1, 0, 0, 1, 0, 4])
-        rest = b"\x05" + bytes(31) + bytes([0, 0, 2, 1, 0, 0, 0])
+        second = self.LOADED[:64] + bytes([1, 0, 1, 0, 0, 1, 0, 4])
+        rest = b"\x05" + bytes(63) + bytes([0, 0, 2, 1, 0, 0, 0])
         wrong = self.LOADED[:34] + b"\x03" + self.LOADED[35:]
         found = self.answers(*(b"\x16" + held for held in (self.LOADED, second, rest, wrong)))
         self.assertEqual(found, bytes.fromhex("0000 00 0000 0000 00 0002 0000 01 0000 0D00 00 0000"))
@@ -1358,7 +1377,8 @@ class DrillBytes(unittest.TestCase):
 def load_tests(loader, tests, pattern):
     """The tests of this file, and those of the requests 2, 6 and 8, of going on and of the
     next move."""
-    for module in (test_text, test_deliberation, test_going_on, test_next, test_names):
+    modules = test_text, test_deliberation, test_going_on, test_next, test_names, test_editions
+    for module in modules:
         tests.addTests(loader.loadTestsFromModule(module))
     return tests
 

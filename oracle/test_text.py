@@ -506,9 +506,9 @@ class TextCases(unittest.TestCase):
                         self.assertLessEqual(len(cases.read_text(request)[0]), largest)
 
     def test_every_answer_is_met(self):
-        """Over 300 cases each answer to a text and to a print is met several times, in
+        """Over 900 cases each answer to a text and to a print is met several times, in
         one stream as one by one."""
-        some, met = list(cases.generate_texts(1, 300, 3000)), Counter()
+        some, met = list(cases.generate_texts(2, 900, 3000)), Counter()
         single = []
         for case in some:
             for request in case.requests:

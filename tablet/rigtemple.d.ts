@@ -1,10 +1,13 @@
 /* The types of rigtemple.js. What each call does and answers is said in rigtemple.h. */
 
 export declare const VERSION: string;
-export declare const SET_BYTES: 16;
-export declare const MOST_CARD_BYTES: 24128;
+export declare const SET_BYTES: 32;
+export declare const MOST_ATOMS: 256;
+export declare const MOST_CARD_BYTES: 32352;
 export declare const MOST_PLAN_ACTIONS: 1024;
-export declare const MOST_PLACE_BYTES: 1068;
+export declare const MOST_PLACE_BYTES: 1100;
+export declare const MOST_CARD_BYTES_OF_EDITION_1: 24128;
+export declare const MOST_PLACE_BYTES_OF_EDITION_1: 1068;
 export declare const MOST_LIST_ENTRIES: 768;
 export declare const MOST_PRINTED_BYTES: 894;
 export declare const MOST_PROGRAM_BYTES: 512;
@@ -40,9 +43,9 @@ export declare function numberOf(code: number): number;
 
 /** Where a weaver stands in a card. */
 export interface Configuration {
-  /** 16 bytes: atom k is in the set if bit (k modulo 8) of byte (k divided by 8) is 1. */
+  /** 32 bytes: atom k is in the set if bit (k modulo 8) of byte (k divided by 8) is 1. */
   beliefs: Uint8Array;
-  /** 16 bytes, the same. */
+  /** 32 bytes, the same. */
   goals: Uint8Array;
   /** 1,024 bytes, the next action first, zeros from `length` on. */
   plan: Uint8Array;

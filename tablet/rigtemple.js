@@ -11,13 +11,16 @@
  * be any; what is not a Uint8Array, or a number that its field cannot hold, is a mistake of the page, and throws.
  */
 
-export const VERSION = "3.3";
+export const VERSION = "4.0";
 
 /* Sizes, as rigtemple.h has them. */
-export const SET_BYTES = 16;
-export const MOST_CARD_BYTES = 24128;
+export const SET_BYTES = 32;
+export const MOST_ATOMS = 256;
+export const MOST_CARD_BYTES = 32352;
 export const MOST_PLAN_ACTIONS = 1024;
-export const MOST_PLACE_BYTES = 1068;
+export const MOST_PLACE_BYTES = 1100;
+export const MOST_CARD_BYTES_OF_EDITION_1 = 24128;
+export const MOST_PLACE_BYTES_OF_EDITION_1 = 1068;
 export const MOST_LIST_ENTRIES = 768;
 export const MOST_PRINTED_BYTES = 894;
 export const MOST_PROGRAM_BYTES = 512;
@@ -160,7 +163,7 @@ export function guideOf(instance) {
 
   /* Makes a call. A length is 64 bits there, and of the result the low 16 are the answer. */
   function ask(name, ...words) {
-    const answer = exports[`rigtemple_${name}_parts`](...words) & 65535;
+    const answer = exports[`rigtemple_4_${name}_parts`](...words) & 65535;
     return { answer, name: answerName(answer) };
   }
   const pair = (lent, bytes) => [lent.bytes(bytes), BigInt(bytes.length)];
@@ -318,7 +321,7 @@ export function guideOf(instance) {
     },
 
     /* The card of a text, given as bytes; or the place of the first byte that is wrong. */
-    text(text, room = MOST_CARD_BYTES) {
+    text(text, room = MOST_CARD_BYTES_OF_EDITION_1) {
       const lent = new Lent(exports);
       const given = pair(lent, asBytes(text, "the text"));
       const card = lent.room(asNumber(room, "the room", 65535));

@@ -57,7 +57,7 @@ held = ctypes.c_char_p, ctypes.c_size_t
 app.app_begin.argtypes = (*held, ctypes.c_char_p)
 app.app_next.argtypes = (*held, *held)
 app.app_made.argtypes = (*held, *held, ctypes.c_uint16, ctypes.c_char_p)
-buffer = ctypes.create_string_buffer(1068)
+buffer = ctypes.create_string_buffer(1100)
 assert app.app_begin(loop, len(loop), buffer) == -6
 count, moves = app.app_begin(card, len(card), buffer), []
 place = buffer.raw[:count]
@@ -95,7 +95,7 @@ if command -v cmake >/dev/null && command -v cc >/dev/null; then
     android_toolchain armv7-a armv7-none-linux-androideabi24 >"$room/armv7-a.cmake"
     expect 'another processor is refused' refused_by_cmake "the processor is 'armv7-a'" \
         -S "$root/examples/tablet" -B "$room/armv7-a" "-DCMAKE_TOOLCHAIN_FILE=$room/armv7-a.cmake"
-    for version in 3.999 4.0 2.0; do
+    for version in 4.999 5.0 3.3; do
         of_version "$version"
         expect "version $version is refused" refused_by_cmake "requested version \"$version\"" \
             -S "$room/version.$version" -B "$room/version.$version/build"

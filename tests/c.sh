@@ -1,7 +1,7 @@
 #!/bin/sh
 # The library as C sees it: include/rigtemple.h as C and as C++, its words for the answers, the
-# eight calls with a turned screen, what comes next, the two over text, deliberation and going on,
-# names, and the drill over the header against the oracle, byte for byte: on the stored requests of
+# eight calls with a turned screen, both editions, what comes next, the two over text, deliberation
+# and going on, names, and the drill over the header against the oracle, byte for byte: on the stored requests of
 # crates/drill, and on requests by seed. The last line is 'N passed, M failed'.
 #
 #   tests/c.sh [--engine] [--seed N] [--cards N] [--texts N] [--programs N] [--names N]
@@ -21,7 +21,7 @@ programs=400
 names=400
 cuts=400
 next=400
-largest=24128
+largest=32352
 while [ $# -gt 0 ]; do
     case $1 in
     --engine) engine=--engine ;;
@@ -79,6 +79,25 @@ for edition in 'c c99' 'c c11' 'c c2x' 'c++ c++11' 'c++ c++17'; do
     expect "an answer that is ignored is told in $edition" told $edition
 done
 
+# The symbols have the version's first number, so that an app that was built with an older header,
+# whose sets were shorter, does not link.
+old_app() {
+    printf '%s\n' '#include <stddef.h>' '#include <stdint.h>' \
+        'uint16_t rigtemple_check_parts(const uint8_t *card, size_t card_len);' \
+        'int main(void) { return rigtemple_check_parts((const uint8_t *)"", 0); }' \
+        >"$work/old_app.c"
+    ! "$tests/build_c.sh" "$work/old_app" "$work/old_app.c" "$archive" 2>"$work/old_app.err" &&
+        grep -q 'undefined symbol: rigtemple_check_parts' "$work/old_app.err"
+}
+expect 'an app of an older version does not link' old_app
+numbered() {
+    first=$(sed -n 's/^#define RIGTEMPLE_VERSION_FIRST //p' "$root/include/rigtemple.h")
+    [ "$(grep -c "^uint16_t rigtemple_${first}_[a-z_]*_parts(" "$root/include/rigtemple.h")" -eq 14 ] &&
+        [ "$(grep -c "^#define rigtemple_\([a-z_]*\)_parts rigtemple_${first}_\1_parts$" \
+            "$root/include/rigtemple.h")" -eq 14 ]
+}
+expect "the symbols have the version's first number" numbered
+
 # The names and the sentences of the answers are those of docs/API.md's table.
 same_words() {
     {
@@ -93,9 +112,9 @@ same_words() {
 "$tests/build_c.sh" "$work/answer_words" "$tests/answer_words.c"
 expect "the words of the answers are docs/API.md's" same_words
 
-# The eight calls, with the screen turned in the middle of a run, what comes next, the two over text,
-# deliberation and going on, and names.
-for program in eight_calls next_calls text_calls deliberate_calls name_calls; do
+# The eight calls, with the screen turned in the middle of a run, both editions, what comes next, the
+# two over text, deliberation and going on, and names.
+for program in eight_calls edition_calls next_calls text_calls deliberate_calls name_calls; do
     "$tests/build_c.sh" "$work/$program" "$tests/$program.c" "$tests/cards.c" "$tests/programs.c" \
         "$tests/sheets.c" "$archive"
     "$tests/run_c.sh" "$work/$program" >"$work/$program.out" || true

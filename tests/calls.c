@@ -314,6 +314,17 @@ void each_case(void (*visit)(unsigned call))
     on_card(visit, "the deepest card");
     card.len = 64;
     on_card(visit, "a card cut to its header");
+    high_stripe_card(&card);
+    on_card(visit, "the high stripe card");
+    typical_card(&card);
+    widen(&card);
+    on_card(visit, "the typical card in edition 2");
+    widest_card(&card, 0);
+    on_card(visit, "the widest card that revises");
+    widest_card(&card, 1);
+    on_card(visit, "the widest card that acts");
+    card.len = 96;
+    on_card(visit, "a card of edition 2 cut to its header");
     printed_list_card(&card);
     each_node(visit, "the card that prints a list");
     printed_deep_card(&card);

@@ -42,7 +42,8 @@ extern const char *made_on, *made_with;
 
 /* Visits every call, by its number in `calls`, in each of its cases. For the eight calls and next
  * these are the stripe card, that one made endless, the typical card, the two worst, the card of
- * shared nodes, the deepest card and a refused one, each with its first configuration, with no plan
+ * shared nodes, the deepest card and a refused one, and of edition 2 the high stripe card, the
+ * typical one, the two widest and a refused one, each with its first configuration, with no plan
  * and with one of 1,024 actions, in each phase, with beliefs and without, and with a configuration
  * that is refused; for deliberate the same with programs that revise and act by the card's first
  * rules and by its last, with 128 entries that share their parts, of each kind that has some, and

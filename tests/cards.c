@@ -1,4 +1,4 @@
-/* Cards written in C: document 01's layout, and the cards of the C programs. */
+/* Cards written in C: the layout of both editions, and the cards of the C programs. */
 #include <string.h>
 
 #include "cards.h"
@@ -24,18 +24,32 @@ static unsigned put_section(uint8_t *at, unsigned count, unsigned offset, unsign
     return offset + count * size;
 }
 
+/* The bytes before the weights, and those of a specification, by the bytes of a set. */
+static unsigned weights_at(const struct card_bytes *card)
+{
+    return 32 + 2 * card->set;
+}
+
+static unsigned specification_bytes(const struct card_bytes *card)
+{
+    return 4 + 2 * card->set;
+}
+
 void lay_out(struct card_bytes *card, struct counts counts)
 {
     uint8_t *header = card->bytes;
+    unsigned edition = counts.edition == 2 ? 2 : 1;
     memset(card, 0, sizeof *card);
+    card->set = 16 * edition;
     header[0] = 0x33;
     header[1] = 0x41;
-    put_card_number(header + 2, 1);
+    put_card_number(header + 2, edition);
     put_card_number(header + 4, counts.atoms);
     put_card_number(header + 6, counts.actions);
-    card->node = 64 + 2 * counts.actions;
+    card->node = weights_at(card) + 2 * counts.actions;
     card->specification = put_section(header + 8, counts.nodes, card->node, 4);
-    card->selection = put_section(header + 12, counts.specifications, card->specification, 36);
+    card->selection = put_section(header + 12, counts.specifications, card->specification,
+                                  specification_bytes(card));
     card->revision = put_section(header + 16, counts.selections, card->selection, 8);
     card->pool = put_section(header + 20, counts.revisions, card->revision, 12);
     card->len = put_section(header + 24, counts.pool, card->pool, 1);
@@ -45,7 +59,7 @@ void lay_out(struct card_bytes *card, struct counts counts)
 
 void put_weight(struct card_bytes *card, unsigned action, unsigned weight)
 {
-    put_card_number(card->bytes + 64 + 2 * action, weight);
+    put_card_number(card->bytes + weights_at(card) + 2 * action, weight);
 }
 
 void put_node(struct card_bytes *card, unsigned number, unsigned kind, unsigned a, unsigned b)
@@ -64,19 +78,19 @@ void put_initial_plan(struct card_bytes *card, unsigned start, unsigned length)
 
 void put_specification(struct card_bytes *card, unsigned number, unsigned action, unsigned node)
 {
-    uint8_t *entry = card->bytes + card->specification + 36 * number;
+    uint8_t *entry = card->bytes + card->specification + specification_bytes(card) * number;
     entry[0] = (uint8_t)action;
     entry[1] = (uint8_t)node;
 }
 
 uint8_t *added_by(struct card_bytes *card, unsigned number)
 {
-    return card->bytes + card->specification + 36 * number + 4;
+    return card->bytes + card->specification + specification_bytes(card) * number + 4;
 }
 
 uint8_t *deleted_by(struct card_bytes *card, unsigned number)
 {
-    return card->bytes + card->specification + 36 * number + 20;
+    return added_by(card, number) + card->set;
 }
 
 void put_selection(struct card_bytes *card, unsigned number, unsigned belief_node,
@@ -107,7 +121,36 @@ uint8_t *initial_beliefs(struct card_bytes *card)
 
 uint8_t *initial_goals(struct card_bytes *card)
 {
-    return card->bytes + 48;
+    return card->bytes + 32 + card->set;
+}
+
+/* ---- edition 2 ---- */
+
+/* A number of a card. */
+static unsigned card_number(const struct card_bytes *card, unsigned at)
+{
+    return card->bytes[at] + 256u * card->bytes[at + 1];
+}
+
+void widen(struct card_bytes *card)
+{
+    static struct card_bytes old;
+    old = *card;
+    unsigned actions = card_number(&old, 6), specifications = card_number(&old, 12);
+    lay_out(card, (struct counts){card_number(&old, 4), actions, card_number(&old, 8),
+                                  specifications, card_number(&old, 16), card_number(&old, 20),
+                                  card_number(&old, 24), 2});
+    memcpy(card->bytes + 28, old.bytes + 28, 4);
+    memcpy(initial_beliefs(card), initial_beliefs(&old), old.set);
+    memcpy(initial_goals(card), initial_goals(&old), old.set);
+    memcpy(card->bytes + weights_at(card), old.bytes + weights_at(&old), 2 * actions);
+    memcpy(card->bytes + card->node, old.bytes + old.node, old.specification - old.node);
+    for (unsigned i = 0; i < specifications; i++) {
+        memcpy(added_by(card, i) - 4, added_by(&old, i) - 4, 4);
+        memcpy(added_by(card, i), added_by(&old, i), old.set);
+        memcpy(deleted_by(card, i), deleted_by(&old, i), old.set);
+    }
+    memcpy(card->bytes + card->selection, old.bytes + old.selection, old.len - old.selection);
 }
 
 /* ---- the stripe card ---- */
@@ -118,39 +161,51 @@ enum { THREADED, BOBBIN, BAND, BROKEN };
 /* Actions: 0 weave, 1 wind, 2 repair, 3 pick, 4 stripe. */
 enum { WEAVE, WIND, REPAIR, PICK, STRIPE };
 
-void stripe_card(struct card_bytes *card)
+/* The stripe card of an edition, with so many atoms, its four those from `first` on. */
+static void lay_stripe(struct card_bytes *card, unsigned edition, unsigned atoms, unsigned first)
 {
     static const uint8_t pool[] = {STRIPE, WIND, PICK, REPAIR, WEAVE};
-    lay_out(card, (struct counts){.atoms = 4,
+    lay_out(card, (struct counts){.atoms = atoms,
                                   .actions = 5,
                                   .nodes = 6,
                                   .specifications = 3,
                                   .selections = 1,
                                   .revisions = 3,
-                                  .pool = sizeof pool});
+                                  .pool = sizeof pool,
+                                  .edition = edition});
     put_weight(card, PICK, 3);
     put_weight(card, STRIPE, 5);
     put_node(card, 0, NODE_TRUE, 0, 0);
-    put_node(card, 1, NODE_BELIEVES, BOBBIN, 0);
-    put_node(card, 2, NODE_BELIEVES, BROKEN, 0);
+    put_node(card, 1, NODE_BELIEVES, first + BOBBIN, 0);
+    put_node(card, 2, NODE_BELIEVES, first + BROKEN, 0);
     put_node(card, 3, NODE_NOT, 2, 0);
     put_node(card, 4, NODE_AND, 1, 3);
-    put_node(card, 5, NODE_HAS_GOAL, BAND, 0);
+    put_node(card, 5, NODE_HAS_GOAL, first + BAND, 0);
     put_specification(card, 0, WEAVE, 4);
-    put_atom(added_by(card, 0), BAND);
-    put_atom(deleted_by(card, 0), BOBBIN);
+    put_atom(added_by(card, 0), first + BAND);
+    put_atom(deleted_by(card, 0), first + BOBBIN);
     put_specification(card, 1, WIND, 0);
-    put_atom(added_by(card, 1), BOBBIN);
+    put_atom(added_by(card, 1), first + BOBBIN);
     put_specification(card, 2, REPAIR, 2);
-    put_atom(deleted_by(card, 2), BROKEN);
+    put_atom(deleted_by(card, 2), first + BROKEN);
     put_selection(card, 0, 0, 5, 0, 1);
     put_revision(card, 0, 0, 0, 1, 1, 2); /* stripe: wind pick */
     put_revision(card, 1, 2, 2, 1, 3, 2); /* pick, if broken: repair weave */
     put_revision(card, 2, 3, 2, 1, 4, 1); /* pick, if not broken: weave */
     memcpy(card->bytes + card->pool, pool, sizeof pool);
-    put_atom(initial_beliefs(card), THREADED);
-    put_atom(initial_beliefs(card), BROKEN);
-    put_atom(initial_goals(card), BAND);
+    put_atom(initial_beliefs(card), first + THREADED);
+    put_atom(initial_beliefs(card), first + BROKEN);
+    put_atom(initial_goals(card), first + BAND);
+}
+
+void stripe_card(struct card_bytes *card)
+{
+    lay_stripe(card, 1, 4, 0);
+}
+
+void high_stripe_card(struct card_bytes *card)
+{
+    lay_stripe(card, 2, 256, 252);
 }
 
 const char stripe_text[] = "# the stripe card: 0 threaded, 1 bobbin, 2 band, 3 broken\n"
@@ -290,7 +345,7 @@ void typical_card(struct card_bytes *card)
 {
     uint32_t state = 20261115;
     unsigned at = 0;
-    lay_out(card, (struct counts){128, 256, 256, 256, 256, 256, 8192});
+    lay_out(card, (struct counts){128, 256, 256, 256, 256, 256, 8192, 1});
     for (unsigned q = 0; q < 128; q++)
         put_weight(card, 128 + q, 8 * q + 8);
     typical_nodes(card, &state);
@@ -315,7 +370,7 @@ void chain_card(struct card_bytes *card, struct chain chain)
 {
     unsigned rules = chain.rules, nodes = chain.nodes, head = chain.head;
     lay_out(card, (struct counts){chain.atoms, chain.actions, nodes, rules, rules, rules,
-                                  chain.pool});
+                                  chain.pool, chain.edition});
     put_node(card, 1, NODE_BELIEVES, 0, 0);
     put_node(card, 2, NODE_NOT, 1, 0);
     put_node(card, 3, NODE_AND, 1, 2); /* never */
@@ -340,5 +395,12 @@ void chain_card(struct card_bytes *card, struct chain chain)
 
 void worst_card(struct card_bytes *card, int acts)
 {
-    chain_card(card, (struct chain){128, 256, 256, 256, 8192, acts ? 1023 : 1024, 1024, acts});
+    chain_card(card, (struct chain){128, 256, 256, 256, 8192, acts ? 1023 : 1024, 1024, acts, 1});
+}
+
+void widest_card(struct card_bytes *card, int acts)
+{
+    chain_card(card, (struct chain){256, 256, 256, 256, 8192, acts ? 1023 : 1024, 1024, acts, 2});
+    put_atom(initial_beliefs(card), 255);
+    put_atom(initial_goals(card), 254);
 }

@@ -1,6 +1,6 @@
 /*
- * Cards written in C: document 01's layout, entry by entry, and the cards that the C programs
- * under tests/ and bench/ use.
+ * Cards written in C: the layout of both editions, entry by entry, and the cards that the C
+ * programs under tests/ and bench/ use.
  */
 #ifndef RIGTEMPLE_TESTS_CARDS_H
 #define RIGTEMPLE_TESTS_CARDS_H
@@ -11,16 +11,16 @@
 /* The kinds of nodes. */
 enum { NODE_TRUE, NODE_BELIEVES, NODE_HAS_GOAL, NODE_NOT, NODE_AND, NODE_OR };
 
-/* How many of each a card holds. */
+/* How many of each a card holds; its edition, where that is not 1. */
 struct counts {
-    unsigned atoms, actions, nodes, specifications, selections, revisions, pool;
+    unsigned atoms, actions, nodes, specifications, selections, revisions, pool, edition;
 };
 
-/* A card, and where its sections begin. */
+/* A card, the bytes of its sets, and where its sections begin. */
 struct card_bytes {
-    uint8_t bytes[24128];
+    uint8_t bytes[32352];
     size_t len;
-    unsigned node, specification, selection, revision, pool;
+    unsigned set, node, specification, selection, revision, pool;
 };
 
 /* "Numbers are two bytes, low byte first." */
@@ -66,6 +66,12 @@ void shared_nodes_card(struct card_bytes *card);
  * each kind uses node 254, which nests 254 deep. */
 void deepest_card(struct card_bytes *card);
 
+/* The same card in edition 2: sets of 32 bytes, and the same atoms. */
+void widen(struct card_bytes *card);
+
+/* The stripe card in edition 2 with 256 atoms, of which its four are 252 to 255. */
+void high_stripe_card(struct card_bytes *card);
+
 /* A card of 24,128 bytes as a designer might fill it: half of the actions are done, each in one
  * of two ways, the others are abstract plans that revisions spell out, at most 4 actions at a
  * time; selection plans of 16 actions. Bounded; its run never rests. */
@@ -76,6 +82,7 @@ void typical_card(struct card_bytes *card);
 struct chain {
     unsigned atoms, actions, nodes, rules, pool, head, plan;
     int acts;
+    unsigned edition; /* 0 for 1 */
 };
 
 /* A card whose every move is the last that is looked at. The plan is action 0, `plan` times; the
@@ -89,5 +96,8 @@ void chain_card(struct card_bytes *card, struct chain chain);
 
 /* The worst card for a run: 24,128 bytes, heads of 1,024, or of 1,023 if `acts`. */
 void worst_card(struct card_bytes *card, int acts);
+
+/* The same in edition 2, with 256 atoms: 32,352 bytes. */
+void widest_card(struct card_bytes *card, int acts);
 
 #endif

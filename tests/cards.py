@@ -109,10 +109,76 @@ def maximal():
     )
 
 
+def widest():
+    """The largest card in edition 2, with 256 atoms: its 128 goals are the odd ones, and the even ones are believed."""
+    made = cards.in_edition(maximal(), 2)
+    made.atoms = 256
+    cards.renamed(made, lambda atom: 2 * atom + 1)
+    made.beliefs = atoms_set(*range(0, 256, 2))
+    return made
+
+
+# The jacquard card's atoms: 0 to 191 a hook is up, then those of each row; and its actions, of which those of a row are four.
+HOOKS, ROWS = range(192), range(4)
+ROW_WOVEN, SHED_OPEN, WOUND, FIGURE_WOVEN = 192, 196, 197, 255
+LIFT, THROW, WIND, ROW, FIGURE = 0, 4, 8, 9, 13
+
+
+def hooks_of(row):
+    """The hooks that a row lifts: three of eight, two further in each row."""
+    return [hook for hook in HOOKS if (hook + 2 * row) % 8 < 3]
+
+
+def jacquard():
+    """A figure of four rows on a loom of 192 hooks. A row is to lift its hooks and let the others down, which opens the shed, and to
+    throw; the weft lasts for two rows and is then wound anew. The figure is the last atom, and a goal."""
+    lifts = [
+        Specification(LIFT + row, 0, atoms_set(SHED_OPEN, *hooks_of(row)), atoms_set(*(set(HOOKS) - set(hooks_of(row)))))
+        for row in ROWS
+    ]
+    throws = [
+        Specification(
+            THROW + row,
+            4,
+            atoms_set(ROW_WOVEN + row, *([FIGURE_WOVEN] if row == 3 else [])),
+            atoms_set(SHED_OPEN, *([WOUND] if row % 2 else [])),
+        )
+        for row in ROWS
+    ]
+    return Description(
+        layout=2,
+        atoms=256,
+        weights=[1] * 9 + [4] * 4 + [17],
+        nodes=[
+            Node(TRUE),
+            Node(BELIEVES, SHED_OPEN),
+            Node(BELIEVES, WOUND),
+            Node(NOT, 2),
+            Node(AND, 1, 2),
+            Node(HAS_GOAL, FIGURE_WOVEN),
+        ],
+        specifications=lifts + throws + [Specification(WIND, 0, atoms_set(WOUND))],
+        selections=[Selection(0, 5, 0, 1)],
+        revisions=[Revision(0, 0, 1, 1, 4)]
+        + [Revision(2, 1 + row, 1, 6 + 3 * row, 2) for row in ROWS]
+        + [Revision(3, 1 + row, 1, 5 + 3 * row, 3) for row in ROWS],
+        pool=bytes([FIGURE] + [ROW + row for row in ROWS]) + b"".join(bytes([WIND, LIFT + row, THROW + row]) for row in ROWS),
+        goals=atoms_set(FIGURE_WOVEN),
+    )
+
+
 # The stripe card's text without its remarks.
 PLAIN_STRIPE = re.sub(rb"(?m)^#.*\n| #.*", b"", slips.STRIPE_TEXT)
 
-MADE = {"stripe": cards.stripe_card, "loop": loop, "edition": edition, "shared": shared, "maximal": maximal}
+MADE = {
+    "stripe": cards.stripe_card,
+    "loop": loop,
+    "edition": edition,
+    "shared": shared,
+    "maximal": maximal,
+    "jacquard": jacquard,
+    "widest": widest,
+}
 
 # ---- the two sheds
 
@@ -161,7 +227,7 @@ def table(rows):
 def end_of(card, whole):
     """How a program ends on a card, in words."""
     _, reached, count, ending, _ = deliberation.deliberate(card, whole, guide.load(card)[1], BUDGET)
-    believed = [k for k in range(128) if reached.beliefs[k // 8] >> k % 8 & 1]
+    believed = [k for k in range(256) if reached.beliefs[k // 8] >> k % 8 & 1]
     return "%s after %d moves, with the beliefs %s" % (ENDINGS[ending], count, numbers(believed))
 
 

@@ -195,8 +195,8 @@ def hold_requests(job, drill_words, found):
 
 
 def hold_program(job, found):
-    """The disagreements of the program, and how many cards it was run on: those "of at most 24,129 bytes" in cases that are not of
-    another sort."""
+    """The disagreements of the program, and how many cards it was run on: those of at most 32,353 bytes, which it reads, in cases that
+    are not of another sort."""
     runs = job.option == "cases" and job.drills == (command("drill"),)
     read = [case for case, _ in found if len(case.card) <= program.INPUT_LIMIT and runs]
     differing = []

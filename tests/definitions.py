@@ -228,13 +228,13 @@ def cut_budget(request):
 
 def image_term(request):
     """The configuration of a request's image, which starts at byte 1, and the place after it."""
-    m = two(request, 38)
-    plan = f"({literal(request[40:40 + m])} ++ replicate {1024 - m} 0)"
+    m = two(request, 70)
+    plan = f"({literal(request[72:72 + m])} ++ replicate {1024 - m} 0)"
     term = (
-        f"(record {{ mind = record {{ beliefs = {literal(request[1:17])}; goals = {literal(request[17:33])}; "
-        f"length = {two(request, 33)}; phase = {request[35]}; finished = {two(request, 36)} }}; plan = {plan} }})"
+        f"(record {{ mind = record {{ beliefs = {literal(request[1:33])}; goals = {literal(request[33:65])}; "
+        f"length = {two(request, 65)}; phase = {request[67]}; finished = {two(request, 68)} }}; plan = {plan} }})"
     )
-    return term, 40 + m
+    return term, 72 + m
 
 
 def term(card, request):

@@ -42,7 +42,7 @@ static int same(const struct rigtemple_configuration *one,
 /* Whether a set is the atoms of `bits`, atom k for bit k. */
 static int set_is(const uint8_t *set, uint8_t bits)
 {
-    static const uint8_t zeros[15];
+    static const uint8_t zeros[RIGTEMPLE_SET_BYTES - 1];
     return set[0] == bits && memcmp(set + 1, zeros, sizeof zeros) == 0;
 }
 

@@ -3,5 +3,5 @@
 # words for a compiler that give the engine's functions the library's names.
 names=
 for call in check load grade list next take run deliberate go_on save restore text print name; do
-    names="$names -Dengine_$call=rigtemple_${call}_parts"
+    names="$names -Dengine_$call=rigtemple_4_${call}_parts"
 done

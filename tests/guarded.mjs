@@ -24,7 +24,7 @@ export function declaredIn(header) {
   return found;
 }
 
-/* The bytes of the parts that have a fixed length, as the header says them: "`beliefs` and `goals` are 16 bytes each". */
+/* The bytes of the parts that have a fixed length, as the header says them: "`beliefs` and `goals` are 32 bytes each". */
 export function fixedIn(header) {
   const found = {};
   for (const [, names, bytes] of header.matchAll(/((?:`\w+`(?: and )?)+) (?:is|are) ([\d,]+)\s+bytes/g)) {

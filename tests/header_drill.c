@@ -24,7 +24,7 @@
  *                                       as 11
  *  22 next     image                    number (2), ending (1), code (2)
  *
- * An image: beliefs (16), goals (16), plan length (2), phase (1), finished count (2), m (2), m
+ * An image: beliefs (32), goals (32), plan length (2), phase (1), finished count (2), m (2), m
  * bytes of the plan's array; the rest of it is zero. In an answer m is the least that serves. The
  * node of a take is with 16 the one that settled the condition, else 0; the place of a text with 17
  * that of the first wrong byte, else 0; the sheet of a name is 0 the master's or 1 the shed's: the
@@ -296,7 +296,8 @@ static void answer_save(void)
     uint8_t *place = lend(room);
     uint16_t *count = lend(2);
     uint16_t number = rigtemple_save(card, card_len, c, place, room, count);
-    if (*count != (number == RIGTEMPLE_ANSWER_DONE ? 44 + c->length : 0))
+    unsigned header = card_len > 2 && card[2] == 2 ? 76 : 44;
+    if (*count != (number == RIGTEMPLE_ANSWER_DONE ? header + c->length : 0))
         end(3);
     put_number(number);
     put_bytes(place, room);

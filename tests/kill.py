@@ -52,10 +52,14 @@ begin beliefs goals 0 plan
 # Select, then while there is a plan: revise or else act.
 BY_ROW = bytes((0, 0, 0, 0, 3, 0, 0, 0, 2, 0, 0, 0, 5, 2, 1, 0))
 BY_GROWING = bytes((0, 0, 0, 0, 1, 0, 0, 0, 6, 1, 0, 0, 3, 0, 2, 0, 2, 0, 0, 0, 5, 4, 3, 0))
+# The same of the jacquard card, of edition 2: entries 0 to 8 are its revisions and 9 is execute, of which entry 18 does the first that
+# it can.
+BY_JACQUARD = b"".join(bytes((1, k, 0, 0)) for k in range(9)) + bytes(4) + b"".join(bytes((6, 8 - k, 9 + k, 0)) for k in range(9))
+BY_JACQUARD += bytes((3, 0, 18, 0, 2, 0, 0, 0, 5, 20, 19, 0))
 
 
 # One after the other: the short ones first.
-CYCLE = (0, 1, 0, 2)
+CYCLE = (0, 1, 3, 2)
 
 
 class Fault(Exception):
@@ -127,7 +131,7 @@ def weaving(name, card, program=b"", most=10000):
     c = moves[-1][1] if moves else first
     if whole not in (None, c):
         raise SystemExit("kill.py: the oracle's run of %s is another" % name)
-    return Weaving(name, card, program, [choice for choice, _ in moves], ending, guide.save(card, c, 1068)[1], c.finished)
+    return Weaving(name, card, program, [choice for choice, _ in moves], ending, guide.save(card, c, 1100)[1], c.finished)
 
 
 def read(*names):
@@ -140,8 +144,10 @@ def weavings():
     stripe, teaching = read("cards", "stripe.card"), read("cards", "teaching.program")
     row = text.read(ROW.encode(), 24128)[-1]
     growing = text.read(read("cards", "growing.text"), 24128)[-1]
-    own = [weaving("stripe", stripe), weaving("row", row), weaving("growing", growing)]
+    jacquard = read("cards", "jacquard.card")
+    own = [weaving("stripe", stripe), weaving("row", row), weaving("growing", growing), weaving("jacquard", jacquard)]
     by_program = [weaving("stripe", stripe, teaching), weaving("row", row, BY_ROW), weaving("growing", growing, BY_GROWING)]
+    by_program.append(weaving("jacquard", jacquard, BY_JACQUARD))
     return [own[at] for at in CYCLE], [by_program[at] for at in CYCLE]
 
 

@@ -595,7 +595,14 @@ static void test_order(void)
     expect(refused(&l, RIGTEMPLE_ANSWER_MARK, MASTER), "2 before 3");
     bad.len = 63;
     l = name_on(&bad, &swedish, &english, 0);
-    expect(refused(&l, RIGTEMPLE_ANSWER_SHORT, MASTER), "1 before all");
+    expect(refused(&l, RIGTEMPLE_ANSWER_MARK, MASTER), "2 before 1 of a short header");
+    bad.len = 3;
+    l = name_on(&bad, &swedish, &english, 0);
+    expect(refused(&l, RIGTEMPLE_ANSWER_SHORT, MASTER), "1 of under 4 bytes before all");
+    bad.bytes[0] = 0x33;
+    bad.len = 63;
+    l = name_on(&bad, &swedish, &english, 0);
+    expect(refused(&l, RIGTEMPLE_ANSWER_SHORT, MASTER), "1 of a short header before 3");
 }
 
 int main(void)

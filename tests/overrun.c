@@ -8,16 +8,16 @@ typedef uint16_t list_parts(const uint8_t *card, size_t card_len, const uint8_t 
                             const uint8_t *goals, const uint8_t *plan, uint16_t length,
                             uint8_t phase, uint16_t finished, uint16_t *list,
                             size_t room_in_entries, uint16_t *entries);
-list_parts __real_rigtemple_list_parts, __wrap_rigtemple_list_parts;
+list_parts __real_rigtemple_4_list_parts, __wrap_rigtemple_4_list_parts;
 
-uint16_t __wrap_rigtemple_list_parts(const uint8_t *card, size_t card_len, const uint8_t *beliefs,
-                                     const uint8_t *goals, const uint8_t *plan, uint16_t length,
-                                     uint8_t phase, uint16_t finished, uint16_t *list,
-                                     size_t room_in_entries, uint16_t *entries)
+uint16_t __wrap_rigtemple_4_list_parts(const uint8_t *card, size_t card_len, const uint8_t *beliefs,
+                                       const uint8_t *goals, const uint8_t *plan,
+                                       uint16_t length, uint8_t phase, uint16_t finished,
+                                       uint16_t *list, size_t room_in_entries, uint16_t *entries)
 {
     uint16_t answer =
-        __real_rigtemple_list_parts(card, card_len, beliefs, goals, plan, length, phase, finished,
-                                    list, room_in_entries, entries);
+        __real_rigtemple_4_list_parts(card, card_len, beliefs, goals, plan, length, phase, finished,
+                                      list, room_in_entries, entries);
     if (answer == RIGTEMPLE_ANSWER_DONE)
         list[room_in_entries] = 0;
     return answer;

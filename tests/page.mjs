@@ -20,6 +20,8 @@ const header = words(folder, "rigtemple.h");
 const types = words(folder, "rigtemple.d.ts");
 const stripe = read(root, "cards", "stripe.card");
 const maximal = read(root, "cards", "maximal.card");
+const jacquard = read(root, "cards", "jacquard.card");
+const widest = read(root, "cards", "widest.card");
 const english = read(root, "cards", "stripe.en.sheet");
 const swedish = read(root, "cards", "stripe.sv.sheet");
 const guide = await page.open(wasm);
@@ -36,7 +38,7 @@ async function test(what, body) {
   }
 }
 const atoms = (...numbers) => {
-  const set = new Uint8Array(16);
+  const set = new Uint8Array(32);
   for (const k of numbers) set[k >> 3] |= 1 << (k & 7);
   return set;
 };
@@ -282,6 +284,30 @@ await test("refusals have their names", () => {
   assert.deepEqual(guide.next(stripe, { ...c, phase: 3 }), { answer: 13, name: "configuration", coming: "rest", choice: 0 });
 });
 
+// ---- editions
+
+await test("a card of edition 2, its place, and that place under a card of edition 1", () => {
+  const begun = guide.load(jacquard).configuration;
+  assert.deepEqual([begun.beliefs, begun.goals], [atoms(), atoms(255)]);
+  const half = guide.run(jacquard, begun, 9);
+  assert.deepEqual([half.answer, half.moves, half.ending], [0, 9, "spent"]);
+  const { answer, place } = guide.save(jacquard, half.configuration);
+  assert.deepEqual([answer, place.length, place[2], place[6]], [0, 76 + half.configuration.length, 2, 76]);
+  assert.deepEqual(guide.restore(jacquard, place), { answer: 0, name: "done", configuration: half.configuration });
+  assert.deepEqual(guide.restore(stripe, place), { answer: 2, name: "mark", configuration: page.emptyConfiguration() });
+  const done = guide.run(jacquard, guide.restore(jacquard, place).configuration, 1000);
+  assert.deepEqual([done.moves, done.ending, done.configuration.goals], [7, "rest", atoms()]);
+  assert.equal(done.configuration.beliefs[31], 128);
+  assert.equal(guide.print(jacquard, 4).text, "B196&B197");
+});
+
+await test("an atom from 128 on is unknown to a card of edition 1", () => {
+  for (const atom of [128, 200, 255]) {
+    const c = { ...guide.load(stripe).configuration, beliefs: atoms(0, atom) };
+    assert.deepEqual(guide.next(stripe, c), { answer: 13, name: "configuration", coming: "rest", choice: 0 });
+  }
+});
+
 await test("a program is refused, and so are numbers that it cannot have left", () => {
   const c = guide.load(stripe).configuration;
   const [none, execute] = [new Uint8Array(), new Uint8Array(8)];
@@ -342,7 +368,10 @@ await test("what is no bytes or no such number throws", () => {
     assert.throws(() => guide.name(stripe, swedish, bad, 0), TypeError);
     if (bad != null) assert.throws(() => guide.name(stripe, bad, english, 0), TypeError);
   }
-  assert.throws(() => guide.list(stripe, { ...c, beliefs: new Uint8Array(15) }), RangeError);
+  for (const bytes of [0, 16, 31, 33]) {
+    assert.throws(() => guide.list(stripe, { ...c, beliefs: new Uint8Array(bytes) }), RangeError);
+    assert.throws(() => guide.list(stripe, { ...c, goals: new Uint8Array(bytes) }), RangeError);
+  }
   assert.throws(() => guide.list(stripe, { ...c, plan: new Uint8Array(1025) }), RangeError);
   for (const bad of [-1, 1.5, 65536, NaN, "1", undefined, 1n]) {
     assert.throws(() => guide.take(stripe, c, bad), RangeError);
@@ -366,7 +395,7 @@ await test("codes of choices", () => {
 
 // ---- memory
 
-await test("one page of memory is enough for the largest card, and a long text gets more", () => {
+await test("one page of memory is enough for the largest card of edition 1, and a long text gets more", () => {
   const instance = new WebAssembly.Instance(new WebAssembly.Module(wasm));
   const small = page.guideOf(instance);
   const full = small.load(maximal).configuration;
@@ -383,6 +412,17 @@ await test("one page of memory is enough for the largest card, and a long text g
   const long = Buffer.concat([read(root, "cards", "stripe.text"), Buffer.from(`# ${"x".repeat(300000)}\n`)]);
   assert.deepEqual(small.text(new Uint8Array(long)).card, small.text(read(root, "cards", "stripe.text")).card);
   assert.ok(instance.exports.memory.buffer.byteLength > 300000);
+});
+
+await test("the largest card takes a second page and no third", () => {
+  const instance = new WebAssembly.Instance(new WebAssembly.Module(wasm));
+  const large = page.guideOf(instance);
+  assert.equal(widest.length, page.MOST_CARD_BYTES);
+  const c = large.load(widest).configuration;
+  const asked = [large.check(widest), large.run(widest, c, 1000), large.list(widest, c), large.save(widest, c)];
+  assert.deepEqual(asked.map(({ answer }) => answer), [0, 0, 0, 0]);
+  assert.equal(asked[1].ending, "rest");
+  assert.equal(instance.exports.memory.buffer.byteLength, 2 * 65536);
 });
 
 await test("two sheets of the most bytes get memory", () => {
@@ -417,7 +457,7 @@ await test("the header's version and sizes", () => {
 });
 
 await test("a call for each function of the header, and its type", () => {
-  const own = (name) => name.slice("rigtemple_".length, -"_parts".length).replace(/_(.)/g, (_, letter) => letter.toUpperCase());
+  const own = (name) => name.slice("rigtemple_4_".length, -"_parts".length).replace(/_(.)/g, (_, letter) => letter.toUpperCase());
   const wanted = Object.keys(declaredIn(header)).map(own);
   assert.deepEqual(Object.keys(guide).sort(), wanted.sort());
   const [, body] = types.match(/export interface Guide \{([^}]*)\}/);
@@ -451,8 +491,8 @@ await test("a byte written outside what is lent is seen", () => {
   const own = guarded.own;
   guarded.own = {
     ...own,
-    rigtemple_list_parts(...given) {
-      const answer = own.rigtemple_list_parts(...given);
+    rigtemple_4_list_parts(...given) {
+      const answer = own.rigtemple_4_list_parts(...given);
       new Uint8Array(own.memory.buffer)[given[8] + 2 * Number(given[9])] = 0;
       return answer;
     },
@@ -465,9 +505,9 @@ await test("a byte written outside what is lent is seen", () => {
 await test("parts that overlap, or are not aligned, are seen", () => {
   const guarded = watched();
   const at = guarded.heap + 1000 - (guarded.heap % 8);
-  assert.throws(() => guarded.exports.rigtemple_grade_parts(at, 100n, at + 99, at + 200, at + 208), /overlaps/);
-  assert.throws(() => guarded.exports.rigtemple_grade_parts(at, 100n, at + 104, at + 200, at + 207), /not aligned/);
-  assert.throws(() => guarded.exports.rigtemple_grade_parts(0, 100n, at + 104, at + 200, at + 208), /outside the memory/);
+  assert.throws(() => guarded.exports.rigtemple_4_grade_parts(at, 100n, at + 99, at + 200, at + 208), /overlaps/);
+  assert.throws(() => guarded.exports.rigtemple_4_grade_parts(at, 100n, at + 104, at + 200, at + 207), /not aligned/);
+  assert.throws(() => guarded.exports.rigtemple_4_grade_parts(0, 100n, at + 104, at + 200, at + 208), /outside the memory/);
 });
 
 console.log(`${passed} passed, ${failed} failed`);

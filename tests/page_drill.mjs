@@ -40,8 +40,8 @@ function getNumber(most = 65535, bytes = 2) {
 }
 function getImage() {
   const c = page.emptyConfiguration();
-  c.beliefs = getBytes(16);
-  c.goals = getBytes(16);
+  c.beliefs = getBytes(32);
+  c.goals = getBytes(32);
   c.length = getNumber();
   c.phase = getNumber(255, 1);
   c.finished = getNumber();
@@ -141,7 +141,7 @@ const requests = {
   7() {
     const c = getImage();
     const { answer, place } = guide.save(card, c, getNumber(2048));
-    if (place.length !== (answer === 0 ? 44 + c.length : 0)) end(3);
+    if (place.length !== (answer === 0 ? (card[2] === 2 ? 76 : 44) + c.length : 0)) end(3);
     putNumber(answer);
     putLent(place, "place");
   },

@@ -9,7 +9,7 @@ export async function moves(card: Uint8Array): Promise<[Ending, number, string]>
   const c: Configuration = loaded.configuration;
   const kinds: (Kind | undefined)[] = guide.list(card, c).choices.map(kindOf);
   const taken = guide.take(card, c, choice("selection", numberOf(kinds.length)));
-  const place = guide.save(card, taken.configuration, 1068).place;
+  const place = guide.save(card, taken.configuration, 1100).place;
   const ran = guide.run(card, guide.restore(card, place).configuration, 1000);
   const remaining: Uint8Array = guide.deliberate(card, new Uint8Array(4), ran.configuration, 1).remaining;
   const made = guide.text(new TextEncoder().encode("atoms 1\n"));

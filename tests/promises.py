@@ -32,6 +32,8 @@ READING = (
     ("the refusals and the nine answers", ("meaning/specs/Refusals.antt", "meaning/specs/Why.antt", "meaning/specs/Calls.antt",
                                             "meaning/specs/Numbers.antt")),
     ("what is proved of the definitions", ("paper/specs/Theorems.antt", "runs/specs/Theorems.antt", "meaning/specs/Theorems.antt")),
+    ("edition 1 as before, and edition 2", ("editions/specs/Edition1.antt", "editions/specs/Moves.antt", "editions/specs/Calls.antt", "editions/specs/AsBefore.antt",
+                                            "editions/specs/Edition2.antt")),
     ("the letter's demands", ("demands/specs/Contracts.antt", "demands/specs/Demands.antt", "demands/specs/TestOrder.antt",
                               "demands/specs/AcceptedAgain.antt", "demands/specs/Struck.antt", "demands/specs/Shown.antt", "demands/specs/Closed.antt")),
     ("the turned screen", ("demands/specs/TurnedScreen.antt",)),
@@ -49,11 +51,11 @@ READING = (
     ("every call, the count since load, a deliberation turned", ("every_call/specs/EveryCall.antt", "every_call/specs/SinceLoad.antt",
                                                                 "every_call/specs/TurnedDeliberation.antt")),
     ("the cases", ("paper/specs/Cases.antt", "meaning/specs/Stripe.antt", "meaning/specs/Cases.antt", "notation/specs/Cases.antt",
-                   "deliberation/specs/Cases.antt")),
+                   "deliberation/specs/Cases.antt", "editions/specs/Cases.antt")),
 )
 # Definitions that only contracts of inner functions cite, and that a theorem ties to those above.
 INNER = ("notation/specs/Scanning.antt", "notation/specs/Values.antt", "notation/specs/Making.antt", "deliberation/specs/Stacked.antt")
-READ_CRATES = ("paper", "runs", "meaning", "demands", "notation", "deliberation", "utf8", "every_call")
+READ_CRATES = ("paper", "runs", "meaning", "editions", "demands", "notation", "deliberation", "utf8", "every_call")
 
 
 class Piece(NamedTuple):

@@ -244,9 +244,9 @@ running() {
     expect 'on Arm' 0 "emulated: $lib/ld-linux-x86-64.so.2 --library-path $lib $house_program
 $good" '' \
         env MACHINE=aarch64 PATH="$room/bin:/usr/bin:/bin" "$room/house/rigtemple" "$room/good.card"
-    card "$(head -c 30000 /dev/zero | tr '\0' x)" >"$room/long.card"
-    expect 'of a longer file the first 24,129 bytes' 0 \
-        "$(head -c 24129 "$room/long.card" | sed 1d)" '' guide "$room/long.card"
+    card "$(head -c 40000 /dev/zero | tr '\0' x)" >"$room/long.card"
+    expect 'of a longer file the first 32,353 bytes' 0 \
+        "$(head -c 32353 "$room/long.card" | sed 1d)" '' guide "$room/long.card"
     printf '#!/bin/sh\necho "goals open: atom 2" >&2\nsed 1d\n' >"$house_program"
     expect 'what is left goes to standard error' 0 "$good" 'goals open: atom 2' \
         guide "$room/good.card"

@@ -134,7 +134,7 @@ made_of "$folder/x86_64/librigtemple.a"
 echo -fomit-frame-pointer >>"$house/target/module/words"
 expect 'a word of the compiler that is not known is told' \
     says 'with -fomit-frame-pointer, which is not known here' "$house/tablets"
-sed -i 's/^uint16_t rigtemple_check_parts(/uint16_t rigtemple_checked_parts(/' \
+sed -i 's/^uint16_t rigtemple_4_check_parts(/uint16_t rigtemple_4_checked_parts(/' \
     "$house/include/rigtemple.h"
 expect 'another header is told' says 'the header does not declare it' "$house/tablets"
 expect 'nothing is left then' test ! -e "$house/target/tablets"
@@ -164,18 +164,18 @@ run_arm() { # PROGRAM ARGUMENT...
 build_arm arm_drill "$tests/header_drill.c"
 stored_arm() { run_arm arm_drill <"$root/crates/drill/stdin" | cmp - "$root/crates/drill/stdout"; }
 expect 'the stored requests on 64-bit Arm' stored_arm
-for program in eight_calls next_calls text_calls deliberate_calls name_calls; do
+for program in eight_calls edition_calls next_calls text_calls deliberate_calls name_calls; do
     build_arm "$program" "$tests/$program.c" "$tests/cards.c" "$tests/programs.c" "$tests/sheets.c"
     count "$program on 64-bit Arm" run_arm "$program"
 done
 
 # A list that runs over by one entry ends the drill.
-build_arm arm_overrun -Wl,--wrap=rigtemple_list_parts "$tests/header_drill.c" "$tests/overrun.c"
+build_arm arm_overrun -Wl,--wrap=rigtemple_4_list_parts "$tests/header_drill.c" "$tests/overrun.c"
 overrun() { ended=0; run_arm arm_overrun <"$root/crates/drill/stdin" || ended=$?; [ "$ended" -eq 3 ]; }
 expect 'a guard byte that is written is seen' overrun
 
 # Reading one number more than are given faults there (signal 11).
-build_arm arm_overread -Wl,--wrap=rigtemple_go_on_parts "$tests/header_drill.c" "$tests/overread.c"
+build_arm arm_overread -Wl,--wrap=rigtemple_4_go_on_parts "$tests/header_drill.c" "$tests/overread.c"
 overread() { ended=0; run_arm arm_overread <"$root/crates/drill/stdin" || ended=$?; [ "$ended" -eq 139 ]; }
 expect 'a byte that is read past the numbers is seen' overread
 
@@ -202,7 +202,7 @@ fi
 # All that an app lends with the largest card: the card, a configuration, a list, a place, a program
 # and what remains of it, twice to go on with that. To read a text it lends the card alone, and the
 # text; for a name two sheets too, here with 40 bytes for each of 256 actions.
-lent=$((24128 + 1062 + 2 * 768 + 44 + 1024 + 512 + 2 * 128))
+lent=$((32352 + 1094 + 2 * 768 + 76 + 1024 + 512 + 2 * 128))
 sheets=$((2 * (2 * 256 + 4 + 256 * 40)))
 stack_arm() {
     build_arm stack "$tests/stack.c" "$tests/calls.c" "$tests/cards.c" "$tests/programs.c" \
@@ -211,12 +211,12 @@ stack_arm() {
 }
 stack_page() {
     page_drill --stack <"$root/crates/drill/stdin" >"$room/page.functions"
-    sed 's/^rigtemple_\(.*\)_parts /\1 /' "$room/page.functions" >"$room/page.stack"
+    sed 's/^rigtemple_4_\(.*\)_parts /\1 /' "$room/page.functions" >"$room/page.stack"
 }
 # Each call within its bound, and with what is lent within 65,536 bytes.
 within() { # PROCESSOR
     while read -r call bytes; do
-        most=2048 all=$((lent + bytes))
+        most=2304 all=$((lent + bytes))
         case $call in
         text) most=34816 all=$((24128 + bytes)) ;;
         name) all=$((lent + sheets + bytes)) ;;
@@ -226,7 +226,7 @@ within() { # PROCESSOR
             return 1
         fi
     done <"$room/$1.stack"
-    [ "$(wc -l <"$room/$1.stack")" -eq "$(grep -c '^uint16_t rigtemple_.*_parts(' "$folder/rigtemple.h")" ]
+    [ "$(wc -l <"$room/$1.stack")" -eq "$(grep -c '^uint16_t rigtemple_4_.*_parts(' "$folder/rigtemple.h")" ]
 }
 # What the header's head says of 64-bit Arm: the bytes of text, and how many more than on x86-64 each
 # other call takes at most.

@@ -114,7 +114,7 @@ static void turn(struct rigtemple_configuration *c)
 {
     struct rigtemple_configuration before = *c;
     uint8_t place[RIGTEMPLE_MOST_PLACE_BYTES + 1];
-    size_t room = 44u + c->length;
+    size_t room = (card[2] == 2 ? 76u : 44u) + c->length; /* by the edition of the card */
     uint16_t bytes = LENT;
     turns++;
     memset(place, LENT, sizeof place);

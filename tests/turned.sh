@@ -18,7 +18,7 @@ die() { printf 'turned.sh: %s\n' "$*" >&2; exit 2; }
 engine=
 seed=1
 cards=1000
-largest=24128
+largest=32352
 while [ $# -gt 0 ]; do
     case $1 in
     --engine) engine=--engine ;;

@@ -16,7 +16,7 @@ use Rattle.deliberation.specs.declared.Deliberated.{Deliberated}
 use Rattle.deliberation.specs.Deliberate.{deliberationEndingNumber}
 use Rattle.names.specs.declared.Named.{Named}
 
--- A configuration from its parts: "`beliefs` and `goals` are 16 bytes each, `plan` is 1,024 bytes."
+-- A configuration from its parts: "`beliefs` and `goals` are 32 bytes each, `plan` is 1,024 bytes"
 abbrev pub whole : Bytes → Bytes → Bytes → ℕ → ℕ → ℕ → Configuration
 whole b g p n f m = record { mind = record { beliefs = b; goals = g; length = n; phase = f; finished = m }; plan = p }
 

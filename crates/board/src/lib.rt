@@ -58,7 +58,7 @@ fn put(
 
 // Whether a card is good.
 #[no_mangle]
-pub extern "C" fn rigtemple_check_parts(card: &[u8]) -> u16
+pub extern "C" fn rigtemple_4_check_parts(card: &[u8]) -> u16
     ensures { λ r. ⌜ Checks (now (card .entry)) r ⌝ }
 {
     let v = check(card);
@@ -70,7 +70,7 @@ pub extern "C" fn rigtemple_check_parts(card: &[u8]) -> u16
 
 // The configuration that a card starts with; the empty one in a refusal.
 #[no_mangle]
-pub extern "C" fn rigtemple_load_parts(
+pub extern "C" fn rigtemple_4_load_parts(
     card: &[u8],
     beliefs: &mut Set,
     goals: &mut Set,
@@ -92,7 +92,7 @@ pub extern "C" fn rigtemple_load_parts(
 
 // The configuration after the chosen move; as it came in, in a refusal. With 16 the node that settled the condition.
 #[no_mangle]
-pub extern "C" fn rigtemple_take_parts(
+pub extern "C" fn rigtemple_4_take_parts(
     card: &[u8],
     beliefs: &mut Set,
     goals: &mut Set,
@@ -125,7 +125,7 @@ pub extern "C" fn rigtemple_take_parts(
 
 // The configuration after at most budget moves of the guide's own, how many they were, and how the run ended.
 #[no_mangle]
-pub extern "C" fn rigtemple_run_parts(
+pub extern "C" fn rigtemple_4_run_parts(
     card: &[u8],
     beliefs: &mut Set,
     goals: &mut Set,
@@ -162,7 +162,7 @@ pub extern "C" fn rigtemple_run_parts(
 // The configuration after at most budget moves of a deliberation program, how many they were, how it ended, and the numbers that
 // remain: all 128 are written, the next first, then zeros. A refusal writes none of them.
 #[no_mangle]
-pub extern "C" fn rigtemple_deliberate_parts(
+pub extern "C" fn rigtemple_4_deliberate_parts(
     card: &[u8],
     program: &[u8],
     beliefs: &mut Set,
@@ -204,7 +204,7 @@ pub extern "C" fn rigtemple_deliberate_parts(
 
 // The same from given numbers that remain of the program, the next first.
 #[no_mangle]
-pub extern "C" fn rigtemple_go_on_parts(
+pub extern "C" fn rigtemple_4_go_on_parts(
     card: &[u8],
     program: &[u8],
     numbers: &[u8],
@@ -241,7 +241,7 @@ pub extern "C" fn rigtemple_go_on_parts(
 
 // The configuration that a place holds; the empty one in a refusal.
 #[no_mangle]
-pub extern "C" fn rigtemple_restore_parts(
+pub extern "C" fn rigtemple_4_restore_parts(
     card: &[u8],
     place: &[u8],
     beliefs: &mut Set,
@@ -264,7 +264,7 @@ pub extern "C" fn rigtemple_restore_parts(
 
 // All enabled choices, into a lent list, and how many they are.
 #[no_mangle]
-pub extern "C" fn rigtemple_list_parts(
+pub extern "C" fn rigtemple_4_list_parts(
     card: &[u8],
     beliefs: &Set,
     goals: &Set,
@@ -292,7 +292,7 @@ pub extern "C" fn rigtemple_list_parts(
 
 // The guide's own next move, which is not made: whether there is one, and its code. A refusal says rest.
 #[no_mangle]
-pub extern "C" fn rigtemple_next_parts(
+pub extern "C" fn rigtemple_4_next_parts(
     card: &[u8],
     beliefs: &Set,
     goals: &Set,
@@ -317,7 +317,7 @@ pub extern "C" fn rigtemple_next_parts(
 
 // The configuration into a lent buffer, and how many bytes were written.
 #[no_mangle]
-pub extern "C" fn rigtemple_save_parts(
+pub extern "C" fn rigtemple_4_save_parts(
     card: &[u8],
     beliefs: &Set,
     goals: &Set,
@@ -345,7 +345,7 @@ pub extern "C" fn rigtemple_save_parts(
 
 // Bounded, or open with the first offender: its kind and its number.
 #[no_mangle]
-pub extern "C" fn rigtemple_grade_parts(
+pub extern "C" fn rigtemple_4_grade_parts(
     card: &[u8],
     verdict: &mut u8,
     offender: &mut u8,
@@ -364,7 +364,7 @@ pub extern "C" fn rigtemple_grade_parts(
 
 // The card that a text stands for, into a lent buffer, and how many bytes it has; with 17 the place of the first wrong byte.
 #[no_mangle]
-pub extern "C" fn rigtemple_text_parts(
+pub extern "C" fn rigtemple_4_text_parts(
     text: &[u8],
     card: &mut [u8],
     count: &mut u16,
@@ -381,7 +381,7 @@ pub extern "C" fn rigtemple_text_parts(
 
 // A condition of a card as text, into a lent buffer, and how many bytes were written.
 #[no_mangle]
-pub extern "C" fn rigtemple_print_parts(
+pub extern "C" fn rigtemple_4_print_parts(
     card: &[u8],
     node: u16,
     text: &mut [u8],
@@ -398,7 +398,7 @@ pub extern "C" fn rigtemple_print_parts(
 // The part that holds an action's name: which sheet it lies in, where it starts there and how many bytes it has; with 20 which
 // sheet is refused.
 #[no_mangle]
-pub extern "C" fn rigtemple_name_parts(
+pub extern "C" fn rigtemple_4_name_parts(
     card: &[u8],
     shed: &[u8],
     master: &[u8],

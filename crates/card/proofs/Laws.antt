@@ -16,12 +16,11 @@ use Rattle.paper.specs.Atoms.{bit, _∈_, _∪_}
 use Rattle.paper.proofs.Sets.{∈-∪}
 use Rattle.meaning.specs.declared.Layout.{Layout}
 use Rattle.meaning.specs.Kinds.{NodeKind, nodeKind}
-use Rattle.meaning.specs.Card.{Bytes, entryAt, nodeAt, specificationAt}
+use Rattle.meaning.specs.Card.{Bytes, nodeAt, specificationAt}
 use Rattle.meaning.specs.Refusals.{nodesGood, containsOf, containing}
-use Rattle.meaning.proofs.Parts.{length-part}
+use Rattle.meaning.proofs.Widening.{length-set-at}
 use Rattle.meaning.proofs.NodeKinds.{is-true, is-belief, is-goal, is-not, is-and, is-or, Known, leaf, inner}
 use Rattle.meaning.proofs.Nodes.{made-from, contains-children}
-use Rattle.layout.specs.GoodLayout.{GoodLayout}
 use Rattle.card.specs.Marks.{tells, markOf, Marks}
 
 -- one of two neighbours
@@ -86,10 +85,7 @@ marked-all kind l b marks m i h = elim (decLt i (l .nodes .count)) [
   | no k ↦ rw (m .2 i (omega arith) h, le-ltb i (l .nodes .count) (omega arith))
 ]
 
--- both sets of a specification are 16 bytes
-pub sets-long : (l : Layout) (b : Bytes) → GoodLayout l b → (i : ℕ) → i < l .specifications .count
-    → (length (specificationAt l b i .add) ≡ 16) × (length (specificationAt l b i .del) ≡ 16)
+-- both sets of a specification are 32 bytes
+pub sets-long : (l : Layout) (b : Bytes) (i : ℕ) → (length (specificationAt l b i .add) ≡ 32) × (length (specificationAt l b i .del) ≡ 32)
 unfolding specificationAt
-sets-long l b d i h =
-    let at = entryAt 36 (l .specifications) i in
-    (length-part b (at + 4) 16 (omega arith), length-part b (at + 20) 16 (omega arith))
+sets-long l b i = (length-set-at l b _, length-set-at l b _)

@@ -1,4 +1,5 @@
 -- The answer of one row of a table, and of its rows from one on, by name; and what is checked of a card by it.
+use mathlib.Core.Path.{_≡_}
 use mathlib.Core.Bool.{Bool, true, false}
 use mathlib.Core.List.{List}
 use Prim.Native.Nat.{ℕ}
@@ -8,8 +9,9 @@ use Rattle.meaning.specs.declared.Answer.{Answer}
 use Rattle.meaning.specs.declared.Answer.the-variants.{Done, Refused}
 use Rattle.meaning.specs.declared.Layout.{Layout}
 use Rattle.meaning.specs.declared.Checked.{Checked}
-use Rattle.meaning.specs.Card.{Bytes}
-use Rattle.meaning.specs.Refusals.{Row, firstGiven, cardTable, placeTable}
+use Rattle.meaning.specs.Card.{Bytes, layout}
+use Rattle.meaning.specs.Refusals.{Row, firstGiven, cardTable, cardAnswer, placeTable}
+use Rattle.layout.specs.GoodLayout.{TwoByteLayout}
 
 -- the answer of one row, by whether it is passed
 abbrev pub rowAnswer : Bool → Refusal → Answer
@@ -22,8 +24,9 @@ rowsFrom n rows x = firstGiven (drop n rows) x
 
 -- the rows of a card's table by name, and where each stands in it
 pub data CardRow : Type 0 where
-  short : CardRow
+  edition : CardRow
   mark : CardRow
+  header : CardRow
   counts : CardRow
   offsets : CardRow
   weights : CardRow
@@ -33,15 +36,16 @@ pub data CardRow : Type 0 where
   sets : CardRow
 
 abbrev pub cardPlace : CardRow → ℕ
-cardPlace CardRow.short = 0
+cardPlace CardRow.edition = 0
 cardPlace CardRow.mark = 1
-cardPlace CardRow.counts = 2
-cardPlace CardRow.offsets = 3
-cardPlace CardRow.weights = 4
-cardPlace CardRow.nodes = 5
-cardPlace CardRow.rules = 6
-cardPlace CardRow.pool = 7
-cardPlace CardRow.sets = 8
+cardPlace CardRow.header = 2
+cardPlace CardRow.counts = 3
+cardPlace CardRow.offsets = 4
+cardPlace CardRow.weights = 5
+cardPlace CardRow.nodes = 6
+cardPlace CardRow.rules = 7
+cardPlace CardRow.pool = 8
+cardPlace CardRow.sets = 9
 
 -- the answer of a card's rows from one on
 abbrev pub cardFrom : CardRow → Bytes → Answer
@@ -49,20 +53,22 @@ cardFrom r b = rowsFrom (cardPlace r) cardTable b
 
 -- the rows of a place's table by name, and where each stands in it
 pub data PlaceRow : Type 0 where
-  short : PlaceRow
+  edition : PlaceRow
   mark : PlaceRow
+  header : PlaceRow
   counts : PlaceRow
   offsets : PlaceRow
   plan : PlaceRow
   sets : PlaceRow
 
 abbrev pub placePlace : PlaceRow → ℕ
-placePlace PlaceRow.short = 0
+placePlace PlaceRow.edition = 0
 placePlace PlaceRow.mark = 1
-placePlace PlaceRow.counts = 2
-placePlace PlaceRow.offsets = 3
-placePlace PlaceRow.plan = 4
-placePlace PlaceRow.sets = 5
+placePlace PlaceRow.header = 2
+placePlace PlaceRow.counts = 3
+placePlace PlaceRow.offsets = 4
+placePlace PlaceRow.plan = 5
+placePlace PlaceRow.sets = 6
 
 -- the answer of a place's rows from one on
 abbrev pub placeFrom : PlaceRow → Layout → Bytes → Answer
@@ -77,3 +83,8 @@ checkedBy (Refused r) l = Checked.Refused r
 abbrev pub answerOf : Checked → Answer
 answerOf (Checked.Good l) = Done
 answerOf (Checked.Refused r) = Refused r
+
+-- what the rows of a card's header come to: its refusal; or its layout, where the others are left
+abbrev pub HeaderRead : Bytes → Checked → Type 0
+HeaderRead b (Checked.Good l) = (l ≡ layout b) × TwoByteLayout l × (cardAnswer b ≡ cardFrom CardRow.counts b)
+HeaderRead b (Checked.Refused r) = cardAnswer b ≡ Refused r

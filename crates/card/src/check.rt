@@ -4,25 +4,24 @@ ghost use mathlib.Core.Path.{_≡_};
 ghost use mathlib.Core.Bool.{true};
 ghost use Prim.Native.Nat.{_≤_};
 ghost use lib.ListN.{length};
-ghost use Rattle.meaning.specs.declared.Refusal.{Refusal};
-ghost use Rattle.meaning.specs.declared.Layout.{Layout};
-ghost use Rattle.meaning.specs.declared.Checked.{Checked};
-ghost use Rattle.meaning.specs.Sizes.{edition1Set, headerBytes};
 ghost use Rattle.meaning.specs.Card.{layout};
-ghost use Rattle.meaning.specs.Refusals.{cardLongEnough, countsGood, nodesGood, cardAnswer};
+ghost use Rattle.meaning.specs.Refusals.{cardMarkGood, cardLongEnough, countsGood, nodesGood};
 ghost use Rattle.meaning.specs.Calls.{checks};
 ghost use Rattle.layout.specs.GoodLayout.{TwoByteLayout, TwoByteSpan, GoodLayout};
-ghost use Rattle.card.specs.Rows.{rowAnswer, CardRow, cardFrom, checkedBy, answerOf};
+ghost use Rattle.card.specs.Rows.{rowAnswer, CardRow, cardFrom, HeaderRead, checkedBy, answerOf};
 use crate::contents::pool_good;
 use crate::contents::sets_good;
 use crate::contents::weights_good;
 use crate::nodes::nodes_good;
 use crate::rules::rules_good;
+use layout::bytes::has_edition;
 use layout::bytes::mark_good;
+use layout::bytes::number_at;
+use layout::bytes::two_bytes_at;
 use layout::header::counts_good;
 use layout::header::offsets_good;
 use layout::header::read_layout;
-use layout::sizes::edition_1_header;
+use layout::sizes::edition_header;
 use meaning::Answer;
 use meaning::Checked;
 use meaning::Layout;
@@ -119,28 +118,38 @@ fn from_counts(card: &[u8], l: Layout) -> Answer
     from_offsets(card, l)
 }
 
-// The number that a card with a header is answered with. Row 2, then 3 to 9: "bytes 33 41 hex".
-fn judge_card(card: &[u8], l: Layout) -> Answer
-    requires { ⌜ (headerBytes edition1Set ≤ length (now card)) × (l ≡ layout (now card)) × TwoByteLayout l ⌝ }
-    ensures { λ r. ⌜ r ≡ cardAnswer (now (card .entry)) ⌝ }
+// Not row 2: "bytes 33 41 hex", and the edition is 1 or 2.
+fn card_mark_good(card: &[u8]) -> bool
+    requires { ⌜ 4 ≤ length (now card) ⌝ }
+    ensures { λ r. ⌜ r ≡ cardMarkGood (now (card .entry)) ⌝ }
 {
-    let a = row(mark_good(card, 0x41), Refusal::Mark);
-    let Answer::Done = a else {
-        return a;
-    };
-    from_counts(card, l)
+    let edition = number_at(card, 2);
+    mark_good(card, 0x41) & ((edition == 1) | (edition == 2))
 }
 
-// Row 1: "card under 64 bytes". The layout that a header says, or the refusal.
-fn read_header(card: &[u8]) -> Checked
-    ensures { λ r. ⌜ r ≡ checkedBy (rowAnswer (cardLongEnough (now (card .entry))) Refusal.Short) (layout (now (card .entry))) ⌝ }
-    ensures { λ r. ⌜ ((l : Layout) → r ≡ Checked.Good l → TwoByteLayout l) ⌝ }
+// Not row 1: a card has all of its edition's header.
+fn long_enough(card: &[u8]) -> bool
+    requires { ⌜ 4 ≤ length (now card) ⌝ }
+    ensures { λ r. ⌜ (r ≡ cardLongEnough (now (card .entry))) × (r ≡ true → 32 ≤ length (now (card .entry))) ⌝ }
 {
-    if edition_1_header() <= card.len() {
-        Checked::Good(read_layout(card))
-    } else {
-        Checked::Refused(Refusal::Short)
+    edition_header(two_bytes_at(card, 2)) <= card.len()
+}
+
+// "a file under 4 bytes is 1, then a wrong mark or edition is 2, then one shorter than its edition's header is 1": the layout that
+// a header says, or the refusal.
+fn read_header(card: &[u8]) -> Checked
+    ensures { λ r. ⌜ HeaderRead (now (card .entry)) r ⌝ }
+{
+    if !has_edition(card) {
+        return Checked::Refused(Refusal::Short);
     }
+    if !card_mark_good(card) {
+        return Checked::Refused(Refusal::Mark);
+    }
+    if !long_enough(card) {
+        return Checked::Refused(Refusal::Short);
+    }
+    Checked::Good(read_layout(card))
 }
 
 // What is checked of a card with a layout, by the answer of its rows.
@@ -161,7 +170,7 @@ pub fn check(card: &[u8]) -> Checked
     let Checked::Good(l) = header else {
         return header;
     };
-    let rows = judge_card(card, l);
+    let rows = from_counts(card, l);
     let Answer::Done = rows else {
         return checked_by(rows, l);
     };

@@ -6,9 +6,9 @@ ghost use lib.ListN.{length};
 ghost use Rattle.meaning.specs.Card.{part};
 ghost use Rattle.meaning.specs.Refusals.{weightsGood, actionsGood, pool, setGood, setsGood};
 ghost use Rattle.layout.specs.GoodLayout.{GoodLayout};
+use layout::entries::add_both;
 use layout::entries::initial_beliefs;
 use layout::entries::initial_goals;
-use layout::entries::read_specification;
 use layout::entries::read_weight;
 use layout::header::in_range;
 use layout::limits::heaviest_action;
@@ -73,12 +73,7 @@ fn all_sets(card: &[u8], l: Layout) -> Set
     let mut all = sets::union(initial_beliefs(card, l), initial_goals(card, l));
     let mut i: usize = 0;
     while i < n {
-        let e = read_specification(card, l, i);
-        let add = e.add;
-        let del = e.del;
-        let both = sets::union(add, del);
-        let more = sets::union(all, both);
-        all = more;
+        add_both(&mut all, card, l, i);
         i += 1;
     }
     all

@@ -2,13 +2,13 @@
 use mathlib.Core.Path.{refl}
 use mathlib.Core.List.{flatten}
 use Rattle.meaning.specs.Assembled.{assembled}
-use Rattle.meaning.specs.Stripe.{set, specification, selection, revision, stripeWith, stripe, stripe-P4, stripe-P5, stripe-P9, stripe-P10, stripe-P13, stripe-two}
+use Rattle.meaning.specs.Stripe.{cardSet, set, specification, selection, revision, stripeWith, stripe, stripe-P4, stripe-P5, stripe-P9, stripe-P10, stripe-P13, stripe-two}
 use Rattle.meaning.specs.Numbers.{checkedNumber, endingNumber, comingNumber, comingChoice, verdictNumber, verdictOffender, verdictRule, offenderNumber, offenderRule}
 use Rattle.meaning.specs.Cases.{shown, shownCheck, shownReply, shownTake, shownGrade, shownWritten, shownRun, configuration, loaded, afterSteps, guideCode, stepLine, takenInTurn, placeP7, resting, PCases, stripe-bobbin, ClosedCases, havingFinished, shownFinished, FinishedCases, shownNext, NextCases}
 use Rattle.meaning.proofs.Computing.{computing}
 
 pub P-cases : PCases
-unfolding computing checkedNumber flatten assembled set specification selection revision stripeWith stripe stripe-P4 stripe-P5 stripe-P9 stripe-P10 stripe-P13 endingNumber verdictNumber verdictOffender verdictRule offenderNumber offenderRule shown shownCheck shownReply shownTake shownGrade shownWritten shownRun configuration loaded afterSteps guideCode stepLine takenInTurn placeP7 resting
+unfolding computing checkedNumber flatten assembled cardSet set specification selection revision stripeWith stripe stripe-P4 stripe-P5 stripe-P9 stripe-P10 stripe-P13 endingNumber verdictNumber verdictOffender verdictRule offenderNumber offenderRule shown shownCheck shownReply shownTake shownGrade shownWritten shownRun configuration loaded afterSteps guideCode stepLine takenInTurn placeP7 resting
 P-cases =
     record {
       accepted = refl;
@@ -37,7 +37,7 @@ P-cases =
     }
 
 pub closed-cases : ClosedCases
-unfolding computing flatten assembled set specification selection revision stripeWith stripe stripe-bobbin shown shownTake configuration
+unfolding computing flatten assembled cardSet set specification selection revision stripeWith stripe stripe-bobbin shown shownTake configuration
 closed-cases = record {
   missing = refl;
   in-the-way = refl;
@@ -56,7 +56,7 @@ closed-cases = record {
 }
 
 pub finished-cases : FinishedCases
-unfolding computing flatten assembled set specification selection revision stripeWith stripe stripe-P9 shown shownFinished configuration loaded afterSteps takenInTurn placeP7 havingFinished
+unfolding computing flatten assembled cardSet set specification selection revision stripeWith stripe stripe-P9 shown shownFinished configuration loaded afterSteps takenInTurn placeP7 havingFinished
 finished-cases = record {
   at-load = refl;
   five-steps = refl;
@@ -70,7 +70,7 @@ finished-cases = record {
 }
 
 pub next-cases : NextCases
-unfolding computing flatten assembled set specification selection revision stripeWith stripe stripe-two comingNumber comingChoice shown shownNext configuration loaded afterSteps resting
+unfolding computing flatten assembled cardSet set specification selection revision stripeWith stripe stripe-two comingNumber comingChoice shown shownNext configuration loaded afterSteps resting
 next-cases = record {
   at-the-start = refl;
   after-three = refl;

@@ -13,9 +13,9 @@ use Rattle.meaning.specs.declared.Layout.{Layout}
 use Rattle.meaning.specs.declared.Node.{Node}
 use Rattle.meaning.specs.Kinds.{nodeKind}
 use Rattle.meaning.specs.Card.{Bytes, byte, layout, nodeAt, nodes, pass, specificationAt}
-use Rattle.meaning.specs.Refusals.{all, cardLongEnough, cardMarkGood, countsGood, offsetsGood, weightsGood, nodeGood, nodesGood, containsOf, containing, rulesGood, actionsGood, pool, setsGood, cardTable, cardAnswer}
+use Rattle.meaning.specs.Refusals.{all, hasEdition, cardLongEnough, cardMarkGood, countsGood, offsetsGood, weightsGood, nodeGood, nodesGood, containsOf, containing, rulesGood, actionsGood, pool, setsGood, cardTable, cardAnswer}
 use Rattle.meaning.specs.Assembled.{assembled}
-use Rattle.meaning.specs.Stripe.{set, specification}
+use Rattle.meaning.specs.Stripe.{cardSet, set, specification}
 use Rattle.meaning.proofs.Computing.{computing}
 use Rattle.meaning.proofs.Tables.{not-given}
 use Rattle.card.specs.GoodCard.{GoodCondition}
@@ -88,8 +88,9 @@ module _ (l : Layout) (b : Bytes) where
 -- ---- what is computed of a card: its rows, and what is kept of node 255 where atom 0 is believed, and where it is not
 
 record Computed (b : Bytes) (v w : Bool) : Type 0 where
-  long-enough : cardLongEnough b ≡ true
+  edition : hasEdition b ≡ true
   marked : cardMarkGood b ≡ true
+  long-enough : cardLongEnough b ≡ true
   counts : countsGood (layout b) ≡ true
   offsets : offsetsGood (layout b) (length b) ≡ true
   weights : weightsGood (layout b) b ≡ true
@@ -111,8 +112,9 @@ module _ (b : Bytes) {v w : Bool} (d : Computed b v w) where
   accepted =
       let n : nodesGood l b ≡ true = good-along l b ∙ d .nodes in
       let r : rulesGood (containing 1 l b) (containing 2 l b) l b ≡ true = ap₂ (λ bs gs. rulesGood bs gs l b) (contained-along l b 1) (contained-along l b 2) ∙ d .rules in
-      not-given _ _ b (ap not (d .long-enough))
+      not-given _ _ b (ap not (d .edition))
       ∙ not-given _ _ b (ap not (d .marked))
+      ∙ not-given _ _ b (ap not (d .long-enough))
       ∙ not-given _ _ b (ap not (d .counts))
       ∙ not-given _ _ b (ap not (d .offsets))
       ∙ not-given _ _ b (ap not (d .weights))
@@ -133,12 +135,12 @@ module _ (b : Bytes) {v w : Bool} (d : Computed b v w) where
 -- ---- the two cards
 
 shared : Computed sharedCard true false
-unfolding computing flatten assembled set specification cardOf sharedNode sharedCard believed missing
-shared = record { long-enough = refl; marked = refl; counts = refl; offsets = refl; weights = refl; nodes = refl; rules = refl; pool = refl; sets = refl; one = refl; last = refl; when-believed = refl; when-missing = refl }
+unfolding computing flatten assembled cardSet set specification cardOf sharedNode sharedCard believed missing
+shared = record { edition = refl; marked = refl; long-enough = refl; counts = refl; offsets = refl; weights = refl; nodes = refl; rules = refl; pool = refl; sets = refl; one = refl; last = refl; when-believed = refl; when-missing = refl }
 
 deep : Computed deepCard false true
-unfolding computing flatten assembled set specification cardOf deepNode deepCard believed missing
-deep = record { long-enough = refl; marked = refl; counts = refl; offsets = refl; weights = refl; nodes = refl; rules = refl; pool = refl; sets = refl; one = refl; last = refl; when-believed = refl; when-missing = refl }
+unfolding computing flatten assembled cardSet set specification cardOf deepNode deepCard believed missing
+deep = record { edition = refl; marked = refl; long-enough = refl; counts = refl; offsets = refl; weights = refl; nodes = refl; rules = refl; pool = refl; sets = refl; one = refl; last = refl; when-believed = refl; when-missing = refl }
 
 pub one-pass-cases : OnePassCases
 one-pass-cases =

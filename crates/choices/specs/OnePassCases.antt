@@ -10,12 +10,12 @@ use Rattle.meaning.specs.declared.Answer.the-variants.{Done}
 use Rattle.meaning.specs.Card.{Bytes, layout}
 use Rattle.meaning.specs.Refusals.{cardAnswer}
 use Rattle.meaning.specs.Assembled.{assembled}
-use Rattle.meaning.specs.Stripe.{set, specification}
+use Rattle.meaning.specs.Stripe.{cardSet, set, specification}
 use Rattle.choices.specs.OnePass.{valueOf, Settles}
 
 -- A card of 256 nodes, each given by its number: with one atom, one action that weighs 1, and one specification, on node 255.
 unfoldable pub cardOf : (ℕ → Bytes) → Bytes
-cardOf node = assembled 1 (1 ∷ []) (map node (numbers 0 256)) (specification 0 255 0 0 ∷ []) [] [] [] (set 0) (set 0) 0 0
+cardOf node = assembled 1 (1 ∷ []) (map node (numbers 0 256)) (specification 0 255 0 0 ∷ []) [] [] [] (cardSet 0) (cardSet 0) 0 0
 
 -- 01, "The card, edition 1": "1 believes a" and "4 a and b": node 0 believes atom 0, each other joins the one below with itself.
 unfoldable pub sharedNode : ℕ → Bytes

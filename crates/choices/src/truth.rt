@@ -2,7 +2,7 @@
 // each node".
 ghost use mathlib.Core.Path.{_≡_};
 ghost use mathlib.Core.Bool.{Bool, not};
-ghost use Prim.Native.Nat.{ℕ, _≤_, _<_};
+ghost use Prim.Native.Nat.{ℕ, _≤_};
 ghost use lib.ListN.{length, replicate};
 ghost use Rattle.paper.specs.Atoms.{_∈_};
 ghost use Rattle.meaning.specs.Kinds.{nodeKind};
@@ -61,7 +61,6 @@ fn one_of(left: u16, right: u16) -> u16
 
 // Whether an atom is in a set, read where the set stands.
 fn has_atom(s: &Set, k: u8) -> bool
-    requires { ⌜ k < 128 ⌝ }
     ensures { λ r. ⌜ r ≡ (k ∈ now (s .entry)) ⌝ }
 {
     let i = (k / 8) as usize;
@@ -78,7 +77,7 @@ fn not_of(mark: u16) -> u16
 // 02, Wish 1: "Judging a condition should also name the atom that settled it: for an atom or "true", that node": node i, by the
 // marks of the lower nodes.
 fn judge(i: u8, x: Node, beliefs: &Set, goals: &Set, marks: &Marks) -> u16
-    requires { ⌜ (x .kind ≤ 5) × (1 ≤ x .kind → x .kind ≤ 2 → x .a < 128) ⌝ }
+    requires { ⌜ x .kind ≤ 5 ⌝ }
     ensures { λ r. ⌜ ofMark r ≡ keptOf i (nodeKind (x .kind)) (x .a) (x .b) (now (beliefs .entry)) (now (goals .entry)) (markAt (now (marks .entry))) ⌝ }
 {
     let kind = x.kind;

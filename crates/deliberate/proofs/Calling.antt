@@ -24,6 +24,7 @@ use Rattle.meaning.proofs.Tables.{done≢refused}
 use Rattle.meaning.proofs.Calls.{good-judged, refused-judged}
 use Rattle.card.specs.Rows.{rowAnswer}
 use Rattle.card.proofs.Rows.{row-done}
+use Rattle.door.proofs.Accepting.{accepted-card}
 use Rattle.deliberation.specs.declared.Deliberated.{Deliberated}
 use Rattle.deliberation.specs.Entries.{entryCount, entriesOf, programGood, numbersGood, goOnAnswer, whole}
 use Rattle.deliberation.specs.Deliberate.{Outcome, deliberate, remainingOf, deliberated, goesOn}
@@ -133,22 +134,40 @@ ran-so o r plan stack numbers n t e =
 
 -- ---- the checks
 
+-- a card that is good has a header, and the layout is what the header says
+module _ (b : Bytes) (e : checks b ≡ Checked.Good (layout b)) where
+  pub has-header : 32 ≤ length b
+  has-header = let g = accepted-card b (layout b) e .layout in omega arith
+
+  pub read-again : (p : Bytes) → GoodProgram (layout b) b p → (l : Layout) → l ≡ layout b → (checks b ≡ Checked.Good l) × GoodProgram l b p
+  read-again p g l q = (e ∙ ap Checked.Good (sym q), subst (λ x. GoodProgram x b p) (sym q) g)
+
 module _ (b p : Bytes) where
   module _ (l : Layout) (e : checks b ≡ Checked.Good l) where
     says : l ≡ layout b
     says = good-judged b l e .1
 
-    pub program-accepted : (a : Answer) → a ≡ rowAnswer (programGood (containing 2 l b) l p) Refusal.Program → a ≡ Done → GoodProgram l b p
+    program-accepted : (a : Answer) → a ≡ rowAnswer (programGood (containing 2 l b) l p) Refusal.Program → a ≡ Done → GoodProgram l b p
     program-accepted a h f = good-program l b p (row-done _ Refusal.Program (sym h ∙ f))
 
     -- a program that is not good is refused, whatever else is given
-    pub by-program : (a : Answer) → a ≡ rowAnswer (programGood (containing 2 l b) l p) Refusal.Program → (q : Refusal) → a ≡ Refused q
-        → (ns : List ℕ) (c : Configuration) → goOnAnswer b p ns c ≡ Refused Refusal.Program
+    by-program : (a : Answer) → a ≡ rowAnswer (programGood (containing 2 l b) l p) Refusal.Program → (q : Refusal) → a ≡ Refused q
+        → (ns : List ℕ) (c : Configuration) → goOnAnswer b p ns c ≡ Refused q
     by-program a h q f ns c = go (programGood (containing 2 l b) l p) refl
       where
-        go : (t : Bool) → programGood (containing 2 l b) l p ≡ t → goOnAnswer b p ns c ≡ Refused Refusal.Program
+        go : (t : Bool) → programGood (containing 2 l b) l p ≡ t → goOnAnswer b p ns c ≡ Refused q
         go true g = absurd (done≢refused (sym (h ∙ ap (λ t. rowAnswer t Refusal.Program) g) ∙ f))
-        go false g = program-refused b p ns c (good-judged b l e .0) (sym (ap (λ (x : Layout). programGood (containing 2 x b) x p) says) ∙ g)
+        go false g =
+            program-refused b p ns c (good-judged b l e .0) (sym (ap (λ (x : Layout). programGood (containing 2 x b) x p) says) ∙ g)
+            ∙ sym (h ∙ ap (λ t. rowAnswer t Refusal.Program) g)
+            ∙ f
+
+    -- what is found of the program, as it is told
+    pub admits : (a : Answer) → a ≡ rowAnswer (programGood (containing 2 l b) l p) Refusal.Program → Admits b p a
+    admits a h = record {
+      good = λ f. (e ∙ ap Checked.Good says, subst (λ x. GoodProgram x b p) says (program-accepted a h f));
+      bad = by-program a h;
+    }
 
     pub by-numbers : (ns : List ℕ) (c : Configuration) → numbersGood (entryCount p) ns ≡ false → goOnAnswer b p ns c ≡ Refused Refusal.Program
     by-numbers ns c g = numbers-refused b p ns c (good-judged b l e .0) g
@@ -181,20 +200,14 @@ module _ (b p : Bytes) where
         ∙ sym (goes-on-done b p ns c budget lent f)
 
   -- a card that is not good is refused, whatever else is given
-  pub by-card : (q : Refusal) → checks b ≡ Checked.Refused q → (ns : List ℕ) (c : Configuration) → goOnAnswer b p ns c ≡ Refused q
+  by-card : (q : Refusal) → checks b ≡ Checked.Refused q → (ns : List ℕ) (c : Configuration) → goOnAnswer b p ns c ≡ Refused q
   by-card q e ns c = card-refused b p ns c q (refused-judged b q e)
 
-  -- what is found of the two, as it is told
-  pub admits-not : (q : Refusal) → ((ns : List ℕ) (c : Configuration) → goOnAnswer b p ns c ≡ Refused q) → Admits b p (Checked.Refused q)
-  admits-not q h = record {
-    good = λ l e. absurd (let z : _≡_ {A = ℕ} 0 1 = cc in omega arith);
-    bad = λ q′ e ns c. h ns c ∙ cc;
-  }
-
-  pub admits-both : (l : Layout) → checks b ≡ Checked.Good l → GoodProgram l b p → Admits b p (Checked.Good l)
-  admits-both l e g = record {
-    good = λ l′ f. (let q : l ≡ l′ = cc in (e ∙ ap Checked.Good q, subst (λ x. GoodProgram x b p) q g));
-    bad = λ q f ns c. absurd (let z : _≡_ {A = ℕ} 0 1 = cc in omega arith);
+  -- and so it is told
+  pub admits-not : (q : Refusal) → checks b ≡ Checked.Refused q → (a : Answer) → a ≡ Refused q → Admits b p a
+  admits-not q e a f = record {
+    good = λ g. absurd (done≢refused (sym g ∙ f));
+    bad = λ r g ns c. by-card q e ns c ∙ sym f ∙ g;
   }
 
   -- a refusal as it is answered

@@ -3,11 +3,8 @@ use mathlib.Core.Path.{_≡_, refl, ap, ap₂, _∙_, sym, subst}
 use mathlib.Core.Bool.{Bool, true, false, _||_}
 use mathlib.Core.List.{List, [], _∷_, _++_}
 use mathlib.Core.Option.{Option, none, some}
-use Prim.Native.Nat.{ℕ, _+_, _<_}
-use native.Mathlib.Omega.{arith}
-use borrow.Author.Count.{below-more}
-use lib.ListN.{length, getD, set}
-use lib.Seq.{getD-set-same, getD-set-other}
+use Prim.Native.Nat.{ℕ, _<_}
+use Rattle.paper.specs.Atoms.{Atoms, _∈_}
 use Rattle.paper.specs.Language.{𝐁, Query, Agent, Config}
 use Rattle.paper.specs.Transitions.{Choice}
 use Rattle.paper.specs.Next.{isSome, enabled}
@@ -16,6 +13,7 @@ use Rattle.meaning.specs.declared.Configuration.{Configuration}
 use Rattle.meaning.specs.Card.{Bytes, condition, conditions, agentFor}
 use Rattle.meaning.specs.Refusals.{containing}
 use Rattle.meaning.specs.Configurations.{stateOf}
+use Rattle.sets.proofs.Members.{passing-below}
 use Rattle.door.specs.Asking.{chosen}
 use Rattle.deliberation.specs.Programs.{notEmptyPlan, holds, 𝒲}
 use Rattle.deliberation.specs.Kinds.{EntryKind, Execute, Apply, Select, WhilePlan, WhileBelief, Then, Or, entryKind}
@@ -104,25 +102,18 @@ module _ {n m : ℕ} {C : ℕ → Type 0} {i a b : ℕ} (k : ℕ) (g : EntryLaws
   pub or-known : k ≡ 6 → (a < i) × (b < i)
   or-known e = or-lower (subst (λ j. EntryLaws n m C i a b (entryKind j)) e g)
 
--- marks of the entries below n, and what is marked of entry n
-module _ (l : Layout) (b p : Bytes) (c : Configuration) (n : ℕ) (movable : List Bool) (marked : Movable l b p c n movable) where
+-- the set of the entries below n that have a first move, and whether entry n has one
+module _ (l : Layout) (b p : Bytes) (c : Configuration) (n : ℕ) (movable : Atoms) (marked : Movable l b p c n movable) where
   abbrev has : ℕ → Bool
   has j = isSome (moveAt l b p (stateOf c .mental) j)
 
   pub movable-next : GoodProgram l b p → n < entryCount p
-      → movableOf (agentFor l b) (stateOf c .mental) (entryKind (entryOf p n .kind)) (entryOf p n .a) (entryOf p n .b) (λ j. getD movable j false) ≡ has n
+      → movableOf (agentFor l b) (stateOf c .mental) (entryKind (entryOf p n .kind)) (entryOf p n .a) (entryOf p n .b) (λ j. j ∈ movable) ≡ has n
   movable-next good h =
       let A = agentFor l b in
       let βs = conditions 𝐁 l b in
       let s = stateOf c .mental in
       let x = entryOf p n in
-      by-parts A βs s _ _ (good .entries n h .names) marked
+      by-parts A βs s _ _ (good .entries n h .names) (passing-below has n movable marked)
       ∙ sym (some-of A βs s n (entryKind (x .kind)) (x .a) (x .b) (moveAt l b p s))
       ∙ ap isSome (sym (move-at (containing 2 l b) l p (good .good) n h A βs s))
-
-  -- a turn of the pass
-  pub movable-more : (v : Bool) → n < length movable → v ≡ has n → Movable l b p c (n + 1) (set movable n v)
-  movable-more v h e =
-      below-more (λ j. getD (set movable n v) j false ≡ has j) n
-      (λ j k. getD-set-other movable n j v false (omega arith) ∙ marked j k)
-      (getD-set-same movable n v false h ∙ e)

@@ -1,6 +1,6 @@
 -- The next of the numbers that remain, and what is left of them where its move is not made.
 use mathlib.Core.Path.{_≡_, refl, ap, _∙_, sym, subst}
-use mathlib.Core.List.{_∷_}
+use mathlib.Core.List.{List, _∷_}
 use mathlib.Core.Option.{some}
 use Prim.Native.Nat.{ℕ, _+_, _≤_, _<_}
 use native.Mathlib.Numerals.{add-one}
@@ -68,6 +68,26 @@ module _ (l : Layout) (b p : Bytes) (c : Configuration) (stack : Bytes) (top : �
         subst (λ m. Makes l b c (drop top stack) (on ns s) (keptAs m x top) plan (keptIn m left top next)) (sym (k .made))
         (record { made = k .made; configuration = k .configuration; numbers = k .numbers; within = k .within; room = k .room; keeps = k .keeps })
 
-    pub kept-so : (o : MoveResult) → Makes l b c (drop rest down) o x plan left → (y : AfterMove) (end : Bytes) → y ≡ keptAs (x .made) x top
-        → end ≡ keptIn (x .made) left top next → Makes l b c (drop top stack) o y plan end
-    kept-so o k y end e f = subst (λ z. Makes l b c (drop top stack) o z plan end) (sym e) (subst (λ z. Makes l b c (drop top stack) o (keptAs (x .made) x top) plan z) (sym f) (by-made o k))
+    pub kept-so : (o : MoveResult) → Makes l b c (drop rest down) o x plan left → (end : Bytes) → end ≡ keptIn (x .made) left top next
+        → Makes l b c (drop top stack) o (keptAs (x .made) x top) plan end
+    kept-so o k end e = subst (λ z. Makes l b c (drop top stack) o (keptAs (x .made) x top) plan z) (sym e) (by-made o k)
+
+-- a move that is not made leaves the mind
+pub unmoved : {l : Layout} {b : Bytes} {c : Configuration} {ns : List ℕ} {x : AfterMove} {plan left : Bytes} (o : MoveResult) → Makes l b c ns o x plan left
+    → (x .made ≡ MoveMade.On → ⊥) → x .mind ≡ c .mind
+unmoved stuck k off = ap (λ (y : Configuration). y .mind) (k .configuration)
+unmoved too-long k off = ap (λ (y : Configuration). y .mind) (k .configuration)
+unmoved (on ns s) k off = absurd (off (k .made))
+
+-- what a move that is made comes to, and one that is not
+module _ (r : AfterMove) (top : ℕ) where
+  pub kept-on : r .made ≡ MoveMade.On → keptAs (r .made) r top ≡ r
+  kept-on e = ap (λ m. keptAs m r top) e
+
+  pub kept-off : (r .made ≡ MoveMade.On → ⊥) → keptAs (r .made) r top ≡ stayed (r .mind) (r .made) top
+  kept-off off = by (r .made) refl
+    where
+      by : (m : MoveMade) → r .made ≡ m → keptAs m r top ≡ stayed (r .mind) m top
+      by MoveMade.On e = absurd (off e)
+      by MoveMade.Stuck e = refl
+      by MoveMade.Full e = refl

@@ -1,9 +1,7 @@
 -- Which entries of a program have a first move: what the call marks.
 use mathlib.Core.Bool.{Bool, true, false, _||_}
-use mathlib.Core.Path.{_≡_}
-use mathlib.Core.List.{List}
-use Prim.Native.Nat.{ℕ, _<_}
-use lib.ListN.{getD}
+use Prim.Native.Nat.{ℕ}
+use Rattle.paper.specs.Atoms.{Atoms}
 use Rattle.paper.specs.Language.{Agent, Config}
 use Rattle.paper.specs.Transitions.{Choice}
 use Rattle.paper.specs.Next.{isSome, enabled}
@@ -11,6 +9,7 @@ use Rattle.meaning.specs.declared.Layout.{Layout}
 use Rattle.meaning.specs.declared.Configuration.{Configuration}
 use Rattle.meaning.specs.Card.{Bytes}
 use Rattle.meaning.specs.Configurations.{stateOf}
+use Rattle.sets.specs.Sets.{Passing}
 use Rattle.door.specs.declared.asked.Chosen.{Chosen}
 use Rattle.deliberation.specs.Kinds.{EntryKind, Execute, Apply, Select, WhilePlan, WhileBelief, Then, Or}
 use Rattle.deliberation.specs.FirstMove.{lowestAction}
@@ -31,6 +30,6 @@ movableOf A s WhileBelief a b movable = true
 movableOf A s Then a b movable = movable a
 movableOf A s Or a b movable = movable a || movable b
 
--- marks of the entries below n that tell which have a first move
-abbrev pub Movable : Layout → Bytes → Bytes → Configuration → ℕ → List Bool → Type 0
-Movable l b p c n movable = (j : ℕ) → j < n → getD movable j false ≡ isSome (moveAt l b p (stateOf c .mental) j)
+-- the set of the entries below n that have a first move
+abbrev pub Movable : Layout → Bytes → Bytes → Configuration → ℕ → Atoms → Type 0
+Movable l b p c n movable = Passing (λ j. isSome (moveAt l b p (stateOf c .mental) j)) n movable

@@ -4,12 +4,11 @@ use mathlib.Core.List.{List}
 use Prim.Native.Nat.{ℕ}
 use Rattle.meaning.specs.declared.Refusal.{Refusal}
 use Rattle.meaning.specs.declared.Answer.{Answer}
-use Rattle.meaning.specs.declared.Answer.the-variants.{Refused}
-use Rattle.meaning.specs.declared.Layout.{Layout}
+use Rattle.meaning.specs.declared.Answer.the-variants.{Done, Refused}
 use Rattle.meaning.specs.declared.Checked.{Checked}
 use Rattle.meaning.specs.declared.Configuration.{Configuration}
 use Rattle.meaning.specs.declared.Mind.{Mind}
-use Rattle.meaning.specs.Card.{Bytes}
+use Rattle.meaning.specs.Card.{Bytes, layout}
 use Rattle.meaning.specs.Calls.{checks}
 use Rattle.deliberation.specs.Entries.{goOnAnswer}
 use Rattle.program.specs.GoodProgram.{GoodProgram}
@@ -39,6 +38,6 @@ refusedWith a m = record { answer = a; count = 0; ending = DeliberationEnding.Sp
 
 -- what is found of a card and a program: both are good; or one is not, and the call is refused with its number, whatever the
 -- numbers and the configuration
-pub record Admits (b p : Bytes) (x : Checked) : Type 0 where
-  pub good : (l : Layout) → x ≡ Checked.Good l → (checks b ≡ Checked.Good l) × GoodProgram l b p
-  pub bad : (q : Refusal) → x ≡ Checked.Refused q → (ns : List ℕ) (c : Configuration) → goOnAnswer b p ns c ≡ Refused q
+pub record Admits (b p : Bytes) (a : Answer) : Type 0 where
+  pub good : a ≡ Done → (checks b ≡ Checked.Good (layout b)) × GoodProgram (layout b) b p
+  pub bad : (q : Refusal) → a ≡ Refused q → (ns : List ℕ) (c : Configuration) → goOnAnswer b p ns c ≡ Refused q

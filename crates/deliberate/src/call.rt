@@ -7,6 +7,7 @@ ghost use Prim.Native.Nat.{_-_, _/_, _≤_};
 ghost use lib.ListN.{length, drop};
 ghost use Rattle.door.specs.Words.{𝐁, conditions, agentFor, stateOf, configured, Ready};
 ghost use Rattle.meaning.specs.declared.Checked.{Checked};
+ghost use Rattle.meaning.specs.Card.{layout};
 ghost use Rattle.meaning.specs.Calls.{checks};
 ghost use Rattle.deliberation.specs.Entries.{entryCount, entriesOf, numbersGood};
 ghost use Rattle.deliberation.specs.Deliberate.{deliberate, remainingOf, deliberated, goesOn, deliberates};
@@ -21,6 +22,7 @@ use layout::bytes::byte_below;
 use layout::bytes::copy;
 use layout::bytes::down;
 use layout::bytes::size;
+use layout::header::read_layout;
 use meaning::Answer;
 use meaning::Checked;
 use meaning::Layout;
@@ -30,12 +32,13 @@ use meaning::Refusal;
 use plans::clear;
 use program::judge_program;
 
-// Of `Deliberated`, all but what the lent plan and the lent numbers hold: how many of these remain.
+// Of `Deliberated`, all but what the lent plan and the lent numbers hold: how many of these remain. The mind stands first, so that
+// it is copied in whole words.
 pub struct DeliberatedInPlace {
+    pub mind: Mind,
     pub answer: Answer,
     pub count: u16,
     pub ending: DeliberationEnding,
-    pub mind: Mind,
     pub length: u8,
 }
 
@@ -53,18 +56,14 @@ fn refused(answer: Answer, m: Mind) -> DeliberatedInPlace
 }
 
 // Rows 1 to 9, of the card, then 19, of the program.
-fn check_program(card: &[u8], program: &[u8]) -> Checked
+fn check_program(card: &[u8], program: &[u8]) -> Answer
     ensures { λ r. ⌜ Admits (now (card .entry)) (now (program .entry)) r ⌝ }
 {
     let checked = check(card);
     let Checked::Good(l) = checked else {
-        return checked;
+        return answer_of(checked);
     };
-    let judged = judge_program(card, l, program);
-    let Answer::Done = judged else {
-        return Checked::Refused(Refusal::Program);
-    };
-    checked
+    judge_program(card, l, program)
 }
 
 // Whether a deliberation may go on from given numbers: each, plus how many stand behind it, is below the number of entries.
@@ -147,10 +146,9 @@ fn from_moves(
     }
 }
 
-// Row 13, then the moves.
+// Row 13, then the moves. The layout of the card, which was checked, is read again: it stands in no frame above this one.
 fn from_configuration(
     card: &[u8],
-    l: Layout,
     m: Mind,
     plan: &mut Plan,
     program: &[u8],
@@ -158,12 +156,13 @@ fn from_configuration(
     budget: u16,
     remaining: &mut [u8; 128],
 ) -> DeliberatedInPlace
-    requires { ⌜ (checks (now card) ≡ Checked.Good l) × GoodProgram l (now card) (now program)
+    requires { ⌜ (checks (now card) ≡ Checked.Good (layout (now card))) × GoodProgram (layout (now card)) (now card) (now program)
         × (numbersGood (entryCount (now program)) (now given) ≡ true) ⌝ }
     ensures { λ r. ⌜ deliberatedWith r (now (plan .exit)) (now (remaining .exit))
         ≡ goesOn (now (card .entry)) (now (program .entry)) (now (given .entry)) (configured m (now (plan .entry))) budget
         (now (remaining .entry)) ⌝ }
 {
+    let l = read_layout(card);
     let judged = judge_configuration(l, m, plan);
     let Answer::Done = judged else {
         return refused(judged, m);
@@ -193,11 +192,11 @@ pub fn deliberate(
         ≡ deliberates (now (card .entry)) (now (program .entry)) (configured m (now (plan .entry))) budget (now (remaining .entry)) ⌝ }
 {
     let checked = check_program(card, program);
-    let Checked::Good(l) = checked else {
-        return refused(answer_of(checked), m);
+    let Answer::Done = checked else {
+        return refused(checked, m);
     };
     let given = whole_program(program.len() / 4);
-    from_configuration(card, l, m, plan, program, &given, budget, remaining)
+    from_configuration(card, m, plan, program, &given, budget, remaining)
 }
 
 // The same from given numbers that remain: 19 for those that cannot, in its place.
@@ -215,11 +214,11 @@ pub fn go_on(
         (now (remaining .entry)) ⌝ }
 {
     let checked = check_program(card, program);
-    let Checked::Good(l) = checked else {
-        return refused(answer_of(checked), m);
+    let Answer::Done = checked else {
+        return refused(checked, m);
     };
     if !numbers_good(given, program.len() / 4) {
         return refused(Answer::Refused(Refusal::Program), m);
     }
-    from_configuration(card, l, m, plan, program, given, budget, remaining)
+    from_configuration(card, m, plan, program, given, budget, remaining)
 }

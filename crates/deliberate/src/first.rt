@@ -1,8 +1,8 @@
-// Which entries of a program have a first move: in one pass from the lowest upward, with one mark an entry, for parts are shared.
+// Which entries of a program have a first move: in one pass from the lowest upward, with one bit an entry, for parts are shared.
 ghost use mathlib.Core.Path.{_≡_};
 ghost use Prim.Native.Nat.{ℕ, _≤_, _<_};
-ghost use mathlib.Core.Bool.{false};
-ghost use lib.ListN.{replicate, getD};
+ghost use lib.ListN.{replicate};
+ghost use Rattle.paper.specs.Atoms.{_∈_};
 ghost use Rattle.paper.specs.Next.{isSome};
 ghost use Rattle.door.specs.Words.{agentFor, stateOf, configured, firstOfKind};
 ghost use Rattle.choices.specs.Judged.{Judged};
@@ -19,6 +19,8 @@ use meaning::Mind;
 use meaning::Node;
 use meaning::Plan;
 use program::read_entry;
+use sets::add_member;
+use sets::has_member;
 
 // Whether there is a choice.
 fn is_at(c: Chosen) -> bool
@@ -31,10 +33,10 @@ fn is_at(c: Chosen) -> bool
 }
 
 // No entry is marked.
-fn no_moves() -> [bool; 128]
-    ensures { λ r. ⌜ r ≡ replicate 128 false ⌝ }
+fn no_moves() -> [u8; 16]
+    ensures { λ r. ⌜ r ≡ replicate 16 0 ⌝ }
 {
-    [false; 128]
+    [0u8; 16]
 }
 
 // Whether an entry has a first move: an execute where an action is enabled, an apply and a select whose rule is enabled, a while
@@ -47,12 +49,12 @@ fn has_move(
     marks: &Marks,
     acts: bool,
     e: Node,
-    movable: &[bool; 128],
+    movable: &[u8; 16],
 ) -> bool
     requires { ⌜ Judged l (now card) (configured m (now plan)) (now marks) × ((i : ℕ) × ((i < 128) × GoodEntry l (now card) i e)) ⌝ }
     requires { ⌜ acts ≡ isSome (lowestAction (agentFor l (now card)) (stateOf (configured m (now plan)) .mental)) ⌝ }
     ensures { λ r. ⌜ r ≡ movableOf (agentFor l (now (card .entry))) (stateOf (configured m (now (plan .entry))) .mental)
-        (entryKind (e .kind)) (e .a) (e .b) (λ j. getD (now (movable .entry)) j false) ⌝ }
+        (entryKind (e .kind)) (e .a) (e .b) (λ j. j ∈ now (movable .entry)) ⌝ }
 {
     let kind = e.kind;
     let a = e.a;
@@ -62,8 +64,8 @@ fn has_move(
         1 => is_enabled(card, l, m, plan, marks, 2, a as usize),
         2 => is_enabled(card, l, m, plan, marks, 0, a as usize),
         3..=4 => true,
-        5 => movable[a as usize],
-        _ => movable[a as usize] | movable[b as usize],
+        5 => has_member(movable, a as usize),
+        _ => has_member(movable, a as usize) | has_member(movable, b as usize),
     }
 }
 
@@ -77,7 +79,7 @@ pub fn mark_moves(
     program: &[u8],
     action: Chosen,
     n: usize,
-) -> [bool; 128]
+) -> [u8; 16]
     requires { ⌜ Judged l (now card) (configured m (now plan)) (now marks) × GoodProgram l (now card) (now program) ⌝ }
     requires { ⌜ (action ≡ firstOfKind l (now card) (configured m (now plan)) 1) × (n ≤ entryCount (now program)) ⌝ }
     ensures { λ r. ⌜ Movable l (now (card .entry)) (now (program .entry)) (configured m (now (plan .entry))) n r ⌝ }
@@ -88,7 +90,9 @@ pub fn mark_moves(
     while i < n {
         let e = read_entry(program, i);
         let has = has_move(card, l, m, plan, marks, acts, e, &movable);
-        movable[i] = has;
+        if has {
+            add_member(&mut movable, i);
+        }
         i += 1;
     }
     movable

@@ -149,19 +149,20 @@ fn holds(e: Node, m: Mind, marks: &Marks) -> bool
     }
 }
 
-// The idle move of a while with number i: if its condition holds, its body and itself go before the numbers.
-fn turn(e: Node, i: usize, m: Mind, marks: &Marks, stack: &mut [u8; 128], top: usize) -> AfterMove
+// The idle move of a while with number i: if its condition holds, its body and itself go before the numbers. Answers where these
+// then begin.
+fn turn(e: Node, i: usize, m: Mind, marks: &Marks, stack: &mut [u8; 128], top: usize) -> usize
     requires { ⌜ (3 ≤ e .kind) × (e .kind < 5) × (i < 128) × (2 ≤ top) × (top ≤ 128) × (length (now stack) ≡ 128) ⌝ }
-    ensures { λ r. ⌜ (r ≡ stayed m MoveMade.On (r .top)) × (r .top ≤ 128) × (length (now (stack .exit)) ≡ 128) ⌝ }
+    ensures { λ r. ⌜ (r ≤ 128) × (length (now (stack .exit)) ≡ 128) ⌝ }
     ensures { λ r. ⌜ ((t : Bool) × (HoldsBy e (m .length) (markAt (now (marks .entry)) (e .a) .0) t
-        × (drop (r .top) (now (stack .exit)) ≡ again t (e .b) i (drop top (now (stack .entry)))))) ⌝ }
+        × (drop r (now (stack .exit)) ≡ again t (e .b) i (drop top (now (stack .entry)))))) ⌝ }
 {
     if !holds(e, m, marks) {
-        return stays(m, MoveMade::On, top);
+        return top;
     }
     stack[top - 1] = i as u8;
     stack[top - 2] = e.b;
-    stays(m, MoveMade::On, top - 2)
+    top - 2
 }
 
 // The move of an entry without parts, or of a while: where a descent ends.
@@ -186,28 +187,25 @@ fn move_leaf(
 {
     let e = leaf.entry;
     if 3 <= e.kind {
-        return turn(e, leaf.at, m, marks, stack, leaf.top);
+        let rest = turn(e, leaf.at, m, marks, stack, leaf.top);
+        return stays(m, MoveMade::On, rest);
     }
     let choice = choice_of(card, l, m, plan, marks, e, action);
     make_choice(card, l, m, plan, choice, leaf.top)
 }
 
 // A move that is not made leaves the numbers as they were: `next` stands at top again.
-fn kept(moved: AfterMove, stack: &mut [u8; 128], top: usize, next: u8) -> AfterMove
+fn put_back(made: MoveMade, stack: &mut [u8; 128], top: usize, next: u8)
     requires { ⌜ (top < 128) × (length (now stack) ≡ 128) ⌝ }
-    ensures { λ r. ⌜ (r ≡ keptAs (moved .made) moved top) × (now (stack .exit) ≡ keptIn (moved .made) (now (stack .entry)) top next) ⌝ }
+    ensures { λ r. ⌜ now (stack .exit) ≡ keptIn made (now (stack .entry)) top next ⌝ }
 {
-    let made = moved.made;
-    let m = moved.mind;
     match made {
-        MoveMade::On => moved,
+        MoveMade::On => {}
         MoveMade::Stuck => {
             stack[top] = next;
-            stays(m, MoveMade::Stuck, top)
         }
         MoveMade::Full => {
             stack[top] = next;
-            stays(m, MoveMade::Full, top)
         }
     }
 }
@@ -265,7 +263,7 @@ fn reach(
     }
 }
 
-// The first move of the number at top, where every node's truth is known.
+// The first move of the number at top, where every node's truth is known. Where it is not made, the numbers begin at top as before.
 pub fn make_move(
     card: &[u8],
     l: Layout,
@@ -279,7 +277,7 @@ pub fn make_move(
     requires { ⌜ Judged l (now card) (configured m (now plan)) (now marks) × GoodProgram l (now card) (now program) ⌝ }
     requires { ⌜ Remains (now program) (now stack) top × (top < 128) ⌝ }
     ensures { λ r. ⌜ MakesNext l (now (card .entry)) (now (program .entry)) (configured m (now (plan .entry))) (now (stack .entry)) top
-        r (now (plan .exit)) (now (stack .exit)) ⌝ }
+        (keptAs (r .made) r top) (now (plan .exit)) (now (stack .exit)) ⌝ }
 {
     let next = stack[top];
     let reached = reach(
@@ -296,5 +294,7 @@ pub fn make_move(
     let leaf = reached.leaf;
     let action = reached.action;
     let moved = move_leaf(card, l, m, plan, marks, action, leaf, stack);
-    kept(moved, stack, top, next)
+    let made = moved.made;
+    put_back(made, stack, top, next);
+    moved
 }

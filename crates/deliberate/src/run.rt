@@ -1,9 +1,7 @@
 // A deliberation: moves one after the other, at most as many as the budget says.
 ghost use mathlib.Core.Path.{_≡_};
-ghost use mathlib.Core.Bool.{true};
-ghost use lib.ListN.{length, drop};
-ghost use Rattle.door.specs.Words.{𝐁, conditions, agentFor, stateOf, configured, GoodCard, Ready};
-ghost use Rattle.choices.specs.Judged.{Marked};
+ghost use lib.ListN.{drop};
+ghost use Rattle.door.specs.Words.{𝐁, conditions, agentFor, stateOf, configured, Ready};
 ghost use Rattle.deliberation.specs.Entries.{entriesOf};
 ghost use Rattle.deliberation.specs.Deliberate.{deliberate};
 ghost use Rattle.program.specs.GoodProgram.{GoodProgram};
@@ -11,7 +9,6 @@ ghost use Rattle.deliberate.specs.Made.{Remains};
 ghost use Rattle.deliberate.specs.Ran.{RanTo, stoppedBy};
 use crate::made::MoveMade;
 use crate::made::make_move;
-use choices::truth::Marks;
 use choices::truth::judge_nodes;
 use choices::truth::no_marks;
 use deliberation::DeliberationEnding;
@@ -50,15 +47,6 @@ fn stopped(made: MoveMade) -> DeliberationEnding
     }
 }
 
-// The nodes are judged: their marks are known to be true.
-fn judged(card: &[u8], l: Layout, m: Mind, marks: &mut Marks) -> bool
-    requires { ⌜ GoodCard l (now card) × (length (now marks) ≡ 256) ⌝ }
-    ensures { λ r. ⌜ Marked l (now (card .entry)) m (now (marks .exit)) × (length (now (marks .exit)) ≡ 256) × (r ≡ true) ⌝ }
-{
-    judge_nodes(card, l, m, marks);
-    true
-}
-
 // "Endings, in this order: spent, finished, stuck, full." The nodes are judged at most once a move: their marks stay true until an
 // action.
 pub fn run_moves(
@@ -85,12 +73,13 @@ pub fn run_moves(
             return ended(cur, count, DeliberationEnding::Finished, rest);
         }
         if !known {
-            known = judged(card, l, cur, &mut marks);
+            judge_nodes(card, l, cur, &mut marks);
+            known = true;
         } else {
             let moved = make_move(card, l, cur, plan, &marks, program, stack, rest);
             let made = moved.made;
             let MoveMade::On = made else {
-                return ended(moved.mind, count, stopped(made), moved.top);
+                return ended(cur, count, stopped(made), rest);
             };
             known = moved.known;
             cur = moved.mind;

@@ -68,7 +68,7 @@ listed rows x ns e = rw e at (among rows x)
 
 pub card-among : (b : Bytes) → List·Memᴰ (answerNumber (cardAnswer b)) doneOrCard
 unfolding cardAnswer doneOrCard
-card-among b = listed cardTable b _ (table-order .card b)
+card-among b = wider _ doneOrCard refl (listed cardTable b _ (table-order .card b))
 
 pub place-among : (b p : Bytes) → List·Memᴰ (answerNumber (placeAnswer b p)) doneOrCard
 unfolding placeAnswer doneOrCard

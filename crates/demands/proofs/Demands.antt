@@ -54,9 +54,9 @@ demand-2 =
       own-move = λ b s. order-laws (agent b) s;
       own-order = λ b c on budget r h. Ordering.own-order b c on budget r (running b c budget r h);
       rest-exactly = λ b c on budget r h. Ordering.rest-exactly b c on budget r (running b c budget r h);
-      saved-room = λ b c s on out left r h. rw (Saving.saved-length b c s on) at (Moving.room-for b c on _ out left r (saving b c out left r h));
-      saved = λ b c s out left r h. Saving.saved b c s out left r (saving b c out left r h);
-      saved-restored = λ b c s out left r h. Saving.saved-restored b c s out left r (saving b c out left r h);
+      saved-room = λ b c s on out left r h. Saving.saved-room b c (Saving.sized b c s) on out left r (saving b c out left r h);
+      saved = λ b c s out left r h. Saving.saved b c (Saving.sized b c s) out left r (saving b c out left r h);
+      saved-restored = λ b c s out left r h. Saving.saved-restored b c (Saving.sized b c s) out left r (saving b c out left r h);
       restored-saved = λ b p bytes r h. Restoring.restored-saved b p bytes r (restoring b p r h);
     }
 

@@ -12,10 +12,11 @@ use borrow.Author.Tests.{not-true, leb-true, le-leb}
 use lib.Dec.{eqb, ltb}
 use lib.ListN.{length, length-take, take, drop, replicate, getD}
 use lib.Seq.{drop-append-seam}
-use Rattle.paper.specs.Atoms.{Atoms, _∈_, _∪_, _∖_}
+use Rattle.paper.specs.Atoms.{Atoms, bit, _∈_, _∪_, _∖_}
 use Rattle.paper.specs.Language.{𝐁, 𝐆, Agent, Config, ⟨_/_/_⟩, Selection, Revision, Specification}
 use Rattle.paper.specs.Transitions.{Choice, Entry, Step, execute, apply-PS, apply-PR, σ′, γ′}
-use Rattle.paper.proofs.Sets.{past, none-in, ∈-∪, ∈-∖}
+use Rattle.paper.specs.Theorems.{AreBytes}
+use Rattle.paper.proofs.Sets.{past, none-in, ∈-∪, ∈-∖, by-bits}
 use Rattle.paper.proofs.Relation.{both, none≢some, some-inj}
 use Rattle.runs.specs.Order.{State, kind}
 use Rattle.runs.specs.Step.{after}
@@ -26,15 +27,17 @@ use Rattle.meaning.specs.declared.Section.{Section}
 use Rattle.meaning.specs.declared.Span.{Span}
 use Rattle.meaning.specs.declared.Answer.the-variants.{Done}
 use Rattle.meaning.specs.declared.Configuration.{Configuration}
-use Rattle.meaning.specs.Sizes.{edition1Set}
-use Rattle.meaning.specs.Card.{Bytes, layout, part, byte, plan, entries, conditions, specificationAt, selectionAt, revisionAt, specificationOf, selectionOf, revisionOf, agentOf, agentFor, agent, initialPlan, initialBeliefs, initialGoals, start}
+use Rattle.meaning.specs.Sizes.{edition2Set, setBytes, mostAtoms, specificationBytes}
+use Rattle.meaning.specs.Card.{Bytes, layout, part, byte, plan, entryAt, entries, conditions, specificationAt, selectionAt, revisionAt, specificationOf, selectionOf, revisionOf, agentOf, agentFor, agent, initialPlan, initialBeliefs, initialGoals, start}
 use Rattle.meaning.specs.Configurations.{padded, stateOf, configurationOf}
 use Rattle.meaning.specs.Refusals.{all, every, within, cardAnswer, containing, conditionGood, spanGood, selectionGood, revisionGood, actionsGood, setGood, bothGood, setsGood, pool, configurationGood}
 use Rattle.meaning.proofs.Entries.{GoodEntries, good-entries}
 use Rattle.meaning.proofs.Every.{both-true, all-at, all-of, numbers-at, numbers-of, every-at}
 use Rattle.meaning.proofs.Parts.{length-part, part-at}
 use Rattle.meaning.proofs.Accepted.{Accepted, accepted, within-high, offsets}
+use Rattle.meaning.specs.Theorems.{Holds}
 use Rattle.meaning.proofs.Configurations.{take-padded, good}
+use Rattle.meaning.proofs.Widening.{held, held-at}
 
 pub record Known (l : Layout) (s : State) : Type 0 where
   pub beliefs : setGood (l .atoms) (s .mental .σ) ≡ true
@@ -81,6 +84,20 @@ unknown n s e k h = elim (decLt k (8 * length s)) [
   | no l ↦ past s k (omega arith)
 ]
 
+-- a set of 32 bytes that a card knows is held: no byte above those of its edition has a bit
+pub known-held : (l : Layout) (s : Atoms) → l .atoms ≤ mostAtoms (setBytes l) → length s ≡ 32 → AreBytes s → setGood (l .atoms) s ≡ true → Holds l s
+unfolding _∈_
+known-held l s most e bytes h = held l s e (λ i a. by-bits (getD s i 0) 0 (bytes i) (omega arith) (λ j b. none i j a b ∙ sym (no-bit j b)))
+  where
+    no-bit : (j : ℕ) → j < 8 → bit j 0 ≡ false
+    no-bit j b = let r : j % 8 ≡ j = omega arith in rw r at (past [] j (omega arith))
+
+    none : (i j : ℕ) → setBytes l ≤ i → j < 8 → bit j (getD s i 0) ≡ false
+    none i j a b =
+        let q : (8 * i + j) / 8 ≡ i = omega arith in
+        let r : (8 * i + j) % 8 ≡ j = omega arith in
+        rw (q, r) at (unknown (l .atoms) s h (8 * i + j) (omega arith))
+
 all-unknown : (n : ℕ) (s : Atoms) → ((k : ℕ) → n ≤ k → k ∈ s ≡ false) → setGood n s ≡ true
 unfolding setGood
 all-unknown n s h = numbers-of (λ k. not (k ∈ s)) n (8 * length s - n) (λ i l. ap not (h (n + i) (omega arith)))
@@ -91,11 +108,11 @@ known-∪ n s t e f = all-unknown n (s ∪ t) (λ k h. ∈-∪ k s t ∙ (λ i. 
 known-∖ : (n : ℕ) (s t : Atoms) → setGood n s ≡ true → setGood n (s ∖ t) ≡ true
 known-∖ n s t e = all-unknown n (s ∖ t) (λ k h. ∈-∖ k s t ∙ ap (λ x. x && not (k ∈ t)) (unknown n s e k h))
 
-pub known-empty : (l : Layout) → Known l (record { mental = ⟨ replicate edition1Set 0 / [] / replicate edition1Set 0 ⟩; phase = 0; finished = 0 })
+pub known-empty : (l : Layout) → Known l (record { mental = ⟨ replicate edition2Set 0 / [] / replicate edition2Set 0 ⟩; phase = 0; finished = 0 })
 unfolding actionsGood
 known-empty l = record {
-  beliefs = all-unknown (l .atoms) (replicate edition1Set 0) (λ k h. none-in edition1Set k);
-  goals = all-unknown (l .atoms) (replicate edition1Set 0) (λ k h. none-in edition1Set k);
+  beliefs = all-unknown (l .atoms) (replicate edition2Set 0) (λ k h. none-in edition2Set k);
+  goals = all-unknown (l .atoms) (replicate edition2Set 0) (λ k h. none-in edition2Set k);
   actions = refl;
   fits = omega arith;
   phase = omega arith;
@@ -148,6 +165,7 @@ pub record KnownAgent (l : Layout) (A : Agent) : Type 0 where
   pub selected : (n : ℕ) (r : Selection) → Entry (A .PS) n r → actionsGood (l .actions) (r .π) ≡ true
   pub revised : (n : ℕ) (r : Revision) → Entry (A .PR) n r → actionsGood (l .actions) (r .πb) ≡ true
   pub added : (n : ℕ) (s : Specification) → Entry (A .AS) n s → setGood (l .atoms) (s .Add) ≡ true
+  pub held : (n : ℕ) (s : Specification) → Entry (A .AS) n s → Holds l (s .Add)
 
 span-inside : (l : Layout) (least : ℕ) (s : Span) → spanGood l least s ≡ true → s .start + s .length ≤ l .pool .count
 span-inside l least s e = leb-true (s .start + s .length) (l .pool .count) (both (within least 1024 (s .length)) _ e .1)
@@ -195,6 +213,10 @@ module _ (b : Bytes) (card : cardAnswer b ≡ Done) where
   unfolding setsGood
   initial-sets = both (bothGood (l .atoms) (initialBeliefs l b) (initialGoals l b)) _ (a .sets)
 
+  add-held : (n : ℕ) → Holds l (specificationAt l b n .add)
+  unfolding specificationAt
+  add-held n = held-at l b (entryAt (specificationBytes (setBytes l)) (l .specifications) n + 4)
+
   pub known-agent : KnownAgent l (agent b)
   unfolding agent agentFor agentOf selectionOf revisionOf specificationOf
   known-agent = record {
@@ -208,6 +230,9 @@ module _ (b : Bytes) (card : cardAnswer b ≡ Done) where
         let (h, q) = entry-of (λ i. specificationOf (conditions 𝐁 l b) (specificationAt l b i)) (l .specifications) n s e in
         subst (λ (x : Specification). setGood (l .atoms) (x .Add) ≡ true) q
         (both (setGood (l .atoms) (specificationAt l b n .add)) _ (every-at sets (l .specifications .count) n (initial-sets .1) h) .0);
+    held = λ n s e.
+        let (h, q) = entry-of (λ i. specificationOf (conditions 𝐁 l b) (specificationAt l b i)) (l .specifications) n s e in
+        subst (λ (x : Specification). Holds l (x .Add)) q (add-held n);
   }
 
   pub known-start : Known l (start b)

@@ -10,6 +10,7 @@ use Rattle.meaning.specs.declared.Layout.{Layout}
 use Rattle.meaning.specs.declared.Configuration.{Configuration}
 use Rattle.meaning.specs.declared.Reply.{Reply}
 use Rattle.meaning.specs.declared.Written.{Written}
+use Rattle.meaning.specs.Sizes.{setBytes, planAt}
 use Rattle.meaning.specs.Card.{Bytes, layout}
 use Rattle.meaning.specs.Configurations.{stateOf, configurationOf}
 use Rattle.meaning.specs.Place.{place, placed}
@@ -30,7 +31,7 @@ unfolding placed
 plan-fits l p g =
     let f = g .fits in
     let e = g .ends in
-    rw (length-drop 44 p) (omega arith)
+    rw (length-drop (planAt (setBytes l)) p) (omega arith)
 
 pub restored-known : (l : Layout) (p : Bytes) → GoodPlace l p → Known l (placed l p)
 unfolding placed

@@ -20,7 +20,7 @@ use Rattle.meaning.specs.declared.Reply.{Reply}
 use Rattle.meaning.specs.declared.Graded.{Graded}
 use Rattle.meaning.specs.declared.Written.{Written}
 use Rattle.meaning.specs.declared.Ran.{Ran}
-use Rattle.meaning.specs.Sizes.{edition1Set}
+use Rattle.meaning.specs.Sizes.{edition2Set}
 use Rattle.meaning.specs.Card.{Bytes, layout, agent, initialBeliefs, initialGoals, start}
 use Rattle.meaning.specs.Configurations.{stateOf, configurationOf, empty}
 use Rattle.meaning.specs.Place.{placed}
@@ -55,8 +55,8 @@ module _ (b : Bytes) where
 
   graded : (r : Graded) → Grading b r → Unbelieved (r .configuration)
   unfolding empty stateOf configurationOf
-  graded r (done e) k h = none-in edition1Set k
-  graded r (refused e) k h = none-in edition1Set k
+  graded r (done e) k h = none-in edition2Set k
+  graded r (refused e) k h = none-in edition2Set k
 
   wrote : (c : Configuration) (xs out left : List ℕ) (r : Written) → Writing b c xs out r left → Unbelieved c → Unbelieved (r .configuration)
   wrote c xs out left r (refused e) u = u

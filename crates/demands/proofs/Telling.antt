@@ -19,21 +19,20 @@ use Rattle.meaning.specs.declared.Configuration.{Configuration}
 use Rattle.meaning.specs.declared.Ran.{Ran}
 use Rattle.meaning.specs.declared.Coming.{Coming}
 use Rattle.meaning.specs.declared.Next.{Next}
-use Rattle.meaning.specs.Card.{Bytes, layout, agent}
+use Rattle.meaning.specs.Card.{Bytes, agent}
 use Rattle.meaning.specs.Configurations.{stateOf, configurationOf}
 use Rattle.meaning.specs.Refusals.{configurationAnswer}
 use Rattle.meaning.specs.Numbers.{endingNumber}
 use Rattle.meaning.specs.Calls.{choice, coming, ran, nexts}
 use Rattle.meaning.proofs.Calls.{takes-full, takes-to, runs-good, nexts-refused, nexts-good, own-told, none-told}
-use Rattle.meaning.proofs.Configurations.{configuration-laws}
 use Rattle.meaning.proofs.Tables.{done≢refused}
-use Rattle.demands.specs.Contracts.{Runs, Nexts, Shaped}
+use Rattle.demands.specs.Contracts.{Runs, Nexts}
 use Rattle.demands.specs.Demands.{OnAccepted, Transition}
 use Rattle.demands.specs.Next.{OwnChoice, ranTo, MoveTold, FullTold, BesideOne, NextLaws}
 use Rattle.demands.specs.Struck.{Unbelieved}
 use Rattle.demands.proofs.Among.{configuration-among}
 use Rattle.demands.proofs.Codes.{read-back}
-use Rattle.demands.proofs.Ordering.{passed-good}
+use Rattle.demands.proofs.Saving.{Sized, sized}
 use Rattle.demands.proofs.Demands.{same}
 use Rattle.demands.proofs.Turning.{same-held}
 
@@ -92,7 +91,7 @@ module _ (b : Bytes) (c : Configuration) where
 same-ending : {e e′ : Ending} → e ≡ e′ → endingNumber e ≡ endingNumber e′
 same-ending p = ap endingNumber p
 
-module _ (b : Bytes) (c : Configuration) (shaped : Shaped c) (on : OnAccepted b c) where
+module _ (b : Bytes) (c : Configuration) (keeps : Sized b c) (on : OnAccepted b c) where
   abbrev B : Agent
   B = agent b
 
@@ -100,7 +99,7 @@ module _ (b : Bytes) (c : Configuration) (shaped : Shaped c) (on : OnAccepted b 
   x = stateOf c
 
   pub back : configurationOf x ≡ c
-  back = configuration-laws .of-configuration (layout b) c (shaped .plan) (passed-good b c on)
+  back = keeps .whole on
 
   pub run-at-rest : stepBy B x (guide B x) ≡ nothing → (m : ℕ) (one : Ran) → Runs b c (suc m) one → one ≡ ranTo 0 Ending.Rest c
   run-at-rest e m one w = w ∙ runs-good b c on (suc m) ∙ ap ran (run-rests B m x e) ∙ ap (ranTo 0 Ending.Rest) back
@@ -210,11 +209,11 @@ module _ (b : Bytes) (c : Configuration) (r : Next) (v : Nexts b c r) where
 
 pub next-laws : NextLaws
 next-laws = record {
-  beside-one = beside-one;
+  beside-one = λ b c shaped. beside-one b c (sized b c shaped);
   answered = answered;
   listed = λ b c r v. rw (answered b c r v) (configuration-among b c);
   refused = refused;
   unchanged = unchanged;
   determined = λ b c r r′ p q. same p q;
-  after-a-turn = λ b c shaped t turned v r w. v ∙ ap (nexts b) (same-held b c t shaped) ∙ sym w;
+  after-a-turn = λ b c shaped t turned v r w. v ∙ ap (nexts b) (same-held b c t (sized b c shaped)) ∙ sym w;
 }

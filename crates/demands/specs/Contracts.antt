@@ -4,6 +4,7 @@ use mathlib.Core.Path.{_≡_}
 use mathlib.Core.List.{List}
 use Prim.Native.Nat.{ℕ, _≤_}
 use lib.ListN.{length}
+use Rattle.paper.specs.Theorems.{AreBytes}
 use Rattle.runs.specs.Limits.{longestPlan, mostFinished}
 use Rattle.meaning.specs.declared.Configuration.{Configuration}
 use Rattle.meaning.specs.declared.Checked.{Checked}
@@ -12,7 +13,7 @@ use Rattle.meaning.specs.declared.Graded.{Graded}
 use Rattle.meaning.specs.declared.Written.{Written}
 use Rattle.meaning.specs.declared.Ran.{Ran}
 use Rattle.meaning.specs.declared.Next.{Next}
-use Rattle.meaning.specs.Sizes.{edition1Set}
+use Rattle.meaning.specs.Sizes.{edition2Set}
 use Rattle.meaning.specs.Card.{Bytes}
 use Rattle.meaning.specs.Calls.{checks, loads, grades, lists, listLeaves, takes, runs, nexts, saves, saveLeaves, restores}
 
@@ -52,13 +53,15 @@ Restores b p r = r ≡ restores b p
 abbrev pub Nexts : Bytes → Configuration → Next → Type 0
 Nexts b c r = r ≡ nexts b c
 
--- What the types of its fields say of any configuration: how long its sets and its plan are, and that the count is a number of two
--- bytes. Load, take, run and restore ensure it of what they answer, and save of what it is handed.
+-- What the types of its fields say of any configuration: how long its sets and its plan are, that the sets are bytes, and that the
+-- count is a number of two bytes. Load, take, run and restore ensure it of what they answer, and save of what it is handed.
 pub record Shaped (c : Configuration) : Type 0 where
-  -- 01, "The card, edition 1": "A set of atoms is 16 bytes"
-  pub beliefs : length (c .mind .beliefs) ≡ edition1Set
-  -- 01, "The card, edition 1": "A set of atoms is 16 bytes"
-  pub goals : length (c .mind .goals) ≡ edition1Set
+  -- 02, Wish 9: "sets of 32 bytes" (docs/DECISIONS.md, "A configuration has no edition")
+  pub beliefs : length (c .mind .beliefs) ≡ edition2Set
+  pub belief-bytes : AreBytes (c .mind .beliefs)
+  -- the same of its goals
+  pub goals : length (c .mind .goals) ≡ edition2Set
+  pub goal-bytes : AreBytes (c .mind .goals)
   -- 00, the machine: "A plan holds up to 1,024 actions."
   pub plan : length (c .plan) ≡ longestPlan
   -- 02, Wish 4: "stopping at 65,535"

@@ -184,10 +184,10 @@ pub record Demand2 : Type 0 where
   -- 00, demand 2: "With budget left it says "rest" exactly when no transition exists."
   pub rest-exactly : (b : Bytes) (c : Configuration) → OnAccepted b c → (budget : ℕ) (r : Ran) → Runs b c budget r
       → r .count < budget → (r .ending ≡ Ending.Rest) ↔ AtRest (agent b) (stateOf (r .configuration) .mental)
-  -- 00, demand 2: "with room to save": 01, "The place": "Exactly 44 + L bytes."
+  -- 00, demand 2: "with room to save": 01, "The place": "Exactly 44 + L bytes."; 02, Wish 9: "a place's plan starts at 76".
   pub saved-room : (b : Bytes) (c : Configuration) → Shaped c → OnAccepted b c → (out left : Bytes) (r : Written) → Saves b c out r left
       → RoomFor (planAt (setBytes (layout b)) + c .mind .length) out (r .answer)
-  -- 01, "Numbers the guide may answer": "Saving writes 44 + L bytes and no others."
+  -- 01, "Numbers the guide may answer": "Saving writes 44 + L bytes and no others."; in edition 2 76 + L.
   pub saved : (b : Bytes) (c : Configuration) → Shaped c → (out left : Bytes) (r : Written) → Saves b c out r left → r .answer ≡ Done
       → (r .count ≡ planAt (setBytes (layout b)) + c .mind .length) × (drop (r .count) left ≡ drop (r .count) out)
   -- 00, demand 2: "A place saved and restored is the same configuration", "under one card and with room to save".

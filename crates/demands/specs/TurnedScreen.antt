@@ -26,7 +26,7 @@ use Rattle.demands.specs.Demands.{OnAccepted}
 pub record Turn (b : Bytes) (c : Configuration) : Type 0 where
   -- the lent buffer
   pub out : Bytes
-  -- 02, Wish 7: "given room to save": 01, "The place": "Exactly 44 + L bytes."
+  -- 02, Wish 7: "given room to save": 01, "The place": "Exactly 44 + L bytes."; 02, Wish 9: "a place's plan starts at 76"
   pub room : planAt (setBytes (layout b)) + c .mind .length ≤ length out
   -- 02, Wish 7: "save": its answer, and what it leaves in the buffer
   pub saved : Written
@@ -49,7 +49,7 @@ pub record TurnDone {b : Bytes} (c : Configuration) (t : Turn b c) : Type 0 wher
 
 -- Both calls are refused, save with q: 01, "Numbers the guide may answer": "A refusal answers the number and the configuration
 -- as it came in". "Any count in a refusal is 0. No lent buffer is written." So restore is given no bytes: it answers what the
--- card is refused with, and 1, "place under 44", under a card that is accepted.
+-- card is refused with, and 1 under a card that is accepted: 02, Wish 9: "a file under 4 bytes is 1".
 pub record TurnRefused {b : Bytes} (q : Refusal) (c : Configuration) (t : Turn b c) : Type 0 where
   pub save : t .saved ≡ written (Refused q) 0 c
   pub left : t .left ≡ t .out

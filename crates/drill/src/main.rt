@@ -103,29 +103,29 @@ fn no_plan() -> Plan
     [0u8; 1024]
 }
 
-// "An image of a configuration: beliefs, goals (16 bytes each …), plan length (2), phase (1), … the finished count (2), m (2, at
-// most 1,024), and the first m bytes of the plan's array; the rest of the array is zero."
+// "An image of a configuration: beliefs, goals (16 bytes each; from 9 on 32), plan length (2), phase (1), from 4 on the finished
+// count (2), m (2, at most 1,024), and the first m bytes of the plan's array; the rest of the array is zero."
 fn next_image() -> Request {
-    let mut head = [0u8; 39];
+    let mut head = [0u8; 71];
     let mut plan = no_plan();
     let mut whole = false;
     let got = io::read_full(0, &mut head);
-    let m = joined(head[37], head[38]);
+    let m = joined(head[69], head[70]);
     if m <= 1024 {
         let filled = fill(&mut plan[..m as usize]);
-        whole = (39 <= got) & filled;
+        whole = (71 <= got) & filled;
     }
-    let beliefs = set_at(&head, 0);
-    let goals = set_at(&head, 16);
+    let beliefs = set_at(&head, 0, 2);
+    let goals = set_at(&head, 32, 2);
     Request {
         whole: whole,
         configuration: Configuration {
             mind: Mind {
                 beliefs: beliefs,
                 goals: goals,
-                length: joined(head[32], head[33]),
-                phase: head[34],
-                finished: joined(head[35], head[36]),
+                length: joined(head[64], head[65]),
+                phase: head[66],
+                finished: joined(head[67], head[68]),
             },
             plan: plan,
         },

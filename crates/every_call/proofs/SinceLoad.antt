@@ -26,15 +26,15 @@ use Rattle.meaning.specs.Configurations.{stateOf, configurationOf}
 use Rattle.meaning.specs.Refusals.{cardAnswer}
 use Rattle.meaning.proofs.Configurations.{configuration-laws}
 use Rattle.meaning.proofs.Tables.{done≢refused}
-use Rattle.demands.specs.Contracts.{Loads, Takes, Runs, Shaped}
+use Rattle.demands.specs.Contracts.{Loads, Takes, Runs}
 use Rattle.demands.specs.Demands.{OnAccepted, StandsFor}
 use Rattle.demands.specs.TurnedScreen.{Turn}
 use Rattle.demands.proofs.AcceptedAgain.{again}
 use Rattle.demands.proofs.Codes.{card-accepted, chosen}
 use Rattle.demands.proofs.Demands.{demand-2}
 use Rattle.demands.proofs.Known.{known-agent, known-start}
-use Rattle.demands.proofs.Keeping.{adds-sixteen, kept-start, kept-after, kept-shaped}
-use Rattle.demands.proofs.Saving.{Kept}
+use Rattle.demands.proofs.Keeping.{kept-start, kept-after}
+use Rattle.demands.proofs.Saving.{Kept, Sized, handed-out}
 use Rattle.demands.proofs.Turning.{same-held}
 use Rattle.demands.proofs.Ways.{Replying, done, refused, loading}
 use Rattle.deliberation.specs.declared.Deliberated.{Deliberated}
@@ -78,7 +78,7 @@ module _ {A : Agent} where
 module _ (b : Bytes) (card : cardAnswer b ≡ Done) where
   kept-moves : {s s′ : State} {ks : List Choice} → Moves (agent b) s ks s′ → Kept (layout b) s → Kept (layout b) s′
   kept-moves no-more h = h
-  kept-moves (one-then {s} x l r) h = kept-moves r (kept-after (known-agent b card) (adds-sixteen b card) s h x l)
+  kept-moves (one-then {s} x l r) h = kept-moves r (kept-after (known-agent b card) s h x l)
 
 -- ---- the count
 
@@ -113,11 +113,11 @@ record Walk (b : Bytes) {c : Configuration} (h : Since b c) : Type 0 where
   pub handed-out : c ≡ configurationOf (stateOf c)
 
 module _ (b : Bytes) where
-  -- what was done since load left a configuration with the sizes that the types of its fields say
-  shaped : {c : Configuration} {h : Since b c} → Walk b h → Shaped c
-  shaped {c} w =
+  -- what was done since load left a configuration that a turn gives back
+  keeps : {c : Configuration} {h : Since b c} → Walk b h → Sized b c
+  keeps {c} w =
       let card = card-accepted b c (w .on) in
-      subst Shaped (sym (w .handed-out)) (kept-shaped (layout b) (stateOf c) (kept-moves b card (w .moves) (kept-start b card)))
+      subst (Sized b) (sym (w .handed-out)) (handed-out b (stateOf c) (kept-moves b card (w .moves) (kept-start b card)))
 
   start-stands : (r : Reply) → Replying (cardAnswer b) (start b) r → r .answer ≡ Done → StandsFor (r .configuration) (start b)
   start-stands r (done e) h = record { handed-out = refl; stands-for = configuration-laws .of-state (start b) (known-start b e .fits) }
@@ -177,7 +177,7 @@ module _ (b : Bytes) where
 
     since-turn : (t : Turn b c) → Walk b (turned h t)
     since-turn t =
-        let same = sym (same-held b c t (shaped before)) in
+        let same = sym (same-held b c t (keeps before)) in
         record {
           choices = before .choices;
           made = by-turn {t = t} (before .made);

@@ -15,8 +15,8 @@ use Rattle.meaning.proofs.Tables.{done≢refused}
 use Rattle.demands.specs.Contracts.{Shaped}
 use Rattle.demands.specs.TurnedScreen.{held, TurnDone, sum}
 use Rattle.demands.proofs.Known.{known-agent}
-use Rattle.demands.proofs.Saving.{Kept, kept}
-use Rattle.demands.proofs.Keeping.{adds-sixteen, kept-after, kept-shaped}
+use Rattle.demands.proofs.Saving.{Kept, Sized, sized, handed-out}
+use Rattle.demands.proofs.Keeping.{kept-after}
 use Rattle.demands.proofs.Turning.{turn-done, same-held}
 use Rattle.deliberation.specs.declared.Deliberated.{Deliberated}
 use Rattle.deliberation.specs.Entries.{entriesOf, goOnAnswer, whole}
@@ -53,16 +53,16 @@ module _ (b p : Bytes) (ns : List ℕ) (c : Configuration) (j : ℕ) (lent : Byt
   kept-refused : (q : Refusal) → goOnAnswer b p ns c ≡ Refused q → Turned.kept ns r ≡ ns
   kept-refused q e = rw (is-refused q e) refl
 
-  -- the configuration has the sizes that the types of its fields say
-  call-shaped : Shaped c → Shaped (r .configuration)
-  call-shaped h = go (goOnAnswer b p ns c) refl
+  -- the configuration is one that a turn gives back
+  call-sized : Sized b c → Sized b (r .configuration)
+  call-sized h = go (goOnAnswer b p ns c) refl
     where
-      go : (a : Answer) → goOnAnswer b p ns c ≡ a → Shaped (r .configuration)
+      go : (a : Answer) → goOnAnswer b p ns c ≡ a → Sized b (r .configuration)
       go Done on =
           let pass = passed b p ns c on in
-          let there = kept b c (configuration-good b c (pass .card) (pass .configuration-good)) h in
-          let (s, (e, k)) = done-keeps b p ns c j lent on r w (Kept (layout b)) (λ s k d q t l. kept-after (known-agent b (pass .card)) (adds-sixteen b (pass .card)) s q t l) there in
-          rw e (kept-shaped (layout b) s k)
+          let there = h .keeps (configuration-good b c (pass .card) (pass .configuration-good)) in
+          let (s, (e, k)) = done-keeps b p ns c j lent on r w (Kept (layout b)) (λ s k d q t l. kept-after (known-agent b (pass .card)) s q t l) there in
+          rw e (handed-out b s k)
       go (Refused q) e = rw (is-refused q e) h
 
 -- ---- a deliberation that is stopped, and goes on from what it reached
@@ -127,9 +127,9 @@ one-before first last second one n x y = record {
 }
 
 module _ (b p : Bytes) where
-  as-one : {ns ks : List ℕ} {c : Configuration} {j n : ℕ} {last : Deliberated} → Shaped c → (calls : TurnedCalls b p ns c j ks last n)
+  as-one : {ns ks : List ℕ} {c : Configuration} {j n : ℕ} {last : Deliberated} → Sized b c → (calls : TurnedCalls b p ns c j ks last n)
       → (lent : Bytes) (one : Deliberated) → GoesOn b p ns c (j + sum ks) lent one → AsOneCall last n one
-  as-one shaped (last-call {ns} {c} {j} lent′ r w) lent one v = go (goOnAnswer b p ns c) refl
+  as-one keeps (last-call {ns} {c} {j} lent′ r w) lent one v = go (goOnAnswer b p ns c) refl
     where
       z : j + 0 ≡ j
       z = omega arith
@@ -144,59 +144,61 @@ module _ (b p : Bytes) where
       go (Refused q) h =
           rw (is-refused b p ns c j lent′ r w q h, is-refused b p ns c j lent one alike q h)
           (record { answer = refl; configuration = refl; ending = refl; count = refl; numbers = refl; bytes = λ h. absurd (done≢refused (sym h)) })
-  as-one shaped (call-turned {ns} {ks} {c} {j} {k} {n} {last} lent′ r w t least rest) lent one v =
-      let reached = call-shaped b p ns c j lent′ r w shaped in
+  as-one keeps (call-turned {ns} {ks} {c} {j} {k} {n} {last} lent′ r w t least rest) lent one v =
+      let reached = call-sized b p ns c j lent′ r w keeps in
       let same = same-held b (r .configuration) t reached in
       let ms = Turned.kept ns r in
       let second = goesOn b p ms (held t) (k + sum ks) lent in
-      one-before r last second one n (as-one (subst Shaped (sym same) reached) rest lent second refl)
+      one-before r last second one n (as-one (subst (Sized b) (sym same) reached) rest lent second refl)
       (stopped b p ns c j (k + sum ks) (omega arith) lent′ lent lent r second one w (ap (λ x. goesOn b p ms x (k + sum ks) lent) same) v)
-  as-one shaped (call-then {ns} {ks} {c} {j} {k} {n} {last} lent′ r w least rest) lent one v =
+  as-one keeps (call-then {ns} {ks} {c} {j} {k} {n} {last} lent′ r w least rest) lent one v =
       let ms = Turned.kept ns r in
       let second = goesOn b p ms (r .configuration) (k + sum ks) lent in
-      one-before r last second one n (as-one (call-shaped b p ns c j lent′ r w shaped) rest lent second refl)
+      one-before r last second one n (as-one (call-sized b p ns c j lent′ r w keeps) rest lent second refl)
       (stopped b p ns c j (k + sum ks) (omega arith) lent′ lent lent r second one w refl v)
 
-  each-done : {ns ks : List ℕ} {c : Configuration} {j n : ℕ} {last : Deliberated} → Shaped c → goOnAnswer b p ns c ≡ Done
+  each-done : {ns ks : List ℕ} {c : Configuration} {j n : ℕ} {last : Deliberated} → Sized b c → goOnAnswer b p ns c ≡ Done
       → (calls : TurnedCalls b p ns c j ks last n) → EachCall (λ lent r. r .answer ≡ Done) TurnDone calls
-  each-done shaped on (last-call {ns} {c} {j} lent r w) = done-answer b p ns c j lent r w on
-  each-done shaped on (call-turned {ns} {c = c} {j = j} lent r w t least rest) =
+  each-done keeps on (last-call {ns} {c} {j} lent r w) = done-answer b p ns c j lent r w on
+  each-done keeps on (call-turned {ns} {c = c} {j = j} lent r w t least rest) =
       let d = done-answer b p ns c j lent r w on in
-      let reached = call-shaped b p ns c j lent r w shaped in
+      let reached = call-sized b p ns c j lent r w keeps in
       let same = sym (same-held b (r .configuration) t reached) in
       let again = kept-accepted b p ns c j lent r w on in (
         d,
         (
           turn-done b (r .configuration) t (go-on-again b p ns c j lent r w d) reached,
-          each-done (subst Shaped same reached) (subst (λ x. goOnAnswer b p (Turned.kept ns r) x ≡ Done) same again) rest,
+          each-done (subst (Sized b) same reached) (subst (λ x. goOnAnswer b p (Turned.kept ns r) x ≡ Done) same again) rest,
         ),
       )
-  each-done shaped on (call-then {ns} {c = c} {j = j} lent r w least rest) =
-      (done-answer b p ns c j lent r w on, each-done (call-shaped b p ns c j lent r w shaped) (kept-accepted b p ns c j lent r w on) rest)
+  each-done keeps on (call-then {ns} {c = c} {j = j} lent r w least rest) =
+      (done-answer b p ns c j lent r w on, each-done (call-sized b p ns c j lent r w keeps) (kept-accepted b p ns c j lent r w on) rest)
 
-  each-refused : {ns ks : List ℕ} {c : Configuration} {j n : ℕ} {last : Deliberated} (ns₀ : List ℕ) (c₀ : Configuration) (q : Refusal) → Shaped c₀
+  each-refused : {ns ks : List ℕ} {c : Configuration} {j n : ℕ} {last : Deliberated} (ns₀ : List ℕ) (c₀ : Configuration) (q : Refusal) → Sized b c₀
       → goOnAnswer b p ns₀ c₀ ≡ Refused q → ns ≡ ns₀ → c ≡ c₀ → (calls : TurnedCalls b p ns c j ks last n)
       → EachCall (λ lent r. r ≡ refused q c₀ lent) (λ d t. held t ≡ d) calls
-  each-refused ns₀ c₀ q shaped e f g (last-call {ns} {c} {j} lent r w) =
+  each-refused ns₀ c₀ q keeps e f g (last-call {ns} {c} {j} lent r w) =
       w ∙ ap (λ ms. goesOn b p ms c j lent) f ∙ ap (λ x. goesOn b p ns₀ x j lent) g ∙ goes-on-refused b p ns₀ c₀ j lent q e
-  each-refused ns₀ c₀ q shaped e f g (call-turned {ns} {c = c} {j = j} lent r w t least rest) =
+  each-refused ns₀ c₀ q keeps e f g (call-turned {ns} {c = c} {j = j} lent r w t least rest) =
       let there : r ≡ refused q c₀ lent = w ∙ ap (λ ms. goesOn b p ms c j lent) f ∙ ap (λ x. goesOn b p ns₀ x j lent) g ∙ goes-on-refused b p ns₀ c₀ j lent q e in
       let back : r .configuration ≡ c₀ = ap (λ (x : Deliberated). x .configuration) there in
-      let same = same-held b (r .configuration) t (subst Shaped (sym back) shaped) in
+      let same = same-held b (r .configuration) t (subst (Sized b) (sym back) keeps) in
       let left : Turned.kept ns r ≡ ns₀ = ap (Turned.kept ns) there ∙ f in
-      (there, (same, each-refused ns₀ c₀ q shaped e left (same ∙ back) rest))
-  each-refused ns₀ c₀ q shaped e f g (call-then {ns} {c = c} {j = j} lent r w least rest) =
+      (there, (same, each-refused ns₀ c₀ q keeps e left (same ∙ back) rest))
+  each-refused ns₀ c₀ q keeps e f g (call-then {ns} {c = c} {j = j} lent r w least rest) =
       let there : r ≡ refused q c₀ lent = w ∙ ap (λ ms. goesOn b p ms c j lent) f ∙ ap (λ x. goesOn b p ns₀ x j lent) g ∙ goes-on-refused b p ns₀ c₀ j lent q e in
-      (there, each-refused ns₀ c₀ q shaped e (ap (Turned.kept ns) there ∙ f) (ap (λ (x : Deliberated). x .configuration) there) rest)
+      (there, each-refused ns₀ c₀ q keeps e (ap (Turned.kept ns) there ∙ f) (ap (λ (x : Deliberated). x .configuration) there) rest)
 
 any-turns : (b p : Bytes) (ns : List ℕ) (c : Configuration) → Shaped c → (j : ℕ) (ks : List ℕ) (last : Deliberated) (n : ℕ)
     → (calls : TurnedCalls b p ns c j ks last n) (lent : Bytes) (one : Deliberated) → GoesOn b p ns c (j + sum ks) lent one
     → TurnedTogether calls lent one
-any-turns b p ns c shaped j ks last n calls lent one v = record {
-  as-one-call = as-one b p shaped calls lent one v;
-  all-done = λ on. (each-done b p shaped on calls, done-answer b p ns c (j + sum ks) lent one v on);
-  refused-alike = λ q e. (each-refused b p ns c q shaped e refl refl calls, is-refused b p ns c (j + sum ks) lent one v q e);
-}
+any-turns b p ns c shaped j ks last n calls lent one v =
+    let keeps = sized b c shaped in
+    record {
+      as-one-call = as-one b p keeps calls lent one v;
+      all-done = λ on. (each-done b p keeps on calls, done-answer b p ns c (j + sum ks) lent one v on);
+      refused-alike = λ q e. (each-refused b p ns c q keeps e refl refl calls, is-refused b p ns c (j + sum ks) lent one v q e);
+    }
 
 pub turned-deliberation : TurnedDeliberation
 turned-deliberation = record {

@@ -1,13 +1,14 @@
 -- Bytes copied from one list over another, or moved down in one.
 use mathlib.Core.Path.{_≡_, sym, ap, _∙_}
-use mathlib.Core.List.{List, _++_, append-nil}
+use mathlib.Core.List.{List, _++_}
 use Prim.Native.Nat.{ℕ, _+_, _-_, _≤_, _<_}
 use native.Mathlib.Omega.{arith}
 use native.Mathlib.Nat.{zero-add}
 use native.Mathlib.Numerals.{add-one}
-use lib.ListN.{length, getD, set, take, drop, length-drop, drop-of-length-le}
-use lib.Seq.{getD-drop, getD-append-add, length-paste-head, paste, paste-suc}
-use Rattle.meaning.specs.Card.{Bytes, part}
+use lib.ListN.{length, getD, set, take, drop, replicate, length-drop, length-replicate, replicate-append-replicate}
+use lib.Seq.{drop-at, getD-drop, getD-append-add, length-paste-head, paste, paste-suc}
+use Rattle.meaning.specs.Card.{Bytes, part, widened}
+use Rattle.meaning.proofs.Parts.{length-part}
 
 -- a turn of a copy from another list
 pub copy-more : (d : List ℕ) (at : ℕ) (s : List ℕ) (from n : ℕ) → at + n < length d → from + n < length s
@@ -37,9 +38,18 @@ down-more d to from n h hd =
     ap (set (paste d to (drop from d) n) (to + n)) (getD-after d to (drop from d) n (from + n) (omega arith) (omega arith) (rw (length-drop from d) (omega arith)))
     ∙ copy-more d to d from n (omega arith) hd
 
--- n bytes over a list of as many
-pub copy-whole : (d b : Bytes) (at n : ℕ) → length d ≤ n → paste d 0 (drop at b) n ≡ part b at n
-unfolding part
-copy-whole d b at n h =
+drop-zeros : (k n : ℕ) → k ≤ n → drop {A = ℕ} k (replicate n 0) ≡ replicate (n - k) 0
+drop-zeros k n h =
+    let e : k + (n - k) ≡ n = omega arith in
+    ap (λ m. drop {A = ℕ} k (replicate m 0)) (sym e)
+    ∙ ap (drop k) (sym (replicate-append-replicate k (n - k) 0))
+    ∙ drop-at (replicate k 0) (replicate (n - k) 0) k (length-replicate k 0)
+
+-- n bytes over zeros
+pub copy-set : (b : Bytes) (at n : ℕ) → at + n ≤ length b → n ≤ 32 → paste (replicate 32 0) 0 (drop at b) n ≡ widened (part b at n)
+unfolding part widened
+copy-set b at n h most =
     let e : 0 + n ≡ n = zero-add n in
-    ap (λ k. take n (drop at b) ++ drop k d) e ∙ ap (λ (x : Bytes). take n (drop at b) ++ x) (drop-of-length-le d h) ∙ append-nil (take n (drop at b))
+    ap (λ k. take n (drop at b) ++ drop k (replicate 32 0)) e
+    ∙ ap (λ (x : Bytes). take n (drop at b) ++ x) (drop-zeros n 32 most)
+    ∙ ap (λ k. take n (drop at b) ++ replicate (32 - k) 0) (sym (length-part b at n h))

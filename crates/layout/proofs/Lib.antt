@@ -1,4 +1,5 @@
 pub mod Copying
 pub mod GoodLayout
+pub mod Joining
 pub mod Within
 pub mod Written

@@ -10,6 +10,7 @@ use Rattle.meaning.specs.declared.Configuration.{Configuration}
 use Rattle.meaning.specs.Sizes.{setBytes, placeGoalsAt, planAt}
 use Rattle.meaning.specs.Place.{placeHeader, place}
 use Rattle.meaning.specs.Configurations.{stateOf}
+use Rattle.meaning.proofs.Widening.{set-most}
 
 -- p is written over d, and then m bytes of s
 part-next : (p d s out : List ℕ) (n m : ℕ) → length p ≡ n → out ≡ p ++ drop n d → paste out n s m ≡ (p ++ take m s) ++ drop (n + m) d
@@ -17,7 +18,7 @@ part-next p d s out n m e q =
     rw (q, take-at p (drop n d) n e) (ap (λ (y : List ℕ). p ++ take m s ++ y) (sym (drop-drop m n (p ++ drop n d)) ∙ ap (drop m) (drop-at p (drop n d) n e) ∙ drop-drop m n d))
 
 module _ (l : Layout) (c : Configuration) (p : ℕ) (ip : p ≡ planAt (setBytes l)) (d d₁ d₃ d₄ : List ℕ)
-    (lb : length (c .mind .beliefs) ≡ setBytes l) (lg : length (c .mind .goals) ≡ setBytes l)
+    (lb : length (c .mind .beliefs) ≡ 32) (lg : length (c .mind .goals) ≡ 32)
     (lp : length (c .plan) ≡ 1024) (fits : c .mind .length ≤ 1024)
     (h : List ℕ) (e₀ : h ≡ placeHeader l (c .mind .length) (c .mind .phase) (c .mind .finished)) (lh : length h ≡ 12) (e₁ : d₁ ≡ paste d 0 h 12)
     (e₃ : d₃ ≡ paste (paste d₁ 12 (c .mind .beliefs) (setBytes l)) (placeGoalsAt (setBytes l)) (c .mind .goals) (setBytes l))
@@ -38,20 +39,23 @@ module _ (l : Layout) (c : Configuration) (p : ℕ) (ip : p ≡ planAt (setBytes
   unfolding place stateOf h₂ h₃
   place-written =
       let a : take 12 h ≡ h = take-all 12 h (omega arith) in
-      let b : take s (c .mind .beliefs) ≡ c .mind .beliefs = take-all s (c .mind .beliefs) (omega arith) in
-      let o : take s (c .mind .goals) ≡ c .mind .goals = take-all s (c .mind .goals) (omega arith) in
-      let l₂ : length h₂ ≡ g = ap (λ (y : List ℕ). length (h ++ y)) b ∙ omega (arith, length-append h (c .mind .beliefs)) in
-      let l₃ : length h₃ ≡ p = ap (λ (y : List ℕ). length (h₂ ++ y)) o ∙ omega (arith, length-append h₂ (c .mind .goals)) in
+      let σ = take s (c .mind .beliefs) in
+      let γ = take s (c .mind .goals) in
+      let most = set-most (l .edition) in
+      let b : length σ ≡ s = length-take-le s (c .mind .beliefs) (omega arith) in
+      let o : length γ ≡ s = length-take-le s (c .mind .goals) (omega arith) in
+      let l₂ : length h₂ ≡ g = omega (arith, length-append h σ) in
+      let l₃ : length h₃ ≡ p = omega (arith, length-append h₂ γ) in
+      let u : g + s ≡ p = omega arith in
       let q₁ : d₁ ≡ h ++ drop 12 d = e₁ ∙ ap (λ (y : List ℕ). y ++ drop 12 d) a in
       let q₂ : paste d₁ 12 (c .mind .beliefs) s ≡ h₂ ++ drop g d = part-next h d (c .mind .beliefs) d₁ 12 s lh q₁ in
-      let q₃ : d₃ ≡ h₃ ++ drop p d = e₃ ∙ part-next h₂ d (c .mind .goals) (paste d₁ 12 (c .mind .beliefs) s) g s l₂ q₂ ∙ ap (λ k. h₃ ++ drop k d) (sym ip) in
+      let q₃ : d₃ ≡ h₃ ++ drop p d = e₃ ∙ part-next h₂ d (c .mind .goals) (paste d₁ 12 (c .mind .beliefs) s) g s l₂ q₂ ∙ ap (λ k. h₃ ++ drop k d) u in
       let t : List ℕ = take (c .mind .length) (c .plan) in
       let n : c .mind .length ≡ length (take (c .mind .length) (c .plan)) = sym (length-take-le (c .mind .length) (c .plan) (omega arith)) in
       let head : h ≡ placeHeader l (length (take (c .mind .length) (c .plan))) (c .mind .phase) (c .mind .finished) = e₀ ∙ ap (λ k. placeHeader l k (c .mind .phase) (c .mind .finished)) n in
       e₄ ∙ part-next h₃ d (c .plan) d₃ p (c .mind .length) l₃ q₃
       ∙ ap₂ (λ (x : List ℕ) k. x ++ drop k d) (
-      ap₂ (λ (x y : List ℕ). ((h ++ x) ++ y) ++ t) b o
-      ∙ append-assoc (h ++ c .mind .beliefs) (c .mind .goals) t
-      ∙ append-assoc h (c .mind .beliefs) (c .mind .goals ++ t)
-      ∙ ap (λ (x : List ℕ). x ++ (c .mind .beliefs ++ (c .mind .goals ++ t))) head
+      append-assoc (h ++ σ) γ t
+      ∙ append-assoc h σ (γ ++ t)
+      ∙ ap (λ (x : List ℕ). x ++ (σ ++ (γ ++ t))) head
       ) (ap (λ k. k + c .mind .length) ip)

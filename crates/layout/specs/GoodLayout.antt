@@ -20,6 +20,7 @@ pub record TwoByteSpan (s : Span) : Type 0 where
 
 -- 01, "The card, edition 1": "Numbers are two bytes", of every number of a layout
 pub record TwoByteLayout (l : Layout) : Type 0 where
+  pub edition : l .edition ≤ 65535
   pub atoms : l .atoms ≤ 65535
   pub actions : l .actions ≤ 65535
   pub nodes : TwoByteSection (l .nodes)
@@ -31,6 +32,7 @@ pub record TwoByteLayout (l : Layout) : Type 0 where
 
 -- The numbers of atoms and of actions are in range.
 pub record Counted (l : Layout) : Type 0 where
+  pub most : mostAtoms (setBytes l) ≤ 256
   pub atoms : l .atoms ≤ mostAtoms (setBytes l)
   pub some-actions : 1 ≤ l .actions
   pub actions : l .actions ≤ 256
@@ -38,6 +40,8 @@ pub record Counted (l : Layout) : Type 0 where
 -- The counts are in range, the sections follow each other, and the card ends with the pool.
 pub record GoodLayout (l : Layout) (b : Bytes) : Type 0 where
   pub says : l ≡ layout b
+  pub set-least : 16 ≤ setBytes l
+  pub set-most : setBytes l ≤ 32
   pub some-atoms : 1 ≤ l .atoms
   pub atoms : l .atoms ≤ mostAtoms (setBytes l)
   pub some-actions : 1 ≤ l .actions

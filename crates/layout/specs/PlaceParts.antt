@@ -3,7 +3,7 @@ use Rattle.meaning.specs.declared.Mind.{Mind}
 use Rattle.meaning.specs.declared.Configuration.{Configuration}
 use Rattle.meaning.specs.declared.Layout.{Layout}
 use Rattle.meaning.specs.Sizes.{setBytes, placeGoalsAt}
-use Rattle.meaning.specs.Card.{Bytes, numberAt, part}
+use Rattle.meaning.specs.Card.{Bytes, numberAt, setAt}
 use Rattle.layout.specs.declared.place.PlaceParts.{PlaceParts}
 
 -- all of a place but its mark and its plan
@@ -13,8 +13,8 @@ placeParts l p = record {
   offset = numberAt p 6;
   phase = numberAt p 8;
   finished = numberAt p 10;
-  beliefs = part p 12 (setBytes l);
-  goals = part p (placeGoalsAt (setBytes l)) (setBytes l);
+  beliefs = setAt l p 12;
+  goals = setAt l p (placeGoalsAt (setBytes l));
 }
 
 -- a mind and a lent plan's bytes, as one configuration

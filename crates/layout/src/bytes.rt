@@ -1,11 +1,14 @@
 // Bytes, a card's or a place's: a number or a set from an offset on, a number's two bytes, the mark, and bytes copied.
 ghost use mathlib.Core.Path.{_≡_};
+ghost use mathlib.Core.Bool.{true};
 ghost use Prim.Native.Nat.{_+_, _*_, _/_, _%_, _≤_};
 ghost use lib.Dec.{ltb};
 ghost use lib.ListN.{length, drop};
 ghost use lib.Seq.{paste};
-ghost use Rattle.meaning.specs.Card.{numberAt, part};
-ghost use Rattle.meaning.specs.Refusals.{marked};
+ghost use Rattle.paper.specs.Atoms.{_∪_, _∖_};
+ghost use Rattle.meaning.specs.Sizes.{editionSet};
+ghost use Rattle.meaning.specs.Card.{numberAt, part, widened};
+ghost use Rattle.meaning.specs.Refusals.{hasEdition, marked};
 use meaning::Set;
 
 // Two bytes, low byte first.
@@ -52,13 +55,19 @@ pub fn byte_below(x: u8, n: usize) -> bool
     (x as usize) < n
 }
 
-// Not row 2: "first two bytes or edition differ". The first byte is 33 hex, the second is given, and the edition is 1.
+// Not row 1: "a file under 4 bytes is 1": its mark and its edition are there.
+pub fn has_edition(bytes: &[u8]) -> bool
+    ensures { λ r. ⌜ (r ≡ hasEdition (now (bytes .entry))) × (r ≡ true → 4 ≤ length (now (bytes .entry))) ⌝ }
+{
+    4 <= bytes.len()
+}
+
+// Not row 2: "first two bytes … differ". The first byte is 33 hex, the second is given.
 pub fn mark_good(bytes: &[u8], second: u8) -> bool
-    requires { ⌜ 4 ≤ length (now bytes) ⌝ }
+    requires { ⌜ 2 ≤ length (now bytes) ⌝ }
     ensures { λ r. ⌜ r ≡ marked second (now (bytes .entry)) ⌝ }
 {
-    let edition = number_at(bytes, 2);
-    (bytes[0] == 0x33) & ((bytes[1] == second) & (edition == 1))
+    (bytes[0] == 0x33) & (bytes[1] == second)
 }
 
 // n bytes of src, from `from` on, over those of dst from `to` on.
@@ -85,14 +94,61 @@ pub fn down(s: &mut [u8], to: usize, from: usize, n: usize)
     }
 }
 
-// The set at an offset.
-pub fn set_at(bytes: &[u8], at: usize) -> Set
-    requires { ⌜ at + 16 ≤ length (now bytes) ⌝ }
-    ensures { λ r. ⌜ r ≡ part (now (bytes .entry)) at 16 ⌝ }
+// The set at an offset, of as many bytes as its edition's sets have, with zeros above. Each number is written out, so that the
+// compiler knows how many bytes are moved.
+pub fn set_at(bytes: &[u8], at: usize, edition: u16) -> Set
+    requires { ⌜ at + editionSet edition ≤ length (now bytes) ⌝ }
+    ensures { λ r. ⌜ r ≡ widened (part (now (bytes .entry)) at (editionSet edition)) ⌝ }
 {
-    let mut set = [0u8; 16];
+    let mut set = [0u8; 32];
+    if edition == 2 {
+        copy(&mut set, 0, bytes, at, 32);
+        return set;
+    }
     copy(&mut set, 0, bytes, at, 16);
     set
+}
+
+// The bytes of a set of n bytes at an offset join those of another in place.
+fn add_bytes(s: &mut [u8], bytes: &[u8], at: usize, n: usize)
+    requires { ⌜ (n ≤ length (now s)) × (at + n ≤ length (now bytes)) ⌝ }
+    ensures { λ r. ⌜ now (s .exit) ≡ now (s .entry) ∪ part (now (bytes .entry)) at n ⌝ }
+{
+    let mut i: usize = 0;
+    while i < n {
+        s[i] = s[i] | bytes[at + i];
+        i += 1;
+    }
+}
+
+// And leave it.
+fn remove_bytes(s: &mut [u8], bytes: &[u8], at: usize, n: usize)
+    requires { ⌜ (n ≤ length (now s)) × (at + n ≤ length (now bytes)) ⌝ }
+    ensures { λ r. ⌜ now (s .exit) ≡ now (s .entry) ∖ part (now (bytes .entry)) at n ⌝ }
+{
+    let mut i: usize = 0;
+    while i < n {
+        s[i] = s[i] ^ (s[i] & bytes[at + i]);
+        i += 1;
+    }
+}
+
+// The set at an offset, of an edition, joins one of 32 bytes in place.
+pub fn add_set(s: &mut [u8], bytes: &[u8], at: usize, edition: u16)
+    requires { ⌜ (length (now s) ≡ 32) × (at + editionSet edition ≤ length (now bytes)) ⌝ }
+    ensures { λ r. ⌜ now (s .exit) ≡ now (s .entry) ∪ widened (part (now (bytes .entry)) at (editionSet edition)) ⌝ }
+{
+    let t = set_at(bytes, at, edition);
+    add_bytes(s, &t, 0, 32);
+}
+
+// And leaves it.
+pub fn remove_set(s: &mut [u8], bytes: &[u8], at: usize, edition: u16)
+    requires { ⌜ (length (now s) ≡ 32) × (at + editionSet edition ≤ length (now bytes)) ⌝ }
+    ensures { λ r. ⌜ now (s .exit) ≡ now (s .entry) ∖ widened (part (now (bytes .entry)) at (editionSet edition)) ⌝ }
+{
+    let t = set_at(bytes, at, edition);
+    remove_bytes(s, &t, 0, 32);
 }
 
 // How many bytes a slice has. An array that is lent as a slice is known to be as long as its type says.

@@ -1,13 +1,17 @@
 // The entries of a card's sections, by their numbers; its weights and its initial sets.
 ghost use mathlib.Core.Path.{_≡_};
 ghost use Prim.Native.Nat.{_+_, _≤_, _<_};
+ghost use lib.ListN.{length};
+ghost use Rattle.paper.specs.Atoms.{_∪_, _∖_};
 ghost use Rattle.runs.specs.Order.{byKind};
 ghost use Rattle.meaning.specs.Card.{entryAt, weightAt, nodeAt, specificationAt, selectionAt, revisionAt, initialBeliefs, initialGoals};
 ghost use Rattle.meaning.specs.Sizes.{setBytes, specificationBytes};
 ghost use Rattle.meaning.specs.Refusals.{endOf};
 ghost use Rattle.layout.specs.GoodLayout.{TwoByteSpan, GoodLayout};
 ghost use Rattle.layout.specs.Entries.{countOf};
+use crate::bytes::add_set;
 use crate::bytes::number_at;
+use crate::bytes::remove_set;
 use crate::bytes::set_at;
 use crate::bytes::two_bytes_at;
 use crate::header::read_span;
@@ -91,8 +95,8 @@ pub fn read_specification(card: &[u8], l: Layout, i: usize) -> SpecificationEntr
     ensures { λ r. ⌜ r ≡ specificationAt l (now (card .entry)) i ⌝ }
 {
     let at = specification_at(l, i);
-    let add = set_at(card, at + 4);
-    let del = set_at(card, at + del_at(l));
+    let add = set_at(card, at + 4, l.edition);
+    let del = set_at(card, at + del_at(l), l.edition);
     SpecificationEntry {
         action: card[at],
         node: card[at + 1],
@@ -100,6 +104,28 @@ pub fn read_specification(card: &[u8], l: Layout, i: usize) -> SpecificationEntr
         add: add,
         del: del,
     }
+}
+
+// "Beliefs become (beliefs with Add) without Del.", by specification i, whose sets are read where they stand.
+pub fn act_on(beliefs: &mut [u8], card: &[u8], l: Layout, i: usize)
+    requires { ⌜ (length (now beliefs) ≡ 32) × GoodLayout l (now card) × (i < l .specifications .count) ⌝ }
+    ensures { λ r. ⌜ now (beliefs .exit)
+        ≡ (now (beliefs .entry) ∪ specificationAt l (now (card .entry)) i .add) ∖ specificationAt l (now (card .entry)) i .del ⌝ }
+{
+    let at = specification_at(l, i);
+    add_set(beliefs, card, at + 4, l.edition);
+    remove_set(beliefs, card, at + del_at(l), l.edition);
+}
+
+// A set with all the atoms of specification i: its Add and its Del.
+pub fn add_both(s: &mut [u8], card: &[u8], l: Layout, i: usize)
+    requires { ⌜ (length (now s) ≡ 32) × GoodLayout l (now card) × (i < l .specifications .count) ⌝ }
+    ensures { λ r. ⌜ now (s .exit)
+        ≡ (now (s .entry) ∪ specificationAt l (now (card .entry)) i .add) ∪ specificationAt l (now (card .entry)) i .del ⌝ }
+{
+    let at = specification_at(l, i);
+    add_set(s, card, at + 4, l.edition);
+    add_set(s, card, at + del_at(l), l.edition);
 }
 
 // "Selection rule, 8 bytes: belief node, goal node, start, length (1..1,024), zero number."
@@ -144,7 +170,7 @@ pub fn initial_beliefs(card: &[u8], l: Layout) -> Set
     requires { ⌜ GoodLayout l (now card) ⌝ }
     ensures { λ r. ⌜ r ≡ initialBeliefs l (now (card .entry)) ⌝ }
 {
-    set_at(card, 32)
+    set_at(card, 32, l.edition)
 }
 
 // "initial goals"
@@ -152,5 +178,5 @@ pub fn initial_goals(card: &[u8], l: Layout) -> Set
     requires { ⌜ GoodLayout l (now card) ⌝ }
     ensures { λ r. ⌜ r ≡ initialGoals l (now (card .entry)) ⌝ }
 {
-    set_at(card, goals_at(l))
+    set_at(card, goals_at(l), l.edition)
 }

@@ -3,7 +3,6 @@ ghost use mathlib.Core.Path.{_≡_};
 ghost use Prim.Native.Nat.{_+_, _*_, _≤_};
 ghost use lib.ListN.{length};
 ghost use Rattle.meaning.specs.Card.{section, span, layout};
-ghost use Rattle.meaning.specs.Sizes.{edition1Set, headerBytes};
 ghost use Rattle.meaning.specs.Refusals.{within, countsGood, endOf, offsetsGood};
 ghost use Rattle.layout.specs.GoodLayout.{TwoByteSection, TwoByteSpan, TwoByteLayout};
 use crate::bytes::two_bytes_at;
@@ -38,10 +37,11 @@ pub fn read_span(card: &[u8], at: usize) -> Span
 
 // What the header says.
 pub fn read_layout(card: &[u8]) -> Layout
-    requires { ⌜ headerBytes edition1Set ≤ length (now card) ⌝ }
+    requires { ⌜ 32 ≤ length (now card) ⌝ }
     ensures { λ r. ⌜ (r ≡ layout (now (card .entry))) × TwoByteLayout r ⌝ }
 {
     Layout {
+        edition: two_bytes_at(card, 2),
         atoms: two_bytes_at(card, 4),
         actions: two_bytes_at(card, 6),
         nodes: read_section(card, 8),

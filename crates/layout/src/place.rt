@@ -44,8 +44,8 @@ pub fn read_parts(l: Layout, p: &[u8]) -> PlaceParts
     requires { ⌜ planAt (setBytes l) ≤ length (now p) ⌝ }
     ensures { λ r. ⌜ (r ≡ placeParts l (now (p .entry))) × (r .length ≤ 65535) × (r .finished ≤ 65535) ⌝ }
 {
-    let beliefs = set_at(p, 12);
-    let goals = set_at(p, place_goals_at(l));
+    let beliefs = set_at(p, 12, l.edition);
+    let goals = set_at(p, place_goals_at(l), l.edition);
     PlaceParts {
         length: number_at(p, 4),
         offset: number_at(p, 6),
@@ -56,17 +56,18 @@ pub fn read_parts(l: Layout, p: &[u8]) -> PlaceParts
     }
 }
 
-// "Bytes 33 50 hex; edition 1 at 2; plan length L at 4; plan offset 44 at 6; phase at 8", and the finished count "in bytes 10 and
-// 11".
+// "Bytes 33 50 hex; edition 1 at 2" or what its card has; "plan length L at 4; plan offset 44 at 6; phase at 8", and the finished
+// count "in bytes 10 and 11".
 fn header_of(l: Layout, n: usize, phase: usize, finished: usize) -> [u8; 12]
     ensures { λ r. ⌜ r ≡ placeHeader l n phase finished ⌝ }
 {
     let at = plan_at(l);
+    let edition = l.edition as usize;
     [
         0x33,
         0x50,
-        1,
-        0,
+        low_byte(edition),
+        high_byte(edition),
         low_byte(n),
         high_byte(n),
         low_byte(at),

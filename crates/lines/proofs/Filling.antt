@@ -3,12 +3,12 @@ use mathlib.Core.Path.{_≡_, refl, ap, ap₂, sym, _∙_, subst}
 use mathlib.Core.Bool.{Bool, true, false, _&&_, _||_, and-assoc, and-true, and-eq-true-iff, or-assoc, or-false}
 use mathlib.Core.List.{List, [], _∷_, _++_}
 use mathlib.Core.Option.{Option, none, some}
-use Prim.Native.Nat.{ℕ, zero, suc, _+_, _-_, _*_, _/_, _%_, _^_, _≤_, _<_}
+use Prim.Native.Nat.{ℕ, zero, suc, _+_, _-_, _/_, _%_, _^_, _≤_, _<_}
 use native.Mathlib.Nat.{mod-lt, zero-div}
 use native.Mathlib.Decide.{decLe}
 use native.Mathlib.Omega.{arith}
 use borrow.Author.Tests.{leb-true, le-leb, lt-leb}
-use lib.Bits.{or-lt}
+use lib.Bits.{bitOr, or-zero-r, or-lt}
 use lib.Pow.{pow-lt}
 use lib.Dec.{leb}
 use lib.ListN.{length, take, drop, getD, set, replicate, length-append, length-replicate, length-set}
@@ -18,6 +18,8 @@ use Rattle.paper.specs.Atoms.{Atoms, bit, _∈_, _∪_}
 use Rattle.paper.specs.Theorems.{AreBytes}
 use Rattle.paper.proofs.Sets.{at-∪, length-∪, ∈-∪, by-members}
 use Rattle.meaning.specs.Card.{Bytes}
+use Rattle.meaning.proofs.Widening.{at-zeros}
+use Rattle.sets.specs.Sets.{withMember}
 use Rattle.notation.specs.Built.{single, setOf}
 use Rattle.notation.specs.Values.{numberValue, digitsRest, listGoesOn, listOf, behindList}
 use Rattle.notation.specs.Making.{when, addedTo, setFits, withPlan}
@@ -29,19 +31,22 @@ use Rattle.lines.proofs.Sections.{added-none, added-some}
 
 -- ---- the set of one atom
 
-pub one-set : (n i a : ℕ) → i < n → set (replicate n 0) i a ≡ replicate i 0 ++ (a ∷ replicate (n - 1 - i) 0)
-one-set zero i a h = absurd (omega arith)
-one-set (suc n) zero a h = let e : n ≡ suc n - 1 - 0 = omega arith in ap (λ k. a ∷ replicate k 0) e
-one-set (suc n) (suc i) a h =
-    let e : n - 1 - i ≡ suc n - 1 - suc i = omega arith in
-    ap (λ (x : Bytes). 0 ∷ x) (one-set n i a (omega arith)) ∙ ap (λ k. 0 ∷ (replicate i 0 ++ (a ∷ replicate k 0))) e
+none-more : (s : Atoms) → s ∪ replicate (length s) 0 ≡ s
+unfolding _∪_
+none-more [] = refl
+none-more (x ∷ s) = ap₂ (λ y (t : Atoms). y ∷ t) (or-zero-r x) (none-more s)
 
-pub single-made : (v : ℕ) (e : Bytes) → v ≤ 127 → e ≡ replicate 16 0 → set e (v / 8) (1 * 2 ^ (v % 8) % 256) ≡ single v
-single-made v e h q =
-    let p : 2 ^ (v % 8) < 256 = pow-lt {i = v % 8} {j = 8} (mod-lt v (omega arith)) in
-    let b : 1 * 2 ^ (v % 8) % 256 ≡ 2 ^ (v % 8) = omega arith in
-    let l : 16 - 1 - v / 8 ≡ 15 - v / 8 = omega arith in
-    ap₂ (λ (x : Bytes) y. set x (v / 8) y) q b ∙ one-set 16 (v / 8) (2 ^ (v % 8)) (omega arith) ∙ ap (λ k. replicate (v / 8) 0 ++ (2 ^ (v % 8) ∷ replicate k 0)) l
+byte-more : (s : Atoms) (i n x : ℕ) → length s ≡ i + suc n → set s i (bitOr (getD s i 0) x) ≡ s ∪ (replicate i 0 ++ (x ∷ replicate n 0))
+unfolding _∪_
+byte-more [] i n x h = absurd (omega arith)
+byte-more (y ∷ s) zero n x h =
+    let e : length s ≡ n = omega arith in
+    ap (λ (t : Atoms). bitOr y x ∷ t) (sym (none-more s) ∙ ap (λ k. s ∪ replicate k 0) e)
+byte-more (y ∷ s) (suc i) n x h = ap₂ (λ z (t : Atoms). z ∷ t) (sym (or-zero-r y)) (byte-more s i n x (omega arith))
+
+-- a set with one member more is its union with the set of that atom
+pub with-single : (v : ℕ) (s : Atoms) → v ≤ 127 → length s ≡ 16 → withMember v s ≡ s ∪ single v
+with-single v s h l = byte-more s (v / 8) (15 - v / 8) (2 ^ (v % 8)) (omega arith)
 
 zeros-bytes : (n : ℕ) → AreBytes (replicate n 0)
 zeros-bytes zero i = omega arith
@@ -76,14 +81,9 @@ set-bytes (n ∷ ns) e =
     let r = set-bytes ns (both .1) in
     (length-∪ (single n) (setOf ns) (l ∙ sym (r .0)) ∙ l, ∪-bytes (single n) (setOf ns) (single-bytes n) (r .1))
 
-zeros-at : (n i : ℕ) → getD {A = ℕ} (replicate n 0) i 0 ≡ 0
-zeros-at zero i = refl
-zeros-at (suc n) zero = refl
-zeros-at (suc n) (suc i) = zeros-at n i
-
 none-in : (k : ℕ) → k ∈ replicate 16 0 ≡ false
 unfolding _∈_ bit
-none-in k = rw (zeros-at 16 (k / 8), zero-div)
+none-in k = rw (at-zeros 16 (k / 8), zero-div)
 
 -- ---- a set, read from a place on as far as the numbers before next
 

@@ -7,6 +7,7 @@ ghost use Rattle.notation.specs.Values.{doItem, selectItem, reviseItem, beginIt
 ghost use Rattle.lines.specs.Lines.{Held, Puts, PartOver, ReadsLine, lastIn, poolIn, specified, effects, behindEffects};
 ghost use Rattle.lines.specs.Lines.{planSelected, behindPlan, bodyRevised, behindBody, startPlanned};
 ghost use Rattle.lines.specs.Lines.{AtomsRead, WeightRead, nothing, Blank, LinesRead};
+use crate::lists::Edition1Set;
 use crate::lists::behind_line;
 use crate::lists::read_set;
 use crate::lists::skip;
@@ -25,7 +26,6 @@ use crate::put::put_weight;
 use crate::put::too_large;
 use conditions::nodes::last_node;
 use conditions::number::read_number;
-use meaning::Set;
 
 // The number of the last node, 0 if there is none or something is too large.
 fn last_in(m: Made) -> u8
@@ -52,7 +52,14 @@ fn more_than(a: usize, b: usize) -> usize
 // ---- do lines
 
 // A specification, if its action and its sets fit.
-fn specify(card: &mut [u8], m: Made, action: usize, fits: bool, add: Set, del: Set) -> Made
+fn specify(
+    card: &mut [u8],
+    m: Made,
+    action: usize,
+    fits: bool,
+    add: Edition1Set,
+    del: Edition1Set,
+) -> Made
     requires { ⌜ Held m (now card) ⌝ }
     ensures { λ r. ⌜ Puts (specified action fits (lastIn m) add del) m (now (card .entry)) r (now (card .exit)) ⌝ }
 {
@@ -184,8 +191,8 @@ fn read_start(
     card: &mut [u8],
     m: Made,
     fits: bool,
-    beliefs: Set,
-    goals: Set,
+    beliefs: Edition1Set,
+    goals: Edition1Set,
 ) -> Placed
     requires { ⌜ (at ≤ length (now text)) × Held m (now card) ⌝ }
     ensures { λ r. ⌜ PartOver behindPlan (startPlanned fits (beliefs ++ goals)) (now (text .entry)) at m (now (card .entry)) r (now (card .exit)) ⌝ }

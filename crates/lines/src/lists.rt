@@ -2,13 +2,12 @@
 ghost use mathlib.Core.Path.{_≡_};
 ghost use Prim.Native.Nat.{_+_, _≤_, _<_};
 ghost use lib.ListN.{length, drop, replicate};
-ghost use Rattle.notation.specs.Built.{single};
+ghost use Rattle.meaning.specs.Sizes.{edition1Set};
 ghost use Rattle.notation.specs.Values.{listGoesOn};
 ghost use Rattle.lines.specs.Lines.{Skips, BehindLine, WithAtom, ReadsSet, WithAction, ReadsPlan};
 use conditions::number::is_digit;
 use conditions::number::read_number;
-use meaning::Set;
-use sets::union;
+use sets::add_member;
 
 // Some bytes on, or at the end of the text.
 pub fn skip(text: &[u8], at: usize, n: usize) -> usize
@@ -52,35 +51,29 @@ fn goes_on(text: &[u8], n: usize) -> bool
 
 // ---- sets
 
-fn no_atoms() -> Set
-    ensures { λ r. ⌜ r ≡ replicate 16 0 ⌝ }
+// 02, Wish 9: "Text cards stay edition 1": "A set of atoms is 16 bytes".
+pub type Edition1Set = [u8; 16];
+
+fn no_atoms() -> Edition1Set
+    ensures { λ r. ⌜ r ≡ replicate edition1Set 0 ⌝ }
 {
     [0u8; 16]
 }
 
-// "atom k is bit (k modulo 8) of byte (k divided by 8)": the set of one atom.
-fn single_set(v: u8) -> Set
-    requires { ⌜ v ≤ 127 ⌝ }
-    ensures { λ r. ⌜ r ≡ single v ⌝ }
-{
-    let mut e = no_atoms();
-    e[(v / 8) as usize] = 1u8 << (v % 8);
-    e
-}
-
 // A set with one atom more, if there is such an atom.
-fn with_atom(set: Set, v: usize) -> Set
+fn with_atom(mut set: Edition1Set, v: usize) -> Edition1Set
     ensures { λ r. ⌜ WithAtom set v r ⌝ }
 {
     if v > 127 {
         return set;
     }
-    union(set, single_set(v as u8))
+    add_member(&mut set, v);
+    set
 }
 
 // A set that was read, whether all its atoms are below 128, and the place behind it.
 pub struct SetRead {
-    pub set: Set,
+    pub set: Edition1Set,
     pub fits: bool,
     pub next: usize,
 }

@@ -5,10 +5,10 @@ ghost use Prim.Native.Nat.{_+_, _≤_};
 ghost use Rattle.meaning.specs.Place.{twoBytes};
 ghost use Rattle.notation.specs.Making.{weightIn, specificationIn, selectionIn, revisionIn};
 ghost use Rattle.lines.specs.Lines.{Held, Puts, tooLarge, withAtoms, startIn, specification, selection, revision};
+use crate::lists::Edition1Set;
 use crate::made::Made;
 use layout::bytes::copy;
 use layout::sizes::edition_1_header;
-use meaning::Set;
 
 // Something is too large.
 pub fn too_large(mut m: Made) -> Made
@@ -44,7 +44,7 @@ pub fn put_weight(card: &mut [u8], mut m: Made, w: usize) -> Made
 }
 
 // "Specification, 36 bytes: action, node, 0, 0, Add, Del."
-fn specification_bytes(action: u8, node: u8, add: Set, del: Set) -> [u8; 36]
+fn specification_bytes(action: u8, node: u8, add: Edition1Set, del: Edition1Set) -> [u8; 36]
     ensures { λ r. ⌜ r ≡ specification action node add del ⌝ }
 {
     let mut e = [0u8; 36];
@@ -61,8 +61,8 @@ pub fn put_specification(
     mut m: Made,
     action: u8,
     node: u8,
-    add: Set,
-    del: Set,
+    add: Edition1Set,
+    del: Edition1Set,
 ) -> Made
     requires { ⌜ Held m (now card) ⌝ }
     ensures { λ r. ⌜ Puts (specificationIn (specification action node add del)) m (now (card .entry)) r (now (card .exit)) ⌝ }
@@ -182,8 +182,8 @@ pub fn put_atoms(mut m: Made, n: usize) -> Made
 pub fn put_start(
     card: &mut [u8],
     mut m: Made,
-    beliefs: Set,
-    goals: Set,
+    beliefs: Edition1Set,
+    goals: Edition1Set,
     start: usize,
     len: usize,
 ) -> Made

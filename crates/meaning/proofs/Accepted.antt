@@ -1,5 +1,6 @@
 -- What an accepted card has passed, and what follows for its agent.
 use mathlib.Core.Path.{_≡_}
+use mathlib.Core.Logic.{⊎-elim}
 use mathlib.Core.Bool.{true}
 use mathlib.Core.List.{List, [], _∷_, map}
 use Prim.Native.Nat.{ℕ, zero, suc, _+_, _*_, _≤_}
@@ -16,15 +17,17 @@ use Rattle.meaning.specs.declared.Answer.the-variants.{Done}
 use Rattle.meaning.specs.declared.Section.{Section}
 use Rattle.meaning.specs.declared.Layout.{Layout}
 use Rattle.meaning.specs.Sizes.{setBytes, mostAtoms, headerBytes, specificationBytes}
-use Rattle.meaning.specs.Card.{Bytes, layout, entries, weightAt, weights, weight, agentOf, agentFor, agent, initialPlan}
-use Rattle.meaning.specs.Refusals.{all, within, cardLongEnough, cardMarkGood, countsGood, endOf, offsetsGood, weightsGood, nodesGood, containing, rulesGood, actionsGood, pool, setsGood, cardTable, cardAnswer}
+use Rattle.meaning.specs.Card.{Bytes, numberAt, layout, entries, weightAt, weights, weight, agentOf, agentFor, agent, initialPlan}
+use Rattle.meaning.specs.Refusals.{all, within, hasEdition, marked, cardLongEnough, cardMarkGood, countsGood, endOf, offsetsGood, weightsGood, nodesGood, containing, rulesGood, actionsGood, pool, setsGood, cardTable, cardAnswer}
 use Rattle.meaning.specs.Theorems.{CardLaw}
+use Rattle.meaning.proofs.Every.{either}
 use Rattle.meaning.proofs.Tables.{row-passed}
 
 -- what an accepted card has passed, row by row
 pub record Accepted (b : Bytes) : Type 0 where
-  pub long-enough : cardLongEnough b ≡ true
+  pub has-edition : hasEdition b ≡ true
   pub marked : cardMarkGood b ≡ true
+  pub long-enough : cardLongEnough b ≡ true
   pub counts : countsGood (layout b) ≡ true
   pub offsets : offsetsGood (layout b) (length b) ≡ true
   pub weights : weightsGood (layout b) b ≡ true
@@ -38,16 +41,25 @@ unfolding cardAnswer cardTable
 accepted b e =
     let passed = row-passed b cardTable e in
     record {
-      long-enough = not-false _ (passed 0);
+      has-edition = not-false _ (passed 0);
       marked = not-false _ (passed 1);
-      counts = not-false _ (passed 2);
-      offsets = not-false _ (passed 3);
-      weights = not-false _ (passed 4);
-      nodes = not-false _ (passed 5);
-      rules = not-false _ (passed 6);
-      pool = not-false _ (passed 7);
-      sets = not-false _ (passed 8);
+      long-enough = not-false _ (passed 2);
+      counts = not-false _ (passed 3);
+      offsets = not-false _ (passed 4);
+      weights = not-false _ (passed 5);
+      nodes = not-false _ (passed 6);
+      rules = not-false _ (passed 7);
+      pool = not-false _ (passed 8);
+      sets = not-false _ (passed 9);
     }
+
+-- ---- its edition
+
+pub edition-known : (b : Bytes) → cardMarkGood b ≡ true → layout b .edition ≤ 2
+unfolding cardMarkGood layout
+edition-known b e =
+    let n = numberAt b 2 in
+    ⊎-elim (λ h. (let q = eqb-true n 1 h in omega arith)) (λ h. (let q = eqb-true n 2 h in omega arith)) (either (eqb n 1) (eqb n 2) (both (marked 0x41 b) _ e .1))
 
 -- ---- its numbers are in range
 

@@ -9,6 +9,7 @@ pub mod Configurations
 pub mod Parts
 pub mod Pass
 pub mod Nodes
+pub mod Widening
 pub mod Places
 pub mod Entries
 pub mod Carrying

@@ -1,7 +1,7 @@
 -- The card, edition 1: what its bytes stand for (01, "The card, edition 1").
 use mathlib.Core.List.{List, [], _∷_, _++_, map}
-use Prim.Native.Nat.{ℕ, _+_, _*_}
-use lib.ListN.{length, getD, take, drop}
+use Prim.Native.Nat.{ℕ, _+_, _*_, _-_}
+use lib.ListN.{length, getD, take, drop, replicate}
 use Rattle.paper.specs.Language.{Plan, Letter, 𝐁, 𝐆, Query, ⊤, Specification, Selection, Revision, Agent, ⟨_/_/_⟩}
 use Rattle.paper.specs.Transitions.{struckBy}
 use Rattle.runs.specs.Order.{State, numbers}
@@ -14,7 +14,7 @@ use Rattle.meaning.specs.declared.SelectionEntry.{SelectionEntry}
 use Rattle.meaning.specs.declared.RevisionEntry.{RevisionEntry}
 use Rattle.meaning.specs.Kinds.{nodeKind}
 use Rattle.meaning.specs.Trees.{Tree, true, treeOf, queryOf}
-use Rattle.meaning.specs.Sizes.{setBytes, goalsAt, headerBytes, delAt, specificationBytes}
+use Rattle.meaning.specs.Sizes.{edition2Set, setBytes, goalsAt, headerBytes, delAt, specificationBytes}
 
 -- 00, demand 1: "on all bytes and numbers": the bytes of a card or place, in their order.
 abbrev pub Bytes : Type 0
@@ -29,9 +29,18 @@ byte b at = getD b at 0
 abbrev pub numberAt : Bytes → ℕ → ℕ
 numberAt b at = byte b at + 256 * byte b (at + 1)
 
--- n bytes from an offset on. Serves the sets (01, "The card, edition 1": "A set of atoms is 16 bytes") and plan.
+-- n bytes from an offset on. Serves setAt and plan.
 unfoldable pub part : Bytes → ℕ → ℕ → Bytes
 part b at n = take n (drop at b)
+
+-- A set of either edition in the 32 bytes that a configuration has for it: one of edition 1 has zeros above (docs/DECISIONS.md, "A
+-- configuration has no edition").
+unfoldable pub widened : Bytes → Bytes
+widened s = s ++ replicate (edition2Set - length s) 0
+
+-- The set at an offset of a card or place: 01, "The card, edition 1": "A set of atoms is 16 bytes"; 02, Wish 9: "sets of 32 bytes".
+abbrev pub setAt : Layout → Bytes → ℕ → Bytes
+setAt l b at = widened (part b at (setBytes l))
 
 -- 01, "The card, edition 1", the table: "nodes, offset" and the like, two numbers in turn. Serves layout.
 abbrev pub section : Bytes → ℕ → Section
@@ -44,6 +53,8 @@ span b at = record { start = numberAt b at; length = numberAt b (at + 2) }
 -- 01, "The card, edition 1": "counts and offsets in a header": the table, row by row.
 unfoldable pub layout : Bytes → Layout
 layout b = record {
+  -- 01, "The card, edition 1", at 2: "edition"
+  edition = numberAt b 2;
   -- 01, "The card, edition 1", at 4: "atoms"
   atoms = numberAt b 4;
   -- 01, "The card, edition 1", at 6: "actions"
@@ -90,8 +101,14 @@ nodeAt l b i = nodeFrom b (entryAt 4 (l .nodes) i)
 -- 01, "The card, edition 1": "Specification, 36 bytes: action, node, 0, 0, Add, Del."
 unfoldable pub specificationAt : Layout → Bytes → ℕ → SpecificationEntry
 specificationAt l b i =
-    let s : ℕ = setBytes l in let at : ℕ = entryAt (specificationBytes s) (l .specifications) i in
-    record { action = byte b at; node = byte b (at + 1); zero = numberAt b (at + 2); add = part b (at + 4) s; del = part b (at + delAt s) s }
+    let at : ℕ = entryAt (specificationBytes (setBytes l)) (l .specifications) i in
+    record {
+      action = byte b at;
+      node = byte b (at + 1);
+      zero = numberAt b (at + 2);
+      add = setAt l b (at + 4);
+      del = setAt l b (at + delAt (setBytes l));
+    }
 
 -- 01, "The card, edition 1": "Selection rule, 8 bytes: belief node, goal node, start, length (1..1,024), zero number."
 unfoldable pub selectionAt : Layout → Bytes → ℕ → SelectionEntry
@@ -185,11 +202,11 @@ initialPlan b = plan (layout b) b (layout b .initial)
 
 -- 01, "The card, edition 1", at 32: "initial beliefs"
 abbrev pub initialBeliefs : Layout → Bytes → Bytes
-initialBeliefs l b = part b 32 (setBytes l)
+initialBeliefs l b = setAt l b 32
 
 -- 01, "The card, edition 1", at 48: "initial goals"
 abbrev pub initialGoals : Layout → Bytes → Bytes
-initialGoals l b = part b (goalsAt (setBytes l)) (setBytes l)
+initialGoals l b = setAt l b (goalsAt (setBytes l))
 
 -- 01, "A configuration and its transitions": "Loading answers the card's initial beliefs, goals and plan with phase 0"; 02, Wish
 -- 4: "since load"; 02, Wish 5: "the goals are those not believed, and at load likewise", by which "document 01's line on loading is

@@ -5,7 +5,7 @@ use lib.ListN.{length, take, replicate}
 use Rattle.paper.specs.Language.{Plan, ⟨_/_/_⟩}
 use Rattle.runs.specs.Limits.{longestPlan}
 use Rattle.runs.specs.Order.{State}
-use Rattle.meaning.specs.Sizes.{edition1Set}
+use Rattle.meaning.specs.Sizes.{edition2Set}
 use Rattle.meaning.specs.Card.{Bytes}
 use Rattle.meaning.specs.declared.Mind.{Mind}
 use Rattle.meaning.specs.declared.Configuration.{Configuration}
@@ -41,4 +41,4 @@ configurationOf s = record { mind = mindOf s; plan = padded (s .mental .π) }
 -- 01, "Numbers the guide may answer": "the empty one (no atoms, empty plan, phase 0)". No transition has left its plan empty
 -- (docs/DECISIONS.md, "Where the count begins").
 unfoldable pub empty : Configuration
-empty = configurationOf (record { mental = ⟨ replicate edition1Set 0 / [] / replicate edition1Set 0 ⟩; phase = 0; finished = 0 })
+empty = configurationOf (record { mental = ⟨ replicate edition2Set 0 / [] / replicate edition2Set 0 ⟩; phase = 0; finished = 0 })

@@ -20,8 +20,8 @@ use Rattle.meaning.specs.declared.SpecificationEntry.{SpecificationEntry
 use Rattle.meaning.specs.declared.SelectionEntry.{SelectionEntry}
 use Rattle.meaning.specs.declared.RevisionEntry.{RevisionEntry}
 use Rattle.meaning.specs.Kinds.{NodeKind, True, Believes, HasGoal, Not, And, Or, Unknown, nodeKind}
-use Rattle.meaning.specs.Sizes.{edition1Set, setBytes, mostAtoms, headerBytes, specificationBytes, placeGoalsAt, planAt}
-use Rattle.meaning.specs.Card.{Bytes, byte, numberAt, part, layout, weightAt, nodeAt, nodes, pass, specificationAt, selectionAt, revisionAt, initialBeliefs, initialGoals}
+use Rattle.meaning.specs.Sizes.{setBytes, mostAtoms, headerBytes, specificationBytes, placeGoalsAt, planAt}
+use Rattle.meaning.specs.Card.{Bytes, byte, numberAt, part, setAt, layout, weightAt, nodeAt, nodes, pass, specificationAt, selectionAt, revisionAt, initialBeliefs, initialGoals}
 
 -- 01, "Numbers the guide may answer": the columns "no." and "name"; 02, Wish 1: "10 gives way to three in its place", 14, 15 and
 -- 16; 02, Wish 2: "17 text", "18 nested too deep", "25 a number too large for its field, or more entries or pool bytes"; 02, Wish
@@ -123,18 +123,22 @@ within low high n = leb low n && leb n high
 
 -- ---- a card
 
--- Not 01, "Numbers the guide may answer", row 1: "card under 64 bytes"
-unfoldable pub cardLongEnough : Bytes → Bool
-cardLongEnough b = leb (headerBytes edition1Set) (length b)
+-- Not 02, Wish 9: "a file under 4 bytes is 1": its mark and its edition are there. Serves both tables.
+unfoldable pub hasEdition : Bytes → Bool
+hasEdition b = leb 4 (length b)
 
 -- Not 01, "Numbers the guide may answer", row 2: "first two bytes or edition differ": the first byte is 33 hex, the second is
--- given, and the edition is 1. Serves cardMarkGood and placeMarkGood.
+-- given. Serves cardMarkGood and placeMarkGood.
 abbrev pub marked : ℕ → Bytes → Bool
-marked second b = eqb (byte b 0) 0x33 && (eqb (byte b 1) second && eqb (numberAt b 2) 1)
+marked second b = eqb (byte b 0) 0x33 && eqb (byte b 1) second
 
--- 01, "The card, edition 1", at 0: "bytes 33 41 hex"; at 2: "edition", 1.
+-- 01, "The card, edition 1", at 0: "bytes 33 41 hex"; at 2: "edition", 1; 02, Wish 9: "Edition 2 of card and place".
 unfoldable pub cardMarkGood : Bytes → Bool
-cardMarkGood b = marked 0x41 b
+cardMarkGood b = marked 0x41 b && (eqb (numberAt b 2) 1 || eqb (numberAt b 2) 2)
+
+-- Not 02, Wish 9: "then one shorter than its edition's header is 1".
+unfoldable pub cardLongEnough : Bytes → Bool
+cardLongEnough b = leb (headerBytes (setBytes (layout b))) (length b)
 
 -- Not 01, "Numbers the guide may answer", row 3: "the number of atoms, of actions or of a section's entries or bytes is out of
 -- range (the initial plan's length is 7)". The ranges: 01, "The card, edition 1", "1..128", "1..256", "0..256" and "0..8,192".
@@ -268,10 +272,12 @@ pool l b = part b (l .pool .offset) (l .pool .count)
 -- 01, "Numbers the guide may answer": "the card first with 1 to 9"
 unfoldable pub cardTable : List (Row Bytes)
 cardTable =
-    -- 01, "Numbers the guide may answer", row 1: "card under 64 bytes"
-    (Refusal.Short given-when (λ b. not (cardLongEnough b)))
-    -- 01, "Numbers the guide may answer", row 2: "first two bytes or edition differ"
+    -- 02, Wish 9: "a file under 4 bytes is 1"
+    (Refusal.Short given-when (λ b. not (hasEdition b)))
+    -- 02, Wish 9: "then a wrong mark or edition is 2"
     ∷ (Refusal.Mark given-when (λ b. not (cardMarkGood b)))
+    -- 02, Wish 9: "then one shorter than its edition's header is 1"
+    ∷ (Refusal.Short given-when (λ b. not (cardLongEnough b)))
     -- 01, "Numbers the guide may answer", row 3: "the number of atoms, of actions or of a section's entries or bytes is out of
     -- range"
     ∷ (Refusal.Count given-when (λ b. not (countsGood (layout b))))
@@ -295,14 +301,14 @@ cardAnswer b = firstGiven cardTable b
 
 -- ---- a place, judged against the card that it is given with
 
--- Not 01, "Numbers the guide may answer", row 1: "place under 44"
+-- Not 01, "Numbers the guide may answer", row 1: "place under 44"; 02, Wish 9: "one shorter than its edition's header".
 abbrev pub placeLongEnough : Layout → Bytes → Bool
 placeLongEnough l p = leb (planAt (setBytes l)) (length p)
 
--- Not 01, "Numbers the guide may answer", row 2: "first two bytes or edition differ". 01, "The place": "Bytes 33 50 hex; edition
--- 1 at 2".
-abbrev pub placeMarkGood : Bytes → Bool
-placeMarkGood p = marked 0x50 p
+-- Not 01, "Numbers the guide may answer", row 2: "first two bytes or edition differ". 01, "The place": "Bytes 33 50 hex"; 02, Wish
+-- 9: "A place whose edition isn't its card's is met with refusal 2."
+abbrev pub placeMarkGood : Layout → Bytes → Bool
+placeMarkGood l p = marked 0x50 p && eqb (numberAt p 2) (l .edition)
 
 -- Not 01, "Numbers the guide may answer", row 3: "in a place L over 1,024, phase over 2"; 02, Wish 4: "3 no longer looks at those
 -- bytes", 10 and 11.
@@ -318,10 +324,12 @@ placeOffsetsGood l p = eqb (numberAt p 6) (planAt (setBytes l)) && eqb (length p
 -- is given with".
 unfoldable pub placeTable : Layout → List (Row Bytes)
 placeTable l =
-    -- 01, "Numbers the guide may answer", row 1: "place under 44"
-    (Refusal.Short given-when (λ p. not (placeLongEnough l p)))
-    -- 01, "Numbers the guide may answer", row 2: "first two bytes or edition differ"
-    ∷ (Refusal.Mark given-when (λ p. not (placeMarkGood p)))
+    -- 02, Wish 9: "a file under 4 bytes is 1"
+    (Refusal.Short given-when (λ p. not (hasEdition p)))
+    -- 02, Wish 9: "then a wrong mark or edition is 2"
+    ∷ (Refusal.Mark given-when (λ p. not (placeMarkGood l p)))
+    -- 02, Wish 9: "then one shorter than its edition's header is 1"
+    ∷ (Refusal.Short given-when (λ p. not (placeLongEnough l p)))
     -- 01, "Numbers the guide may answer", row 3: "in a place L over 1,024, phase over 2"
     ∷ (Refusal.Count given-when (λ p. not (placeCountsGood p)))
     -- 01, "Numbers the guide may answer", row 4: "an offset or the total length is not the required one"
@@ -329,7 +337,7 @@ placeTable l =
     -- 01, "Numbers the guide may answer", row 8: "a … plan byte is not below the number of actions"
     ∷ (Refusal.ActionByte given-when (λ p. not (actionsGood (l .actions) (drop (planAt (setBytes l)) p))))
     -- 01, "Numbers the guide may answer", row 9: "a set has a bit at or above the number of atoms"
-    ∷ (Refusal.Atom given-when (λ p. not (bothGood (l .atoms) (part p 12 (setBytes l)) (part p (placeGoalsAt (setBytes l)) (setBytes l)))))
+    ∷ (Refusal.Atom given-when (λ p. not (bothGood (l .atoms) (setAt l p 12) (setAt l p (placeGoalsAt (setBytes l))))))
     ∷ []
 
 -- 01, "Numbers the guide may answer": "the card first with 1 to 9, then a place with 1, 2, 3, 4, 8, 9"

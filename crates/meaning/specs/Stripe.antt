@@ -7,12 +7,16 @@ use Rattle.meaning.specs.Place.{twoBytes}
 use Rattle.meaning.specs.Assembled.{assembled}
 
 -- 01, "The card, edition 1": "A set of atoms is 16 bytes": one whose atoms are below 8, by its first byte.
+unfoldable pub cardSet : ℕ → Bytes
+cardSet n = n ∷ replicate 15 0
+
+-- The same set, as a configuration holds it.
 unfoldable pub set : ℕ → Bytes
-set n = n ∷ replicate 15 0
+set n = n ∷ replicate 31 0
 
 -- 01, "The card, edition 1": "Specification, 36 bytes: action, node, 0, 0, Add, Del."
 unfoldable pub specification : ℕ → ℕ → ℕ → ℕ → Bytes
-specification action node add del = action ∷ node ∷ 0 ∷ 0 ∷ (set add ++ set del)
+specification action node add del = action ∷ node ∷ 0 ∷ 0 ∷ (cardSet add ++ cardSet del)
 
 -- 01, "The card, edition 1": "Selection rule, 8 bytes: belief node, goal node, start, length (1..1,024), zero number."
 unfoldable pub selection : ℕ → ℕ → ℕ → ℕ → Bytes
@@ -41,7 +45,7 @@ stripeWith weave node0 del revision1 pool = assembled
     -- 01, "The stripe card": "Revisions: 0: 4, true, becomes 1 3; 1: 3, node 2, becomes 2 0; 2: 3, node 3, becomes 0."
     (revision 0 0 1 1 2 ∷ revision1 ∷ revision 3 2 1 4 1 ∷ [])
     -- 01, "The stripe card": "Pool 4 1 3 2 0." or what a case has; "Beliefs {0, 3}, goals {2}, no initial plan"
-    pool (set 9) (set 4) 0 0
+    pool (cardSet 9) (cardSet 4) 0 0
 
 -- 01, "The stripe card": "Nodes: 0 true"
 abbrev true-node : Bytes

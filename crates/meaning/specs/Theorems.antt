@@ -4,7 +4,7 @@ use mathlib.Core.Logic.{_↔_}
 use mathlib.Core.Bool.{Bool, true, false, not}
 use mathlib.Core.List.{List, [], _∷_, _++_, map, List·Memᴰ}
 use Prim.Native.Nat.{ℕ, _≤_, _<_}
-use lib.ListN.{length, getD}
+use lib.ListN.{length, getD, take}
 use Rattle.paper.specs.Atoms.{_∈_}
 use Rattle.paper.specs.Language.{Letter, Config}
 use Rattle.paper.specs.Transitions.{_⊨_}
@@ -17,7 +17,7 @@ use Rattle.meaning.specs.declared.Answer.the-variants.{Done, Refused}
 use Rattle.meaning.specs.declared.Layout.{Layout}
 use Rattle.meaning.specs.declared.Configuration.{Configuration}
 use Rattle.meaning.specs.Sizes.{setBytes}
-use Rattle.meaning.specs.Card.{Bytes, layout, nodeAt, conditions, condition, specificationAt, selectionAt, revisionAt, weight, agent, initialPlan, start}
+use Rattle.meaning.specs.Card.{Bytes, widened, layout, nodeAt, conditions, condition, specificationAt, selectionAt, revisionAt, weight, agent, initialPlan, start}
 use Rattle.meaning.specs.Why.{settler, turns}
 use Rattle.meaning.specs.Configurations.{stateOf, configurationOf, empty}
 use Rattle.meaning.specs.Place.{place, placed}
@@ -57,12 +57,13 @@ abbrev pub rowNumbers : {X : Type 0} → List (Row X) → X → List ℕ
 rowNumbers rows x = map (λ q. numberOf (q .refusal x)) rows
 
 -- 01, "Numbers the guide may answer": "They are tested in the table's order, the card first with 1 to 9, then a place with 1,
--- 2, 3, 4, 8, 9 or a configuration with 13"
+-- 2, 3, 4, 8, 9 or a configuration with 13"; 02, Wish 9: "a file under 4 bytes is 1, then a wrong mark or edition is 2, then one
+-- shorter than its edition's header is 1".
 pub record TableOrder : Type 0 where
   -- 01, "Numbers the guide may answer": "the card first with 1 to 9"
-  pub card : (b : Bytes) → rowNumbers cardTable b ≡ 1 ∷ 2 ∷ 3 ∷ 4 ∷ 5 ∷ 6 ∷ 7 ∷ 8 ∷ 9 ∷ []
+  pub card : (b : Bytes) → rowNumbers cardTable b ≡ 1 ∷ 2 ∷ 1 ∷ 3 ∷ 4 ∷ 5 ∷ 6 ∷ 7 ∷ 8 ∷ 9 ∷ []
   -- 01, "Numbers the guide may answer": "then a place with 1, 2, 3, 4, 8, 9"
-  pub place : (l : Layout) (p : Bytes) → rowNumbers (placeTable l) p ≡ 1 ∷ 2 ∷ 3 ∷ 4 ∷ 8 ∷ 9 ∷ []
+  pub place : (l : Layout) (p : Bytes) → rowNumbers (placeTable l) p ≡ 1 ∷ 2 ∷ 1 ∷ 3 ∷ 4 ∷ 8 ∷ 9 ∷ []
   -- 01, "Numbers the guide may answer": "a configuration with 13"
   pub configuration : (l : Layout) (c : Configuration) → rowNumbers (configurationTable l) c ≡ 13 ∷ []
 
@@ -140,12 +141,16 @@ pub record ConfigurationLaws : Type 0 where
   pub of-configuration : (l : Layout) (c : Configuration) → length (c .plan) ≡ longestPlan → configurationGood l c ≡ true
       → configurationOf (stateOf c) ≡ c
 
+-- A set as a configuration holds one of a card's edition: 32 bytes, with zeros above those that the edition has. Serves PlaceLaws.
+abbrev pub Holds : Layout → Bytes → Type 0
+Holds l s = widened (take (setBytes l) s) ≡ s
+
 -- 00, demand 2: "A place saved and restored is the same configuration; an accepted place, restored and saved, is the same
 -- bytes", of the bytes and states themselves.
 pub record PlaceLaws : Type 0 where
-  -- 00, demand 2: "A place saved and restored is the same configuration", with sets of 16 bytes, a phase of at most 2 and a count
-  -- of at most 65,535: 02, Wish 4: "demand 2's round trip now covers it".
-  pub saved-restored : (l : Layout) (s : State) → length (s .mental .σ) ≡ setBytes l → length (s .mental .γ) ≡ setBytes l → s .phase ≤ 2
+  -- 00, demand 2: "A place saved and restored is the same configuration", with sets of its card's edition, a phase of at most 2 and
+  -- a count of at most 65,535: 02, Wish 4: "demand 2's round trip now covers it".
+  pub saved-restored : (l : Layout) (s : State) → Holds l (s .mental .σ) → Holds l (s .mental .γ) → s .phase ≤ 2
       → s .finished ≤ mostFinished → placed l (place l s) ≡ s
   -- 00, demand 2: "an accepted place, restored and saved, is the same bytes"
   pub restored-saved : (l : Layout) (p : Bytes) → AreBytes p → firstGiven (placeTable l) p ≡ Done → place l (placed l p) ≡ p

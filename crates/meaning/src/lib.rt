@@ -52,6 +52,7 @@ pub struct Span {
 
 // 01, "The card, edition 1": "counts and offsets in a header", in the table's order.
 pub struct Layout {
+    pub edition: u16,
     pub atoms: u16,
     pub actions: u16,
     pub nodes: Section,
@@ -97,8 +98,8 @@ pub struct RevisionEntry {
     pub zero: u16,
 }
 
-// 01, "The card, edition 1": "A set of atoms is 16 bytes".
-pub type Set = [u8; 16];
+// 02, Wish 9: "sets of 32 bytes", which hold one of edition 1 too, with zeros above.
+pub type Set = [u8; 32];
 
 // 01, "A configuration and its transitions": "a plan (0 to 1,024 action numbers)": one byte an action.
 pub type Plan = [u8; 1024];

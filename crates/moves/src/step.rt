@@ -5,10 +5,10 @@ ghost use Rattle.paper.specs.Transitions.{select, act, revise};
 ghost use Rattle.layout.specs.GoodLayout.{TwoByteSpan};
 ghost use Rattle.door.specs.Words.{configured, Ready, choiceAt};
 ghost use Rattle.moves.specs.Steps.{Enabled, StepsBy, finishedAt, takenTo};
+use layout::entries::act_on;
 use layout::entries::pool_at;
 use layout::entries::read_revision;
 use layout::entries::read_selection;
-use layout::entries::read_specification;
 use layout::limits::longest_plan;
 use layout::limits::most_finished;
 use meaning::Layout;
@@ -82,13 +82,10 @@ fn step_action(card: &[u8], l: Layout, m: Mind, plan: &mut Plan, i: usize) -> St
     requires { ⌜ Ready l (now card) (configured m (now plan)) × Enabled l (now card) (configured m (now plan)) (act i) ⌝ }
     ensures { λ r. ⌜ StepsBy l (now (card .entry)) (configured m (now (plan .entry))) (act i) r (now (plan .exit)) ⌝ }
 {
-    let e = read_specification(card, l, i);
     let n = m.length as usize;
-    let b = m.beliefs;
+    let mut beliefs = m.beliefs;
+    act_on(&mut beliefs, card, l, i);
     let g = m.goals;
-    let add = e.add;
-    let del = e.del;
-    let beliefs = sets::difference(sets::union(b, add), del);
     let goals = sets::difference(g, beliefs);
     plans::drop_front(plan, n, 1);
     taken(beliefs, goals, n - 1, m.finished, 1, i)

@@ -6,7 +6,7 @@ use Prim.Native.Nat.{ℕ}
 use Rattle.meaning.specs.declared.Answer.{Answer}
 use Rattle.meaning.specs.Card.{Bytes}
 use Rattle.meaning.specs.Assembled.{assembled}
-use Rattle.meaning.specs.Stripe.{set, specification, selection, revision}
+use Rattle.meaning.specs.Stripe.{cardSet, set, specification, selection, revision}
 use Rattle.meaning.specs.Numbers.{endingNumber}
 use Rattle.meaning.specs.Cases.{shown, shownRun}
 use Rattle.meaning.proofs.Computing as Meaning
@@ -20,7 +20,7 @@ computed : (t out : Bytes) (a : Answer) (n : ℕ) (left : Bytes)
 computed t out a n left e = text-answered t out (record { answer = a; count = n; leaves = left }) e
 
 pub text-cases : TextCases
-unfolding computing Meaning.computing flatten assembled set specification selection revision endingNumber shown shownRun stripeText stripeOfText textAnswered
+unfolding computing Meaning.computing flatten assembled cardSet set specification selection revision endingNumber shown shownRun stripeText stripeOfText textAnswered
 text-cases = record {
   stripe-read = computed _ _ _ _ _ refl;
   stripe-runs = refl;

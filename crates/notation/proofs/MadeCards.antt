@@ -11,8 +11,9 @@ use Rattle.paper.proofs.Relation.{both, false≢true}
 use Rattle.meaning.specs.declared.Refusal.{Refusal}
 use Rattle.meaning.specs.declared.Layout.{Layout}
 use Rattle.meaning.specs.declared.Answer.the-variants.{Refused}
+use Rattle.meaning.specs.Sizes.{editionSet}
 use Rattle.meaning.specs.Card.{Bytes, layout}
-use Rattle.meaning.specs.Refusals.{numberOf, Row, firstGiven, all, cardLongEnough, cardMarkGood, offsetsGood, cardTable, cardAnswer}
+use Rattle.meaning.specs.Refusals.{numberOf, Row, firstGiven, all, hasEdition, cardLongEnough, cardMarkGood, offsetsGood, cardTable, cardAnswer}
 use Rattle.meaning.specs.Theorems.{rowNumbers}
 use Rattle.meaning.proofs.Tables.{done≢refused, refused-inj, given, not-given}
 use Rattle.notation.specs.Conditions.{treesOf}
@@ -41,6 +42,7 @@ layoutOf atoms actions nodes specifications selections revisions pool start len 
     let revisionsAt : ℕ = selectionsAt + 8 * selections in
     let poolAt : ℕ = revisionsAt + 12 * revisions in
     record {
+      edition = 1;
       atoms = atoms;
       actions = actions;
       nodes = record { count = nodes; offset = nodesAt };
@@ -78,6 +80,7 @@ module _ (atoms actions nodes specifications selections revisions pool start len
       let s = two start d in
       let t = two len e in
       λ i. record {
+        edition = 1;
         atoms = w i;
         actions = x i;
         nodes = record { count = n i; offset = n′ i };
@@ -91,7 +94,7 @@ module _ (atoms actions nodes specifications selections revisions pool start len
   -- its offsets are the required ones, if the card ends with the pool
   offsets-good : (n : ℕ) → n ≡ 64 + 2 * actions + 4 * nodes + 36 * specifications + 8 * selections + 12 * revisions + pool
       → offsetsGood (layoutOf atoms actions nodes specifications selections revisions pool start len) n ≡ true
-  unfolding offsetsGood
+  unfolding offsetsGood editionSet
   offsets-good n h =
       let nodesAt : ℕ = 64 + 2 * actions in
       let specificationsAt : ℕ = nodesAt + 4 * nodes in
@@ -109,15 +112,16 @@ module _ (atoms actions nodes specifications selections revisions pool start len
 
 -- ---- rows that are passed, and rows that are not there
 
--- the rows of a table that starts with four of which only the third may be given
-third-alone : (p q r t : Row Bytes) (rows : List (Row Bytes)) (b : Bytes) → p .when b ≡ false → q .when b ≡ false → t .when b ≡ false
-    → firstGiven (p ∷ q ∷ r ∷ t ∷ rows) b ≡ firstGiven (r ∷ rows) b
-third-alone p q r t rows b e f g =
-    not-given p (q ∷ r ∷ t ∷ rows) b e ∙ not-given q (r ∷ t ∷ rows) b f ∙ by-third (r .when b) refl
+-- the rows of a table that starts with five of which only the fourth may be given
+fourth-alone : (o p q r t : Row Bytes) (rows : List (Row Bytes)) (b : Bytes)
+    → o .when b ≡ false → p .when b ≡ false → q .when b ≡ false → t .when b ≡ false
+    → firstGiven (o ∷ p ∷ q ∷ r ∷ t ∷ rows) b ≡ firstGiven (r ∷ rows) b
+fourth-alone o p q r t rows b d e f g =
+    not-given o (p ∷ q ∷ r ∷ t ∷ rows) b d ∙ not-given p (q ∷ r ∷ t ∷ rows) b e ∙ not-given q (r ∷ t ∷ rows) b f ∙ by-fourth (r .when b) refl
   where
-    by-third : (v : Bool) → r .when b ≡ v → firstGiven (r ∷ t ∷ rows) b ≡ firstGiven (r ∷ rows) b
-    by-third true h = given r (t ∷ rows) b h ∙ sym (given r rows b h)
-    by-third false h = not-given r (t ∷ rows) b h ∙ not-given t rows b g ∙ sym (not-given r rows b h)
+    by-fourth : (v : Bool) → r .when b ≡ v → firstGiven (r ∷ t ∷ rows) b ≡ firstGiven (r ∷ rows) b
+    by-fourth true h = given r (t ∷ rows) b h ∙ sym (given r rows b h)
+    by-fourth false h = not-given r (t ∷ rows) b h ∙ not-given t rows b g ∙ sym (not-given r rows b h)
 
 -- a number that no row has is not answered
 not-among : (rows : List (Row Bytes)) (b : Bytes) (r : Refusal) → all (λ n. not (eqb n (numberOf r))) (rowNumbers rows b) ≡ true
@@ -143,9 +147,9 @@ text-rows b = refl
 -- ---- the card
 
 module _ (s : Said) (n : numbersFit s ≡ true) (e : entriesFit s ≡ true) where
-  long-enough : cardLongEnough (built s) ≡ true
-  unfolding cardLongEnough
-  long-enough = le-leb 64 (length (built s)) (omega (arith, built-length s n e))
+  has-edition : hasEdition (built s) ≡ true
+  unfolding hasEdition
+  has-edition = le-leb 4 (length (built s)) (omega (arith, built-length s n e))
 
   marked-good : cardMarkGood (built s) ≡ true
   marked-good = rw (built-header s n e) (mark-good (s .atoms) _ _ _ _ _ _ _ _ _)
@@ -160,6 +164,13 @@ module _ (s : Said) (n : numbersFit s ≡ true) (e : entriesFit s ≡ true) wher
       (leb-true (s .atoms) 65535 (numbers-each s n .0)) (omega (arith, entries-each s e)) (omega (arith, entries-each s e))
       (omega (arith, entries-each s e)) (omega (arith, entries-each s e, pool-counted s))
 
+  pub edition-said : layout (built s) .edition ≡ 1
+  edition-said = ap (λ l. l .edition) built-layout
+
+  long-enough : cardLongEnough (built s) ≡ true
+  unfolding cardLongEnough editionSet
+  long-enough = rw edition-said (le-leb 64 (length (built s)) (omega (arith, built-length s n e)))
+
   offsets-kept : offsetsGood (layout (built s)) (length (built s)) ≡ true
   offsets-kept =
       rw built-layout
@@ -168,7 +179,7 @@ module _ (s : Said) (n : numbersFit s ≡ true) (e : entriesFit s ≡ true) wher
 
   by-text-rows : cardAnswer (built s) ≡ firstGiven rowsOfText (built s)
   unfolding cardAnswer cardTable rowsOfText
-  by-text-rows = third-alone _ _ _ _ _ (built s) (rw long-enough) (rw marked-good) (rw offsets-kept)
+  by-text-rows = fourth-alone _ _ _ _ _ _ (built s) (rw has-edition) (rw marked-good) (rw long-enough) (rw offsets-kept)
 
   built-laws : BuiltLaws s
   unfolding rowsOfText cardTable numberOf
@@ -178,6 +189,7 @@ module _ (s : Said) (n : numbersFit s ≡ true) (e : entriesFit s ≡ true) wher
     not-unmarked = λ h. not-among rowsOfText (built s) Refusal.Mark refl (sym by-text-rows ∙ h);
     not-displaced = λ h. not-among rowsOfText (built s) Refusal.Offsets refl (sym by-text-rows ∙ h);
     room = built-room s n e;
+    edition = edition-said;
   }
 
 pub built-law : BuiltLaw

@@ -16,7 +16,8 @@ use Rattle.runs.specs.Order.{numbers}
 use Rattle.meaning.specs.declared.Layout.{Layout}
 use Rattle.meaning.specs.declared.Answer.the-variants.{Done}
 use Rattle.meaning.specs.Trees.{Tree}
-use Rattle.meaning.specs.Card.{Bytes, byte, numberAt, span, part, layout, weights, plan, specificationAt, selectionAt, revisionAt, specificationOf, selectionOf, revisionOf, agentOf, agentFor, agent, initialPlan, start}
+use Rattle.meaning.specs.Sizes.{editionSet}
+use Rattle.meaning.specs.Card.{Bytes, byte, numberAt, span, part, widened, initialBeliefs, initialGoals, layout, weights, plan, specificationAt, selectionAt, revisionAt, specificationOf, selectionOf, revisionOf, agentOf, agentFor, agent, initialPlan, start}
 use Rattle.meaning.specs.Card as Card
 use Rattle.meaning.specs.Place.{twoBytes}
 use Rattle.meaning.specs.Refusals.{all, every, containing, specificationGood, selectionGood, revisionGood, rulesGood, cardAnswer}
@@ -26,7 +27,7 @@ use Rattle.notation.specs.Lines.{Said, conditions}
 use Rattle.notation.specs.Built.{sizes, setOf, pool, specifications, selections, revisions, built}
 use Rattle.notation.specs.Reading.{numbersFit, entriesFit}
 use Rattle.notation.specs.Making.{setFits}
-use Rattle.notation.specs.Meant.{Specifies, Selects, Revises, InTurn, Means, MeantLaw}
+use Rattle.notation.specs.Meant.{atomsOf, Specifies, Selects, Revises, InTurn, Means, MeantLaw}
 use Rattle.notation.proofs.MadeNodes.{sizes-append}
 use Rattle.notation.proofs.MadeSets.{set-length}
 use Rattle.notation.proofs.MadeSelects.{selectPlans, selectConditions}
@@ -73,7 +74,7 @@ module _ (s : Said) (n : numbersFit s ≡ Bool.true) (e : entriesFit s ≡ Bool.
   -- ---- what is read
 
   weights-read : weights l b ≡ s .weights
-  unfolding weights madeSaid
+  unfolding weights madeSaid editionSet
   weights-read =
       entries-read b 2 64 (numberAt b) (λ x. numberAt x 0)
       (λ at x stands h. ap (numberAt b) (sym (add-zero at)) ∙ number-there stands 0 (omega arith))
@@ -81,10 +82,10 @@ module _ (s : Said) (n : numbersFit s ≡ Bool.true) (e : entriesFit s ≡ Bool.
       ∙ weights-told (s .weights) (numbers-each s n .1)
 
   specifications-read : map (specificationAt l b) (numbers 0 (length (s .dos))) ≡ map specificationFrom (specifications 0 (s .dos))
-  unfolding specificationAt madeSaid
+  unfolding specificationAt madeSaid editionSet
   specifications-read =
       entries-read b 36 (l .specifications .offset)
-      (λ at. record { action = byte b at; node = byte b (at + 1); zero = numberAt b (at + 2); add = part b (at + 4) 16; del = part b (at + 20) 16 })
+      (λ at. record { action = byte b at; node = byte b (at + 1); zero = numberAt b (at + 2); add = widened (part b (at + 4) 16); del = widened (part b (at + 20) 16) })
       specificationFrom (specification-there b) (length (s .dos)) (specifications 0 (s .dos)) (specifications-counted 0 (s .dos))
       (specifications-sized 0 (s .dos) (said-fits s n e .dos .sets)) (specifications-stand s n e)
 
@@ -141,21 +142,23 @@ module _ (s : Said) (n : numbersFit s ≡ Bool.true) (e : entriesFit s ≡ Bool.
 
   -- ---- the start
 
-  beliefs-read : part b 32 16 ≡ setOf (s .begin .beliefs)
-  unfolding part madeSaid
+  beliefs-read : initialBeliefs l b ≡ atomsOf (s .begin .beliefs)
+  unfolding part madeSaid editionSet
   beliefs-read =
       let (bs, gs) = both (setFits (s .begin .beliefs)) (setFits (s .begin .goals)) (said-fits s n e .begin .1) in
       let size = set-length (s .begin .beliefs) bs in
-      part-there (stands-first (setOf (s .begin .beliefs)) (setOf (s .begin .goals)) (sets-stand s n e)) 0 16 (omega arith)
-      ∙ take-all 16 (setOf (s .begin .beliefs)) (omega arith)
+      ap widened
+      (part-there (stands-first (setOf (s .begin .beliefs)) (setOf (s .begin .goals)) (sets-stand s n e)) 0 16 (omega arith)
+      ∙ take-all 16 (setOf (s .begin .beliefs)) (omega arith))
 
-  goals-read : part b 48 16 ≡ setOf (s .begin .goals)
-  unfolding part madeSaid
+  goals-read : initialGoals l b ≡ atomsOf (s .begin .goals)
+  unfolding part madeSaid editionSet
   goals-read =
       let (bs, gs) = both (setFits (s .begin .beliefs)) (setFits (s .begin .goals)) (said-fits s n e .begin .1) in
       let size = set-length (s .begin .goals) gs in
-      part-there (stands-second (setOf (s .begin .beliefs)) (setOf (s .begin .goals)) 16 (set-length (s .begin .beliefs) bs) (sets-stand s n e)) 0 16 (omega arith)
-      ∙ take-all 16 (setOf (s .begin .goals)) (omega arith)
+      ap widened
+      (part-there (stands-second (setOf (s .begin .beliefs)) (setOf (s .begin .goals)) 16 (set-length (s .begin .beliefs) bs) (sets-stand s n e)) 0 16 (omega arith)
+      ∙ take-all 16 (setOf (s .begin .goals)) (omega arith))
 
   plan-read : plan l b (l .initial) ≡ s .begin .plan
   plan-read =
@@ -209,17 +212,19 @@ module _ (s : Said) (n : numbersFit s ≡ Bool.true) (e : entriesFit s ≡ Bool.
     unfolding agent start initialPlan
     means =
         let at : layout b ≡ l = built-layout s n e in
+        let σ : initialBeliefs (layout b) b ≡ atomsOf (s .begin .beliefs) = rw at beliefs-read in
+        let γ : initialGoals (layout b) b ≡ atomsOf (s .begin .goals) = rw at goals-read in
         record {
           atoms = ap (λ l. l .atoms) at;
           actions = rw at weights-read;
           specifications = rw at specifications-meant;
           selections = rw at selections-meant;
           revisions = rw at revisions-meant;
-          beliefs = beliefs-read;
-          goals = goals-read;
+          beliefs = σ;
+          goals = γ;
           begin =
               let π : plan (layout b) b (layout b .initial) ≡ s .begin .plan = rw at plan-read in
-              λ i. record { mental = ⟨ beliefs-read i / π i / struckBy (beliefs-read i) (goals-read i) ⟩; phase = 0; finished = 0 };
+              λ i. record { mental = ⟨ σ i / π i / struckBy (σ i) (γ i) ⟩; phase = 0; finished = 0 };
         }
 
 pub meant-law : MeantLaw

@@ -17,7 +17,7 @@ use Rattle.meaning.specs.declared.SpecificationEntry.{SpecificationEntry}
 use Rattle.meaning.specs.declared.SelectionEntry.{SelectionEntry}
 use Rattle.meaning.specs.declared.RevisionEntry.{RevisionEntry}
 use Rattle.meaning.specs.Trees.{Tree}
-use Rattle.meaning.specs.Card.{Bytes, byte, numberAt, span, part, plan, condition, specificationOf, selectionOf, revisionOf, treeAt}
+use Rattle.meaning.specs.Card.{Bytes, byte, numberAt, span, part, widened, plan, condition, specificationOf, selectionOf, revisionOf, treeAt}
 use Rattle.meaning.specs.Card as Card
 use Rattle.meaning.specs.Refusals.{all, containing, other, conditionGood, specificationGood, selectionGood, revisionGood}
 use Rattle.notation.specs.Conditions.{treesOf}
@@ -44,7 +44,7 @@ use Rattle.notation.proofs.MeantConditions.{one-tree}
 -- ---- an entry where it stands
 
 abbrev pub specificationFrom : Bytes → SpecificationEntry
-specificationFrom e = record { action = byte e 0; node = byte e 1; zero = numberAt e 2; add = part e 4 16; del = part e 20 16 }
+specificationFrom e = record { action = byte e 0; node = byte e 1; zero = numberAt e 2; add = widened (part e 4 16); del = widened (part e 20 16) }
 
 abbrev pub selectionFrom : Bytes → SelectionEntry
 selectionFrom e = record { belief = byte e 0; goal = byte e 1; plan = span e 2; zero = numberAt e 6 }
@@ -64,13 +64,13 @@ module _ (b : Bytes) (at : ℕ) (e : Bytes) (s : StandsAt b at e) where
       λ i. record { start = start i; length = len i }
 
   pub specification-there : length e ≡ 36
-      → record { action = byte b at; node = byte b (at + 1); zero = numberAt b (at + 2); add = part b (at + 4) 16; del = part b (at + 20) 16 } ≡ specificationFrom e
+      → record { action = byte b at; node = byte b (at + 1); zero = numberAt b (at + 2); add = widened (part b (at + 4) 16); del = widened (part b (at + 20) 16) } ≡ specificationFrom e
   specification-there h =
       let action = first-byte (omega arith) in
       let node = byte-there s 1 (omega arith) in
       let zero = number-there s 2 (omega arith) in
-      let add = part-there s 4 16 (omega arith) in
-      let del = part-there s 20 16 (omega arith) in
+      let add = ap widened (part-there s 4 16 (omega arith)) in
+      let del = ap widened (part-there s 20 16 (omega arith)) in
       λ i. record { action = action i; node = node i; zero = zero i; add = add i; del = del i }
 
   pub selection-there : length e ≡ 8
@@ -140,8 +140,9 @@ module _ (s : Said) (n : numbersFit s ≡ Bool.true) (e : entriesFit s ≡ Bool.
       record {
         action = refl;
         condition = condition-there 𝐁 before t behind k h f node;
-        add = take-at (setOf (d .add)) (setOf (d .del)) 16 (set-length (d .add) add);
-        del = ap (take 16) (drop-at (setOf (d .add)) (setOf (d .del)) 16 (set-length (d .add) add)) ∙ take-all 16 (setOf (d .del)) (omega (arith, set-length (d .del) del));
+        add = ap widened (take-at (setOf (d .add)) (setOf (d .del)) 16 (set-length (d .add) add));
+        del = ap widened (ap (take 16) (drop-at (setOf (d .add)) (setOf (d .del)) 16 (set-length (d .add) add))
+            ∙ take-all 16 (setOf (d .del)) (omega (arith, set-length (d .del) del)));
       }
 
   pub specify : (ds : List Do) (before behind : List Tree) (k : ℕ) → ts ≡ before ++ (map (λ d. d .condition .tree) ds ++ behind) → sizes before ≡ k

@@ -1,7 +1,7 @@
 -- A written set has just the atoms that are written.
 use mathlib.Core.Path.{_≡_, refl, ap, sym, _∙_}
 use mathlib.Core.Bool.{Bool, true, false, _||_, not}
-use mathlib.Core.Logic.{_⊎_, inl, inr, ⊎-elim}
+use mathlib.Core.Logic.{⊎-elim}
 use mathlib.Core.List.{List, [], _∷_, _++_, List·Memᴰ, List·Memᴰ·head, List·Memᴰ·tail, List·Memᴰ·not-nil, List·Memᴰ·cases-cons}
 use Prim.Native.Nat.{ℕ, zero, suc, _-_, _/_, _%_, _^_, _<_}
 use native.Mathlib.Nat.{zero-div}
@@ -16,7 +16,8 @@ use Rattle.paper.proofs.Relation.{false≢true}
 use Rattle.paper.proofs.Sets.{∈-∪}
 use Rattle.runs.specs.Order.{numbers}
 use Rattle.meaning.specs.Refusals.{every}
-use Rattle.meaning.proofs.Every.{every-at}
+use Rattle.meaning.proofs.Every.{either, every-at}
+use Rattle.meaning.proofs.Widening.{at-zeros, ∈-widened}
 use Rattle.notation.specs.Built.{single, setOf}
 use Rattle.notation.specs.Meant.{SetLaw}
 
@@ -47,14 +48,9 @@ no-bit i = rw (zero-div (2 ^ i))
 
 -- ---- the bytes of a set of one atom
 
-zeros : (n j : ℕ) → getD {A = ℕ} (replicate n 0) j 0 ≡ 0
-zeros zero j = refl
-zeros (suc n) zero = refl
-zeros (suc n) (suc j) = zeros n j
-
 one-other : (a b x j : ℕ) → (j ≡ a → ⊥) → getD (replicate a 0 ++ (x ∷ replicate b 0)) j 0 ≡ 0
 one-other zero b x zero h = absurd (h refl)
-one-other zero b x (suc j) h = zeros b j
+one-other zero b x (suc j) h = at-zeros b j
 one-other (suc a) b x zero h = refl
 one-other (suc a) b x (suc j) h = one-other a b x j (λ e. h (ap suc e))
 
@@ -80,17 +76,13 @@ module _ (n : ℕ) where
 
 -- ---- the set
 
-either : (a b : Bool) → a || b ≡ true → (a ≡ true) ⊎ (b ≡ true)
-either true b e = inl refl
-either false b e = inr e
-
 one-of : (a b : Bool) → b ≡ true → a || b ≡ true
 one-of true b e = refl
 one-of false b e = e
 
 members : (ns : List ℕ) (k : ℕ) → k ∈ setOf ns ≡ true → List·Memᴰ k ns
 unfolding setOf _∈_
-members [] k e = absurd (false≢true (sym (no-bit (k % 8)) ∙ ap (bit (k % 8)) (sym (zeros 16 (k / 8))) ∙ e))
+members [] k e = absurd (false≢true (sym (no-bit (k % 8)) ∙ ap (bit (k % 8)) (sym (at-zeros 16 (k / 8))) ∙ e))
 members (n ∷ ns) k e =
     ⊎-elim (λ h. List·Memᴰ·head (has-it n k h)) (λ h. List·Memᴰ·tail (members ns k h)) (either (k ∈ single n) (k ∈ setOf ns) (sym (∈-∪ k (single n) (setOf ns)) ∙ e))
 
@@ -102,4 +94,5 @@ written-in (n ∷ ns) k m =
     ∙ ⊎-elim (λ e. ap (λ a. a || k ∈ setOf ns) (ap (λ j. j ∈ single n) e ∙ it-has n)) (λ h. one-of (k ∈ single n) (k ∈ setOf ns) (written-in ns k h)) (List·Memᴰ·cases-cons m)
 
 pub set-law : SetLaw
-set-law ns k = (members ns k, written-in ns k)
+set-law ns k =
+    (λ e. members ns k (sym (∈-widened k (setOf ns)) ∙ e), λ m. ∈-widened k (setOf ns) ∙ written-in ns k m)

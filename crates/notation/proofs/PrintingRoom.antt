@@ -14,6 +14,7 @@ use Rattle.meaning.specs.Kinds.{NodeKind}
 use Rattle.meaning.specs.Trees.{Tree, true, believes, goal, not, and, or, treeOf}
 use Rattle.meaning.specs.Card.{Bytes, layout, nodeAt, treeAt}
 use Rattle.meaning.specs.Refusals.{nodesGood}
+use Rattle.meaning.proofs.Widening.{set-most}
 use Rattle.meaning.proofs.Accepted.{accepted, counts}
 use Rattle.meaning.proofs.NodeKinds.{is-true, is-belief, is-goal, is-not, is-and, is-or, Known, leaf, inner, known-kind}
 use Rattle.meaning.proofs.Nodes.{Rule, node-rule, tree-at}
@@ -82,7 +83,7 @@ long w (or l r) h = long-operator (ltb 0 w) or l r (code "|") (textAs 0 l) (text
 
 -- ---- the atoms of an accepted card
 
-low-node : (n i : ℕ) {k : ℕ} {κ : NodeKind} → Known k κ → (a b : ℕ) (q : ℕ → Tree) → n ≤ 128 → Rule n i k a b
+low-node : (n i : ℕ) {k : ℕ} {κ : NodeKind} → Known k κ → (a b : ℕ) (q : ℕ → Tree) → n ≤ 256 → Rule n i k a b
     → ((j : ℕ) → j < i → Low (q j)) → Low (treeOf κ a b q)
 low-node n i (leaf is-true) a b q h r below = tt
 low-node n i (leaf is-belief) a b q h r below = let p = r .atom (omega arith) (omega arith) in omega arith
@@ -91,7 +92,7 @@ low-node n i (inner is-not) a b q h r below = below a (r .first (omega arith))
 low-node n i (inner is-and) a b q h r below = (below a (r .first (omega arith)), below b (r .second (omega arith)))
 low-node n i (inner is-or) a b q h r below = (below a (r .first (omega arith)), below b (r .second (omega arith)))
 
-module _ (l : Layout) (b : Bytes) (good : nodesGood l b ≡ Bool.true) (few : l .atoms ≤ 128) where
+module _ (l : Layout) (b : Bytes) (good : nodesGood l b ≡ Bool.true) (few : l .atoms ≤ 256) where
   low-below : (m i : ℕ) → i < m → i < l .nodes .count → Low (treeAt l b i)
   low-below zero i g h = absurd (not-suc-le-zero g)
   low-below (suc m) i g h =
@@ -105,5 +106,7 @@ unfolding printed
 print-room b n (card, h) few =
     let a = accepted b card in
     let c = counts (layout b) (a .counts) in
-    let p = long 0 (treeAt (layout b) b n) (low-below (layout b) b (a .nodes) (c .atoms) (suc n) n (omega arith) h) in
+    let most = set-most (layout b .edition) in
+    let few-atoms : layout b .atoms ≤ 256 = omega (arith, c .atoms) in
+    let p = long 0 (treeAt (layout b) b n) (low-below (layout b) b (a .nodes) few-atoms (suc n) n (omega arith) h) in
     omega (arith, p .counted, p .long)

@@ -11,7 +11,7 @@ use Rattle.meaning.specs.Trees.{Tree, true, believes, goal, not, and, or}
 use Rattle.meaning.specs.Card.{Bytes}
 use Rattle.meaning.specs.Assembled.{assembled}
 use Rattle.meaning.specs.Calls.{loads, runs}
-use Rattle.meaning.specs.Stripe.{set, specification, selection, revision}
+use Rattle.meaning.specs.Stripe.{cardSet, set, specification, selection, revision}
 use Rattle.meaning.specs.Cases.{shownRun}
 use Rattle.notation.specs.Words.{word, LF}
 use Rattle.notation.specs.Built.{node}
@@ -49,7 +49,7 @@ stripeOfText =
     (specification 0 3 4 2 ∷ specification 1 4 2 0 ∷ specification 2 5 0 8 ∷ [])
     (selection 6 7 0 1 ∷ [])
     (revision 8 1 1 2 2 ∷ revision 9 4 1 5 2 ∷ revision 11 7 1 8 1 ∷ [])
-    (4 ∷ 4 ∷ 1 ∷ 3 ∷ 3 ∷ 2 ∷ 0 ∷ 3 ∷ 0 ∷ []) (set 9) (set 4) 9 0
+    (4 ∷ 4 ∷ 1 ∷ 3 ∷ 3 ∷ 2 ∷ 0 ∷ 3 ∷ 0 ∷ []) (cardSet 9) (cardSet 4) 9 0
 
 -- A text with one condition. Serves TextCases.
 abbrev pub asking : Bytes → Bytes
@@ -102,6 +102,8 @@ printCases =
     ∷ record { given = and (and a b) c; said = "B0&G10&T" }
     ∷ record { given = or (and a b) c; said = "B0&G10|T" }
     ∷ record { given = not (not (believes 127)); said = "!!B127" }
+    -- 02, Wish 9: "a printed condition of an edition 2 card": its last atom
+    ∷ record { given = goal 255; said = "G255" }
     ∷ []
 
 abbrev pub PrintCases : Type 0

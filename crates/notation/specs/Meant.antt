@@ -5,14 +5,14 @@ use mathlib.Core.Bool.{Bool}
 use mathlib.Core.List.{List, [], _∷_, List·Memᴰ}
 use Prim.Native.Nat.{ℕ}
 use lib.ListN.{getD, take}
-use Rattle.paper.specs.Atoms.{_∈_}
+use Rattle.paper.specs.Atoms.{Atoms, _∈_}
 use Rattle.paper.specs.Language.{Letter, 𝐁, 𝐆, Query, ⊤, atom, ¬′, _∧′_, _∨′_, Specification, Selection, Revision, ⟨_/_/_⟩}
 use Rattle.paper.specs.Transitions.{struckBy}
 use Rattle.runs.specs.Order.{State}
 use Rattle.meaning.specs.declared.Answer.the-variants.{Done}
 use Rattle.meaning.specs.declared.Layout.{Layout}
 use Rattle.meaning.specs.Trees.{Tree, true, believes, goal, not, and, or}
-use Rattle.meaning.specs.Card.{Bytes, layout, conditions, condition, weights, agent, initialBeliefs, initialGoals, start, treeAt}
+use Rattle.meaning.specs.Card.{Bytes, widened, layout, conditions, condition, weights, agent, initialBeliefs, initialGoals, start, treeAt}
 use Rattle.meaning.specs.Refusals.{containing, other}
 use Rattle.notation.specs.Lines.{Do, Select, Revise, Begin, Said, Text}
 use Rattle.notation.specs.Built.{setOf}
@@ -35,13 +35,17 @@ OneTree =
     (L : Letter) (l : Layout) (b : Bytes) (n : ℕ) → getD (containing (other L) l b) n Bool.false ≡ Bool.false
     → treeOfQuery L (condition (conditions L l b) n) ≡ treeAt l b n
 
+-- The set of a text's numbers as a configuration holds it: 16 bytes stand in the card, "Text cards stay edition 1" (02, Wish 9).
+abbrev pub atomsOf : List ℕ → Atoms
+atomsOf ns = widened (setOf ns)
+
 -- 02, Wish 2: "A text card gives atoms, actions with weights, specifications, rules and the start one to a line.": a do line gives
 -- a specification.
 pub record Specifies (d : Do) (x : Specification) : Type 0 where
   pub action : x .a ≡ d .action
   pub condition : treeOfQuery 𝐁 (x .β) ≡ d .condition .tree
-  pub add : x .Add ≡ setOf (d .add)
-  pub del : x .Del ≡ setOf (d .del)
+  pub add : x .Add ≡ atomsOf (d .add)
+  pub del : x .Del ≡ atomsOf (d .del)
 
 -- a select line gives a selection rule
 pub record Selects (r : Select) (x : Selection) : Type 0 where
@@ -58,7 +62,7 @@ pub record Revises (r : Revise) (x : Revision) : Type 0 where
 -- the begin line gives the start. 02, Wish 5: "the goals are those not believed, and at load likewise".
 abbrev pub startOf : Begin → State
 startOf b = record {
-  mental = ⟨ setOf (b .beliefs) / b .plan / struckBy (setOf (b .beliefs)) (setOf (b .goals)) ⟩;
+  mental = ⟨ atomsOf (b .beliefs) / b .plan / struckBy (atomsOf (b .beliefs)) (atomsOf (b .goals)) ⟩;
   phase = 0;
   finished = 0;
 }
@@ -76,8 +80,8 @@ pub record Means (s : Said) (b : Bytes) : Type 0 where
   pub specifications : InTurn Specifies (s .dos) (agent b .AS)
   pub selections : InTurn Selects (s .selects) (agent b .PS)
   pub revisions : InTurn Revises (s .revises) (agent b .PR)
-  pub beliefs : initialBeliefs (layout b) b ≡ setOf (s .begin .beliefs)
-  pub goals : initialGoals (layout b) b ≡ setOf (s .begin .goals)
+  pub beliefs : initialBeliefs (layout b) b ≡ atomsOf (s .begin .beliefs)
+  pub goals : initialGoals (layout b) b ≡ atomsOf (s .begin .goals)
   pub begin : start b ≡ startOf (s .begin)
 
 -- 02, Wish 2: "builds an edition 1 card": of every text that is answered done, what the lent buffer holds then means the lines of
@@ -87,4 +91,4 @@ MeantLaw = (t out : Bytes) (n : ℕ) (left : Bytes) → Reads t out Done n left 
 
 -- docs/TEXT.md: "A set's numbers may come in any order and twice": the set has just those atoms.
 abbrev pub SetLaw : Type 0
-SetLaw = (ns : List ℕ) (k : ℕ) → (k ∈ setOf ns ≡ Bool.true) ↔ List·Memᴰ k ns
+SetLaw = (ns : List ℕ) (k : ℕ) → (k ∈ atomsOf ns ≡ Bool.true) ↔ List·Memᴰ k ns

@@ -37,7 +37,7 @@ pub record Unambiguous : Type 0 where
 
 -- 02, Wish 2: "then 3 and 5 to 9": these rows of a card's table.
 unfoldable pub rowsOfText : List (Row Bytes)
-rowsOfText = take 1 (drop 2 cardTable) ++ drop 4 cardTable
+rowsOfText = take 1 (drop 3 cardTable) ++ drop 5 cardTable
 
 -- 02, Wish 2: "builds an edition 1 card": what holds of the card, if nothing of the text is too large.
 pub record BuiltLaws (s : Said) : Type 0 where
@@ -51,6 +51,8 @@ pub record BuiltLaws (s : Said) : Type 0 where
   pub not-displaced : cardAnswer (built s) ≡ Refused Refusal.Offsets → ⊥
   -- 01, "The card, edition 1": no card of edition 1 is longer.
   pub room : length (built s) ≤ 24128
+  -- 02, Wish 9: "Text cards stay edition 1"
+  pub edition : layout (built s) .edition ≡ 1
 
 -- The same of every text whose numbers and entries fit.
 abbrev pub BuiltLaw : Type 0
@@ -139,7 +141,8 @@ pub record PrintLaws : Type 0 where
   pub least-depth : {u : Bytes} {c : Condition} → OrList u c → depthOf (c .tree) ≤ c .depth
 
 -- 02, Wish 2: "a printer writes any condition of at most 256 printed nodes nested within the limit back as text": of an accepted
--- card, in a buffer that is long enough.
+-- card, in a buffer that is long enough; 02, Wish 9: "a printed condition of an edition 2 card still reads as the same tree by the
+-- grammar of a condition".
 abbrev pub PrintsAny : Type 0
 PrintsAny =
     (b : Bytes) (n : ℕ) (out : Bytes) → cardAnswer b ≡ Done → n < layout b .nodes .count

@@ -65,16 +65,24 @@ module _ (b : Bytes) (l : Layout) (e : checks b ≡ Checked.Good l) where
 
 -- ---- save
 
--- a good configuration's place has 44 + L bytes
-pub place-length : (l : Layout) (b : Bytes) (c : Configuration) → Ready l b c → length (c .mind .beliefs) ≡ setBytes l → length (c .mind .goals) ≡ setBytes l
+-- a good configuration's place has 44 + L bytes, or its edition's 76 + L
+pub place-length : (l : Layout) (b : Bytes) (c : Configuration) → Ready l b c → length (c .mind .beliefs) ≡ 32 → length (c .mind .goals) ≡ 32
     → planAt (setBytes l) + c .mind .length ≡ length (place (layout b) (stateOf c))
 unfolding place placeHeader stateOf
-place-length l b c ready lb lg =
-    let m = c .mind in
-    let π = take (m .length) (c .plan) in
-    let fits = ready .fits in
-    let room = ready .room in
-    let n : length π ≡ m .length = length-take-le (m .length) (c .plan) (omega arith) in
-    let g : length (m .goals ++ π) ≡ length (m .goals) + length π = length-append (m .goals) π in
-    let f : length (m .beliefs ++ (m .goals ++ π)) ≡ length (m .beliefs) + length (m .goals ++ π) = length-append (m .beliefs) (m .goals ++ π) in
-    omega arith
+place-length l b c ready lb lg = go ∙ ap (λ (x : Layout). length (place x (stateOf c))) (ready .card .layout .says)
+  where
+    go : planAt (setBytes l) + c .mind .length ≡ length (place l (stateOf c))
+    go =
+        let n = setBytes l in
+        let σ = take n (c .mind .beliefs) in
+        let γ = take n (c .mind .goals) in
+        let π = take (c .mind .length) (c .plan) in
+        let fits = ready .fits in
+        let room = ready .room in
+        let most = ready .card .layout .set-most in
+        let k : length π ≡ c .mind .length = length-take-le (c .mind .length) (c .plan) (omega arith) in
+        let h : length σ ≡ n = length-take-le n (c .mind .beliefs) (omega arith) in
+        let i : length γ ≡ n = length-take-le n (c .mind .goals) (omega arith) in
+        let g : length (γ ++ π) ≡ length γ + length π = length-append γ π in
+        let f : length (σ ++ (γ ++ π)) ≡ length σ + length (γ ++ π) = length-append σ (γ ++ π) in
+        omega arith

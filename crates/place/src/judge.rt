@@ -1,16 +1,18 @@
-// A place judged against the card that it is given with: rows 1, 2, 3, 4, 8 and 9 of the refusal table in their order, for
-// every byte string. Each function asks one row and, where it is passed, calls the next.
+// A place judged against the card that it is given with: rows 1, 2, 1, 3, 4, 8 and 9 of the refusal table in their order,
+// for every byte string. Each function asks one row and, where it is passed, calls the next.
 ghost use mathlib.Core.Path.{_≡_};
 ghost use Prim.Native.Nat.{_≤_};
 ghost use lib.ListN.{length, drop};
 ghost use Rattle.meaning.specs.Sizes.{setBytes, planAt};
-ghost use Rattle.meaning.specs.Refusals.{actionsGood, placeLongEnough, placeCountsGood, placeOffsetsGood, firstGiven, placeTable};
+ghost use Rattle.meaning.specs.Refusals.{actionsGood, placeMarkGood, placeLongEnough, placeCountsGood, placeOffsetsGood, firstGiven, placeTable};
 ghost use Rattle.layout.specs.GoodLayout.{Counted};
 ghost use Rattle.layout.specs.PlaceParts.{placeParts};
 ghost use Rattle.card.specs.Rows.{PlaceRow, placeFrom};
 use card::check::row;
 use card::contents::actions_good;
+use layout::bytes::has_edition;
 use layout::bytes::mark_good;
+use layout::bytes::two_bytes_at;
 use layout::limits::longest_plan;
 use layout::place::PlaceParts;
 use layout::place::place_size;
@@ -92,23 +94,44 @@ fn from_counts(l: Layout, p: &[u8]) -> Answer
     from_offsets(l, p, h)
 }
 
-// Row 2, then 3, 4, 8 and 9. "Bytes 33 50 hex; edition 1 at 2".
-fn from_mark(l: Layout, p: &[u8]) -> Answer
-    requires { ⌜ (planAt (setBytes l) ≤ length (now p)) × Counted l ⌝ }
-    ensures { λ r. ⌜ r ≡ placeFrom PlaceRow.mark l (now (p .entry)) ⌝ }
+// Not row 1: "place under 44", or under its edition's 76.
+fn length_good(l: Layout, p: &[u8]) -> bool
+    ensures { λ r. ⌜ r ≡ placeLongEnough l (now (p .entry)) ⌝ }
 {
-    let a = row(mark_good(p, 0x50), Refusal::Mark);
+    plan_at(l) <= p.len()
+}
+
+// Row 1 of its edition's header, then 3, 4, 8 and 9.
+fn from_header(l: Layout, p: &[u8]) -> Answer
+    requires { ⌜ Counted l ⌝ }
+    ensures { λ r. ⌜ r ≡ placeFrom PlaceRow.header l (now (p .entry)) ⌝ }
+{
+    let a = row(length_good(l, p), Refusal::Short);
     let Answer::Done = a else {
         return a;
     };
     from_counts(l, p)
 }
 
-// Not row 1: "place under 44".
-fn length_good(l: Layout, p: &[u8]) -> bool
-    ensures { λ r. ⌜ r ≡ placeLongEnough l (now (p .entry)) ⌝ }
+// Not row 2: "Bytes 33 50 hex", and the edition of its card.
+fn place_mark_good(l: Layout, p: &[u8]) -> bool
+    requires { ⌜ 4 ≤ length (now p) ⌝ }
+    ensures { λ r. ⌜ r ≡ placeMarkGood l (now (p .entry)) ⌝ }
 {
-    plan_at(l) <= p.len()
+    let edition = two_bytes_at(p, 2);
+    mark_good(p, 0x50) & (edition == l.edition)
+}
+
+// Row 2, then 1, 3, 4, 8 and 9.
+fn from_mark(l: Layout, p: &[u8]) -> Answer
+    requires { ⌜ (4 ≤ length (now p)) × Counted l ⌝ }
+    ensures { λ r. ⌜ r ≡ placeFrom PlaceRow.mark l (now (p .entry)) ⌝ }
+{
+    let a = row(place_mark_good(l, p), Refusal::Mark);
+    let Answer::Done = a else {
+        return a;
+    };
+    from_header(l, p)
 }
 
 // The number that a place is answered with.
@@ -116,7 +139,7 @@ pub fn judge_place(l: Layout, p: &[u8]) -> Answer
     requires { ⌜ Counted l ⌝ }
     ensures { λ r. ⌜ r ≡ firstGiven (placeTable l) (now (p .entry)) ⌝ }
 {
-    let a = row(length_good(l, p), Refusal::Short);
+    let a = row(has_edition(p), Refusal::Short);
     let Answer::Done = a else {
         return a;
     };

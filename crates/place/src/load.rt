@@ -44,8 +44,8 @@ pub fn empty_mind(plan: &mut Plan) -> Mind
     let room = size(plan);
     plans::fill(plan, b"", 0, 0);
     Mind {
-        beliefs: [0u8; 16],
-        goals: [0u8; 16],
+        beliefs: [0u8; 32],
+        goals: [0u8; 32],
         length: 0,
         phase: 0,
         finished: 0,

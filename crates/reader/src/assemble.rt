@@ -9,7 +9,6 @@ ghost use Rattle.reader.specs.Packed.{Packed, poolOn, revisionsOn, selec
 use layout::bytes::copy;
 use layout::bytes::down;
 use lines::made::Made;
-use meaning::Set;
 
 // The pool, behind the first e bytes; where it ends.
 fn pack_pool(card: &mut [u8], m: Made, e: usize) -> usize
@@ -70,7 +69,7 @@ fn eight_numbers(
     f: usize,
     g: usize,
     h: usize,
-) -> Set
+) -> [u8; 16]
     ensures { λ r. ⌜ r ≡ eightNumbers a b c d e f g h ⌝ }
 {
     [

@@ -401,7 +401,7 @@ fn show(card: &[u8]) {
 }
 
 fn main() {
-    let mut buffer = [0u8; 24129];
+    let mut buffer = [0u8; 32353];
     let n = io::read_full(0, &mut buffer);
     show(&buffer[..n]);
 }

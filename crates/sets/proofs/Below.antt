@@ -10,9 +10,9 @@ use lib.ListN.{getD}
 use Rattle.runs.proofs.Numbers.{made-at}
 use Rattle.sets.specs.Sets.{lowBits, below}
 
-pub at-below : (n i : ℕ) → i < 16 → getD (below n) i 0 ≡ lowBits (n - 8 * i)
+pub at-below : (w n i : ℕ) → i < w → getD (below w n) i 0 ≡ lowBits (n - 8 * i)
 unfolding below
-at-below n i h = made-at (λ i. lowBits (n - 8 * i)) 0 16 i 0 h ∙ ap (λ j. lowBits (n - 8 * j)) (zero-add i)
+at-below w n i h = made-at (λ i. lowBits (n - 8 * i)) 0 w i 0 h ∙ ap (λ j. lowBits (n - 8 * j)) (zero-add i)
 
 -- a number that is none of the first eight
 pub from-eight : (n : ℕ) → (n ≡ 0 → ⊥) → (n ≡ 1 → ⊥) → (n ≡ 2 → ⊥) → (n ≡ 3 → ⊥) → (n ≡ 4 → ⊥) → (n ≡ 5 → ⊥) → (n ≡ 6 → ⊥) → (n ≡ 7 → ⊥) → 8 ≤ n
@@ -33,16 +33,16 @@ pub all-eight : (n : ℕ) → 8 ≤ n → 255 ≡ lowBits n
 all-eight n h = let e : min n 8 ≡ 8 = omega arith in rw e
 
 -- what a set has of the atoms at or above n: nothing in the bytes below n's own, and all of those behind it
-module _ (n : ℕ) (s : Atoms) (i : ℕ) (h : i < 16) where
-  pub none-below : getD s i 0 < 256 → 8 * i + 8 ≤ n → getD (s ∖ below n) i 0 ≡ 0
+module _ (w n : ℕ) (s : Atoms) (i : ℕ) (h : i < w) where
+  pub none-below : getD s i 0 < 256 → 8 * i + 8 ≤ n → getD (s ∖ below w n) i 0 ≡ 0
   none-below b l =
       let x = getD s i 0 in
       let m : x % 256 ≡ x = omega arith in
       let e : bitAnd x 255 ≡ x = and-mask x 8 ∙ m in
-      at-∖ s (below n) i ∙ ap (λ m. bitXor x (bitAnd x m)) (at-below n i h ∙ sym (all-eight (n - 8 * i) (omega arith))) ∙ ap (bitXor x) e ∙ xor-self x
+      at-∖ s (below w n) i ∙ ap (λ m. bitXor x (bitAnd x m)) (at-below w n i h ∙ sym (all-eight (n - 8 * i) (omega arith))) ∙ ap (bitXor x) e ∙ xor-self x
 
-  pub all-behind : n ≤ 8 * i → getD (s ∖ below n) i 0 ≡ getD s i 0
+  pub all-behind : n ≤ 8 * i → getD (s ∖ below w n) i 0 ≡ getD s i 0
   all-behind l =
       let x = getD s i 0 in
       let z : n - 8 * i ≡ 0 = omega arith in
-      at-∖ s (below n) i ∙ ap (λ m. bitXor x (bitAnd x m)) (at-below n i h ∙ ap lowBits z) ∙ ap (bitXor x) (and-zero-r x) ∙ xor-zero-r x
+      at-∖ s (below w n) i ∙ ap (λ m. bitXor x (bitAnd x m)) (at-below w n i h ∙ ap lowBits z) ∙ ap (bitXor x) (and-zero-r x) ∙ xor-zero-r x

@@ -50,10 +50,10 @@ bits-low m j h = elim (decLt m 9) [
 
 -- ---- the members of the atoms below n
 
-pub ∈-below : (n k : ℕ) → k < 128 → k ∈ below n ≡ ltb k n
+pub ∈-below : (w n k : ℕ) → k < 8 * w → k ∈ below w n ≡ ltb k n
 unfolding _∈_
-∈-below n k h =
-    let at : getD (below n) (k / 8) 0 ≡ lowBits (n - 8 * (k / 8)) = at-below n (k / 8) (omega arith) in
+∈-below w n k h =
+    let at : getD (below w n) (k / 8) 0 ≡ lowBits (n - 8 * (k / 8)) = at-below w n (k / 8) (omega arith) in
     let j : k % 8 < 8 = mod-lt k (omega arith) in
     rw at (bits-low (n - 8 * (k / 8)) (k % 8) j ∙ shifted)
   where
@@ -68,55 +68,55 @@ minus-lt x y h = let a : bitAnd x y ≤ x = and-le-l x y in xor-lt 8 x (bitAnd x
 
 -- ---- what is left of a set without the atoms below n
 
-module _ (n : ℕ) (s : Atoms) (sixteen : length s ≡ 16) where
-  left-over : (k : ℕ) → k < 128 → k ∈ s ∖ below n ≡ (k ∈ s && not (ltb k n))
-  left-over k h = ∈-∖ k s (below n) ∙ ap (λ b. k ∈ s && not b) (∈-below n k h)
+module _ (w n : ℕ) (s : Atoms) (long : length s ≡ w) where
+  left-over : (k : ℕ) → k < 8 * w → k ∈ s ∖ below w n ≡ (k ∈ s && not (ltb k n))
+  left-over k h = ∈-∖ k s (below w n) ∙ ap (λ b. k ∈ s && not b) (∈-below w n k h)
 
-  unknown-out : isEmpty (s ∖ below n) ≡ true → (k : ℕ) → n ≤ k → k < 128 → k ∈ s ≡ false
+  unknown-out : isEmpty (s ∖ below w n) ≡ true → (k : ℕ) → n ≤ k → k < 8 * w → k ∈ s ≡ false
   unfolding _∈_ bit
   unknown-out e k l h =
-      let i : k / 8 < length (s ∖ below n) = rw (length-∖ s (below n), sixteen) (omega arith) in
-      let z : getD (s ∖ below n) (k / 8) 0 ≡ 0 = eqb-true _ 0 (all-at (λ x. eqb x 0) (s ∖ below n) (k / 8) 0 e i) in
-      let out : k ∈ s ∖ below n ≡ false = rw (z, zero-div) in
+      let i : k / 8 < length (s ∖ below w n) = rw (length-∖ s (below w n), long) (omega arith) in
+      let z : getD (s ∖ below w n) (k / 8) 0 ≡ 0 = eqb-true _ 0 (all-at (λ x. eqb x 0) (s ∖ below w n) (k / 8) 0 e i) in
+      let out : k ∈ s ∖ below w n ≡ false = rw (z, zero-div) in
       let t : (k ∈ s && not (ltb k n)) ≡ false = sym (left-over k h) ∙ out in
       let u : ltb k n ≡ false = le-ltb k n l in
       sym (ap (λ b. k ∈ s && not b) u ∙ and-true (k ∈ s)) ∙ t
 
-  empties : AreBytes s → ((k : ℕ) → n ≤ k → k < 128 → k ∈ s ≡ false) → isEmpty (s ∖ below n) ≡ true
+  empties : AreBytes s → ((k : ℕ) → n ≤ k → k < 8 * w → k ∈ s ≡ false) → isEmpty (s ∖ below w n) ≡ true
   unfolding _∈_ bit
-  empties bytes out = all-of (λ x. eqb x 0) (s ∖ below n) 0 (λ i h. eq-eqb _ 0 (byte-zero i (rw (length-∖ s (below n), sixteen) at h)))
+  empties bytes out = all-of (λ x. eqb x 0) (s ∖ below w n) 0 (λ i h. eq-eqb _ 0 (byte-zero i (rw (length-∖ s (below w n), long) at h)))
     where
-      gone : (k : ℕ) → k < 128 → k ∈ s ∖ below n ≡ false
+      gone : (k : ℕ) → k < 8 * w → k ∈ s ∖ below w n ≡ false
       gone k h = left-over k h ∙ (elim (decLt k n) [
         | yes l ↦ ap (λ b. k ∈ s && not b) (lt-ltb k n l) ∙ and-false (k ∈ s)
         | no l ↦ ap (λ b. b && not (ltb k n)) (out k (omega arith) h)
       ])
 
-      at-bit : (i j : ℕ) → i < 16 → j < 8 → bit j (getD (s ∖ below n) i 0) ≡ bit j 0
+      at-bit : (i j : ℕ) → i < w → j < 8 → bit j (getD (s ∖ below w n) i 0) ≡ bit j 0
       at-bit i j h l =
           let a : (8 * i + j) / 8 ≡ i = omega arith in
           let b : (8 * i + j) % 8 ≡ j = omega arith in
           rw (a, b) at (gone (8 * i + j) (omega arith)) ∙ sym (ap (λ d. eqb (d % 2) 1) (zero-div (2 ^ j)))
 
-      byte-zero : (i : ℕ) → i < 16 → getD (s ∖ below n) i 0 ≡ 0
+      byte-zero : (i : ℕ) → i < w → getD (s ∖ below w n) i 0 ≡ 0
       byte-zero i h =
-          by-bits (getD (s ∖ below n) i 0) 0 (rw (at-∖ s (below n) i) (minus-lt (getD s i 0) (getD (below n) i 0) (bytes i))) (omega arith) (λ j l. at-bit i j h l)
+          by-bits (getD (s ∖ below w n) i 0) 0 (rw (at-∖ s (below w n) i) (minus-lt (getD s i 0) (getD (below w n) i 0) (bytes i))) (omega arith) (λ j l. at-bit i j h l)
 
-  pub known : n ≤ 128 → AreBytes s → isEmpty (s ∖ below n) ≡ setGood n s
+  pub known : n ≤ 8 * w → AreBytes s → isEmpty (s ∖ below w n) ≡ setGood n s
   unfolding setGood
   known m bytes = same-truth _ _ there back
     where
-      there : isEmpty (s ∖ below n) ≡ true → all (λ k. not (k ∈ s)) (numbers n (8 * length s - n)) ≡ true
-      there e = numbers-of (λ k. not (k ∈ s)) n (8 * length s - n) (λ i h. ap not (unknown-out e (n + i) (omega arith) (let l = sixteen in omega arith)))
+      there : isEmpty (s ∖ below w n) ≡ true → all (λ k. not (k ∈ s)) (numbers n (8 * length s - n)) ≡ true
+      there e = numbers-of (λ k. not (k ∈ s)) n (8 * length s - n) (λ i h. ap not (unknown-out e (n + i) (omega arith) (let l = long in omega arith)))
 
-      back : all (λ k. not (k ∈ s)) (numbers n (8 * length s - n)) ≡ true → isEmpty (s ∖ below n) ≡ true
-      back e = empties bytes (λ k l h. (let z : n + (k - n) ≡ k = omega arith in not-true (k ∈ s) (rw z at (numbers-at (λ k. not (k ∈ s)) n (8 * length s - n) (k - n) e (let q = sixteen in omega arith)))))
+      back : all (λ k. not (k ∈ s)) (numbers n (8 * length s - n)) ≡ true → isEmpty (s ∖ below w n) ≡ true
+      back e = empties bytes (λ k l h. (let z : n + (k - n) ≡ k = omega arith in not-true (k ∈ s) (rw z at (numbers-at (λ k. not (k ∈ s)) n (8 * length s - n) (k - n) e (let q = long in omega arith)))))
 
   -- the bytes below n's own need not be asked
-  pub asked-from : AreBytes s → (i : ℕ) → i ≤ 16 → 8 * i ≤ n → Found (λ x. eqb x 0) (s ∖ below n) 0 true i
+  pub asked-from : AreBytes s → (i : ℕ) → i ≤ w → 8 * i ≤ n → Found (λ x. eqb x 0) (s ∖ below w n) 0 true i
   asked-from bytes i h l =
-      let long = length-∖ s (below n) in
-      found-below (λ x. eqb x 0) (s ∖ below n) 0 0 i (let q = sixteen in omega arith) (λ j k. eq-eqb _ 0 (none-below n s j (omega arith) (bytes j) (omega arith))) refl
+      let kept = length-∖ s (below w n) in
+      found-below (λ x. eqb x 0) (s ∖ below w n) 0 0 i (let q = long in omega arith) (λ j k. eq-eqb _ 0 (none-below w n s j (omega arith) (bytes j) (omega arith))) refl
 
 -- ---- a union has only known atoms exactly if each of its sets has
 

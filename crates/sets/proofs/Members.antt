@@ -2,7 +2,7 @@
 use mathlib.Core.Path.{_≡_, refl, ap, _∙_, sym}
 use mathlib.Core.Bool.{Bool, true, false, _&&_, _||_, or-false}
 use mathlib.Core.List.{List, [], _∷_, map}
-use Prim.Native.Nat.{ℕ, zero, suc, _+_, _*_, _/_, _%_, _^_, _<_}
+use Prim.Native.Nat.{ℕ, _+_, _*_, _/_, _%_, _^_, _<_}
 use native.Mathlib.Nat.{zero-add, mod-lt, zero-div}
 use native.Mathlib.Decide.{decLt, ℕ-discrete}
 use native.Mathlib.Omega.{arith}
@@ -16,6 +16,7 @@ use Rattle.paper.specs.Atoms.{Atoms, bit, _∈_, _∪_}
 use Rattle.paper.proofs.Sets.{∈-∪}
 use Rattle.runs.specs.Order.{numbers}
 use Rattle.runs.proofs.Numbers.{made-at}
+use Rattle.meaning.proofs.Widening.{at-zeros}
 use Rattle.sets.specs.Sets.{withMember, Passing}
 
 -- the bits of 1, 2, 4 … 128, computed
@@ -67,17 +68,15 @@ unfolding _∈_
 
 -- ---- a set of the numbers below a number that pass a test
 
-no-bit : (n i : ℕ) → _≡_ {A = ℕ} (getD (replicate n 0) i 0) 0
-no-bit zero i = refl
-no-bit (suc n) zero = refl
-no-bit (suc n) (suc i) = no-bit n i
-
 module _ (t : ℕ → Bool) where
   pub passing-none : (n : ℕ) → Passing t 0 (replicate n 0)
   unfolding _∈_ bit
-  passing-none n k = rw (no-bit n (k / 8), zero-div, le-ltb k 0 (omega arith))
+  passing-none n k = rw (at-zeros n (k / 8), zero-div, le-ltb k 0 (omega arith))
 
   module _ (x : ℕ) (s : Atoms) (g : Passing t x s) where
+    pub passing-below : (k : ℕ) → k < x → k ∈ s ≡ t k
+    passing-below k h = g k ∙ ap (λ b. b && t k) (lt-ltb k x h)
+
     pub passing-yes : t x ≡ true → x / 8 < length s → Passing t (x + 1) (withMember x s)
     passing-yes e h k = ∈-with k x s h ∙ ap (λ b. b || eqb k x) (g k) ∙ more
       where

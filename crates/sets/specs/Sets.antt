@@ -1,4 +1,4 @@
--- Sets of 16 bytes: the atoms below a number, and the empty set; and of any number of bytes: one member more.
+-- Sets of any number of bytes: the empty one, the atoms below a number, and one member more.
 use mathlib.Core.Path.{_≡_}
 use mathlib.Core.Bool.{Bool, _&&_}
 use mathlib.Core.List.{map}
@@ -18,11 +18,11 @@ isEmpty s = all (λ x. eqb x 0) s
 abbrev pub lowBits : ℕ → ℕ
 lowBits n = 2 ^ min n 8 - 1
 
--- byte i holds the atoms from 8 i on
-unfoldable pub below : ℕ → Atoms
-below n = map (λ i. lowBits (n - 8 * i)) (numbers 0 16)
+-- the atoms below n, in w bytes: byte i holds those from 8 i on
+unfoldable pub below : ℕ → ℕ → Atoms
+below w n = map (λ i. lowBits (n - 8 * i)) (numbers 0 w)
 
--- a set of any number of bytes, with number k too
+-- a set, with number k too
 abbrev pub withMember : ℕ → Atoms → Atoms
 withMember k s = set s (k / 8) (bitOr (getD s (k / 8) 0) (2 ^ (k % 8)))
 

@@ -1,9 +1,9 @@
-// Sets of atoms, 16 bytes by value: "atom k is bit (k modulo 8) of byte (k divided by 8)" (document 01).
+// Sets of atoms, 32 bytes by value: "atom k is bit (k modulo 8) of byte (k divided by 8)" (document 01).
 ghost use mathlib.Core.Path.{_≡_};
 ghost use Rattle.paper.specs.Atoms.{_∈_, _∪_, _∖_};
 ghost use Prim.Native.Nat.{_/_, _≤_, _<_};
 ghost use lib.ListN.{length};
-ghost use Rattle.meaning.specs.Sizes.{edition1Set, mostAtoms};
+ghost use Rattle.meaning.specs.Sizes.{edition2Set, mostAtoms};
 ghost use Rattle.meaning.specs.Refusals.{setGood, bothGood};
 ghost use Rattle.sets.specs.Sets.{lowBits, withMember};
 use meaning::Set;
@@ -12,11 +12,15 @@ use meaning::Set;
 pub fn member(s: Set, k: u8) -> bool
     ensures { λ r. ⌜ r ≡ (k ∈ s) ⌝ }
 {
-    let i = (k / 8) as usize;
-    if 16 <= i {
-        return false;
-    }
-    (s[i] >> (k % 8)) % 2 == 1
+    has_member(&s, k as usize)
+}
+
+// Whether number k is in a set of any number of bytes.
+pub fn has_member(s: &[u8], k: usize) -> bool
+    requires { ⌜ k / 8 < length (now s) ⌝ }
+    ensures { λ r. ⌜ r ≡ (k ∈ now (s .entry)) ⌝ }
+{
+    (s[k / 8] >> (k % 8)) % 2 == 1
 }
 
 // A set of any number of bytes, with number k too.
@@ -34,7 +38,7 @@ pub fn union(a: Set, b: Set) -> Set
 {
     let mut r = a;
     let mut i = 0;
-    while i < 16 {
+    while i < 32 {
         r[i] = a[i] | b[i];
         i += 1;
     }
@@ -47,7 +51,7 @@ pub fn difference(a: Set, b: Set) -> Set
 {
     let mut r = a;
     let mut i = 0;
-    while i < 16 {
+    while i < 32 {
         r[i] = a[i] ^ (a[i] & b[i]);
         i += 1;
     }
@@ -73,17 +77,17 @@ fn low_bits(n: usize) -> u8
 
 // Whether s has only atoms below a number: those of the byte that it lies in, and no byte behind.
 pub fn known(s: Set, atoms: usize) -> bool
-    requires { ⌜ atoms ≤ mostAtoms edition1Set ⌝ }
+    requires { ⌜ atoms ≤ mostAtoms edition2Set ⌝ }
     ensures { λ r. ⌜ r ≡ setGood atoms s ⌝ }
 {
     let mut i = atoms / 8;
-    if 16 <= i {
+    if 32 <= i {
         return true;
     }
     let unknown = s[i] ^ (s[i] & low_bits(atoms % 8));
     let mut good = unknown == 0;
     i += 1;
-    while i < 16 {
+    while i < 32 {
         good = good & (s[i] == 0);
         i += 1;
     }
@@ -92,7 +96,7 @@ pub fn known(s: Set, atoms: usize) -> bool
 
 // Whether a and b both have only atoms below a number.
 pub fn both_known(a: Set, b: Set, atoms: usize) -> bool
-    requires { ⌜ atoms ≤ mostAtoms edition1Set ⌝ }
+    requires { ⌜ atoms ≤ mostAtoms edition2Set ⌝ }
     ensures { λ r. ⌜ r ≡ bothGood atoms a b ⌝ }
 {
     known(union(a, b), atoms)

@@ -15,6 +15,7 @@ use Rattle.runs.proofs.Weight.{weigh-append}
 use Rattle.meaning.specs.declared.Layout.{Layout}
 use Rattle.meaning.specs.Sizes.{setBytes, headerBytes}
 use Rattle.meaning.specs.Card.{Bytes, byte, numberAt, part, layout, weightAt, weights, weight}
+use Rattle.layout.proofs.GoodLayout.{card-most}
 use Rattle.card.specs.GoodCard.{GoodCard}
 use Rattle.verdict.specs.Summed.{Weighable}
 
@@ -51,7 +52,7 @@ weigh-most w most (suc n) (a ∷ π) = let h = weigh-most w most n π in omega (
 weight-most : (l : Layout) (b : Bytes) → GoodCard l b → (a : ℕ) → weight b a ≤ 1024
 unfolding weight weights
 weight-most l b g a = elim (decLt a (layout b .actions)) [
-  | yes h ↦ rw (weight-known b a h) (g .weights a (subst (λ (x : Layout). a < x .actions) (sym (g .layout .says)) h) .most)
+  | yes h ↦ rw (weight-known b a h) (subst (λ (x : Layout). weightAt x b a ≤ 1024) (g .layout .says) (g .weights a (subst (λ (x : Layout). a < x .actions) (sym (g .layout .says)) h) .most))
   | no h ↦
       let past : length (map (weightAt (layout b) b) (numbers 0 (layout b .actions))) ≤ a = rw (length-made (weightAt (layout b) b) 0 (layout b .actions)) (omega arith) in
       rw (List·getD-eq-default (map (weightAt (layout b) b) (numbers 0 (layout b .actions))) 1 past) (omega arith)
@@ -94,12 +95,15 @@ weighable l b g weights e =
     let at₂ = d .selections-at in
     let at₃ = d .revisions-at in
     let at₄ = d .pool-at in
+    let most = card-most l b d in
+    let sets = d .set-most in
+    let same : weights ≡ headerBytes (setBytes (layout b)) = e ∙ ap (λ (x : Layout). headerBytes (setBytes x)) (d .says) in
     let known : (a : ℕ) → a < l .actions → a < layout b .actions = λ a h. subst (λ (x : Layout). a < x .actions) (d .says) h in record {
       few = few;
       inside = omega arith;
       near = omega arith;
       weights-near = omega arith;
       there = λ i h. let k = g .pool i h in omega arith;
-      weighs = λ i h. ap (λ w. numberAt b (w + 2 * byte b (l .pool .offset + i))) e ∙ sym (weight-known b (byte b (l .pool .offset + i)) (known _ (g .pool i h)));
+      weighs = λ i h. ap (λ w. numberAt b (w + 2 * byte b (l .pool .offset + i))) same ∙ sym (weight-known b (byte b (l .pool .offset + i)) (known _ (g .pool i h)));
       light = weight-most l b g;
     }

@@ -11,10 +11,13 @@ pub use words::{
     Choice, Coming, DeliberationEnding, Ending, Entry, Offender, Refusal, Sheet, Verdict,
 };
 
-pub const SET_BYTES: usize = 16;
-pub const MOST_CARD_BYTES: usize = 24128;
+pub const SET_BYTES: usize = 32;
+pub const MOST_ATOMS: usize = 256;
+pub const MOST_CARD_BYTES: usize = 32352;
 pub const MOST_PLAN_ACTIONS: usize = 1024;
-pub const MOST_PLACE_BYTES: usize = 1068;
+pub const MOST_PLACE_BYTES: usize = 1100;
+pub const MOST_CARD_BYTES_OF_EDITION_1: usize = 24128;
+pub const MOST_PLACE_BYTES_OF_EDITION_1: usize = 1068;
 pub const MOST_LIST_ENTRIES: usize = 768;
 pub const MOST_PRINTED_BYTES: usize = 894;
 pub const MOST_PROGRAM_BYTES: usize = 512;
@@ -70,14 +73,14 @@ pub struct Name<'a> {
 
 /// Judges a card.
 pub fn check(card: &[u8]) -> Result<(), Refusal> {
-    done(unsafe { parts::rigtemple_check_parts(card.as_ptr(), card.len()) })
+    done(unsafe { parts::rigtemple_4_check_parts(card.as_ptr(), card.len()) })
 }
 
 /// The configuration that a weaver begins with.
 pub fn load(card: &[u8]) -> Result<Configuration, Refusal> {
     let mut c = Configuration::EMPTY;
     done(unsafe {
-        parts::rigtemple_load_parts(
+        parts::rigtemple_4_load_parts(
             card.as_ptr(),
             card.len(),
             c.beliefs.as_mut_ptr(),
@@ -95,7 +98,7 @@ pub fn load(card: &[u8]) -> Result<Configuration, Refusal> {
 pub fn grade(card: &[u8]) -> Result<Verdict, Refusal> {
     let (mut verdict, mut offender, mut number) = (0, 0, 0);
     done(unsafe {
-        parts::rigtemple_grade_parts(
+        parts::rigtemple_4_grade_parts(
             card.as_ptr(),
             card.len(),
             &mut verdict,
@@ -110,7 +113,7 @@ pub fn grade(card: &[u8]) -> Result<Verdict, Refusal> {
 pub fn list(card: &[u8], c: &Configuration, list: &mut [u16]) -> Result<usize, Refusal> {
     let mut entries = 0;
     done(unsafe {
-        parts::rigtemple_list_parts(
+        parts::rigtemple_4_list_parts(
             card.as_ptr(),
             card.len(),
             c.beliefs.as_ptr(),
@@ -131,7 +134,7 @@ pub fn list(card: &[u8], c: &Configuration, list: &mut [u16]) -> Result<usize, R
 pub fn next(card: &[u8], c: &Configuration) -> Result<Coming, Refusal> {
     let (mut coming, mut choice) = (0, 0);
     done(unsafe {
-        parts::rigtemple_next_parts(
+        parts::rigtemple_4_next_parts(
             card.as_ptr(),
             card.len(),
             c.beliefs.as_ptr(),
@@ -151,7 +154,7 @@ pub fn next(card: &[u8], c: &Configuration) -> Result<Coming, Refusal> {
 pub fn take(card: &[u8], c: &mut Configuration, choice: u16) -> Result<(), Refusal> {
     let mut node = 0;
     let answer = unsafe {
-        parts::rigtemple_take_parts(
+        parts::rigtemple_4_take_parts(
             card.as_ptr(),
             card.len(),
             c.beliefs.as_mut_ptr(),
@@ -171,7 +174,7 @@ pub fn take(card: &[u8], c: &mut Configuration, choice: u16) -> Result<(), Refus
 pub fn run(card: &[u8], c: &mut Configuration, budget: u16) -> Result<Ran, Refusal> {
     let (mut moves, mut ending) = (0, 0);
     done(unsafe {
-        parts::rigtemple_run_parts(
+        parts::rigtemple_4_run_parts(
             card.as_ptr(),
             card.len(),
             c.beliefs.as_mut_ptr(),
@@ -201,7 +204,7 @@ pub fn deliberate(
     let (mut moves, mut ending, mut remaining_length) = (0, 0, 0);
     let mut remaining = [0; MOST_REMAINING];
     done(unsafe {
-        parts::rigtemple_deliberate_parts(
+        parts::rigtemple_4_deliberate_parts(
             card.as_ptr(),
             card.len(),
             program.as_ptr(),
@@ -237,7 +240,7 @@ pub fn go_on(
     let (mut moves, mut ending, mut remaining_length) = (0, 0, 0);
     let mut remaining = [0; MOST_REMAINING];
     done(unsafe {
-        parts::rigtemple_go_on_parts(
+        parts::rigtemple_4_go_on_parts(
             card.as_ptr(),
             card.len(),
             program.as_ptr(),
@@ -268,7 +271,7 @@ pub fn go_on(
 pub fn save(card: &[u8], c: &Configuration, place: &mut [u8]) -> Result<usize, Refusal> {
     let mut bytes = 0;
     done(unsafe {
-        parts::rigtemple_save_parts(
+        parts::rigtemple_4_save_parts(
             card.as_ptr(),
             card.len(),
             c.beliefs.as_ptr(),
@@ -289,7 +292,7 @@ pub fn save(card: &[u8], c: &Configuration, place: &mut [u8]) -> Result<usize, R
 pub fn restore(card: &[u8], place: &[u8]) -> Result<Configuration, Refusal> {
     let mut c = Configuration::EMPTY;
     done(unsafe {
-        parts::rigtemple_restore_parts(
+        parts::rigtemple_4_restore_parts(
             card.as_ptr(),
             card.len(),
             place.as_ptr(),
@@ -309,7 +312,7 @@ pub fn restore(card: &[u8], place: &[u8]) -> Result<Configuration, Refusal> {
 pub fn text(text: &[u8], card: &mut [u8]) -> Result<usize, Refusal> {
     let (mut bytes, mut place) = (0, 0);
     let answer = unsafe {
-        parts::rigtemple_text_parts(
+        parts::rigtemple_4_text_parts(
             text.as_ptr(),
             text.len(),
             card.as_mut_ptr(),
@@ -326,7 +329,7 @@ pub fn text(text: &[u8], card: &mut [u8]) -> Result<usize, Refusal> {
 pub fn print(card: &[u8], node: u16, text: &mut [u8]) -> Result<usize, Refusal> {
     let mut bytes = 0;
     done(unsafe {
-        parts::rigtemple_print_parts(
+        parts::rigtemple_4_print_parts(
             card.as_ptr(),
             card.len(),
             node,
@@ -348,7 +351,7 @@ pub fn name<'a>(
 ) -> Result<Name<'a>, Refusal> {
     let (mut sheet, mut start, mut length) = (0, 0, 0);
     let answer = unsafe {
-        parts::rigtemple_name_parts(
+        parts::rigtemple_4_name_parts(
             card.as_ptr(),
             card.len(),
             shed.as_ptr(),

@@ -1,10 +1,10 @@
 //! The functions of the archive, as rigtemple.h declares them: the fourteen calls over the parts of a
-//! configuration. `beliefs` and `goals` point to 16 bytes each, `plan` to 1,024, `remaining` to 128.
+//! configuration. `beliefs` and `goals` point to 32 bytes each, `plan` to 1,024, `remaining` to 128.
 
 extern "C" {
-    pub fn rigtemple_check_parts(card: *const u8, card_len: usize) -> u16;
+    pub fn rigtemple_4_check_parts(card: *const u8, card_len: usize) -> u16;
 
-    pub fn rigtemple_load_parts(
+    pub fn rigtemple_4_load_parts(
         card: *const u8,
         card_len: usize,
         beliefs: *mut u8,
@@ -15,7 +15,7 @@ extern "C" {
         finished: *mut u16,
     ) -> u16;
 
-    pub fn rigtemple_grade_parts(
+    pub fn rigtemple_4_grade_parts(
         card: *const u8,
         card_len: usize,
         verdict: *mut u8,
@@ -23,7 +23,7 @@ extern "C" {
         number: *mut u16,
     ) -> u16;
 
-    pub fn rigtemple_list_parts(
+    pub fn rigtemple_4_list_parts(
         card: *const u8,
         card_len: usize,
         beliefs: *const u8,
@@ -37,7 +37,7 @@ extern "C" {
         entries: *mut u16,
     ) -> u16;
 
-    pub fn rigtemple_next_parts(
+    pub fn rigtemple_4_next_parts(
         card: *const u8,
         card_len: usize,
         beliefs: *const u8,
@@ -50,7 +50,7 @@ extern "C" {
         choice: *mut u16,
     ) -> u16;
 
-    pub fn rigtemple_take_parts(
+    pub fn rigtemple_4_take_parts(
         card: *const u8,
         card_len: usize,
         beliefs: *mut u8,
@@ -63,7 +63,7 @@ extern "C" {
         node: *mut u16,
     ) -> u16;
 
-    pub fn rigtemple_run_parts(
+    pub fn rigtemple_4_run_parts(
         card: *const u8,
         card_len: usize,
         beliefs: *mut u8,
@@ -77,7 +77,7 @@ extern "C" {
         ending: *mut u8,
     ) -> u16;
 
-    pub fn rigtemple_deliberate_parts(
+    pub fn rigtemple_4_deliberate_parts(
         card: *const u8,
         card_len: usize,
         program: *const u8,
@@ -95,7 +95,7 @@ extern "C" {
         remaining_length: *mut u8,
     ) -> u16;
 
-    pub fn rigtemple_go_on_parts(
+    pub fn rigtemple_4_go_on_parts(
         card: *const u8,
         card_len: usize,
         program: *const u8,
@@ -115,7 +115,7 @@ extern "C" {
         remaining_length: *mut u8,
     ) -> u16;
 
-    pub fn rigtemple_save_parts(
+    pub fn rigtemple_4_save_parts(
         card: *const u8,
         card_len: usize,
         beliefs: *const u8,
@@ -129,7 +129,7 @@ extern "C" {
         bytes: *mut u16,
     ) -> u16;
 
-    pub fn rigtemple_restore_parts(
+    pub fn rigtemple_4_restore_parts(
         card: *const u8,
         card_len: usize,
         place: *const u8,
@@ -142,7 +142,7 @@ extern "C" {
         finished: *mut u16,
     ) -> u16;
 
-    pub fn rigtemple_text_parts(
+    pub fn rigtemple_4_text_parts(
         text: *const u8,
         text_len: usize,
         card: *mut u8,
@@ -151,7 +151,7 @@ extern "C" {
         place: *mut usize,
     ) -> u16;
 
-    pub fn rigtemple_print_parts(
+    pub fn rigtemple_4_print_parts(
         card: *const u8,
         card_len: usize,
         node: u16,
@@ -160,7 +160,7 @@ extern "C" {
         bytes: *mut u16,
     ) -> u16;
 
-    pub fn rigtemple_name_parts(
+    pub fn rigtemple_4_name_parts(
         card: *const u8,
         card_len: usize,
         shed: *const u8,

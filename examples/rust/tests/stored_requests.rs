@@ -192,7 +192,8 @@ fn save(card: &[u8], requests: &mut Requests, answers: &mut Answers) {
     let c = requests.image();
     let mut lent = vec![LENT_BYTE; usize::from(requests.number())];
     let answer = rigtemple::save(card, &c, &mut lent);
-    assert!(answer.map_or(true, |bytes| bytes == 44 + usize::from(c.length)));
+    let header = if card.get(2) == Some(&2) { 76 } else { 44 };
+    assert!(answer.map_or(true, |bytes| bytes == header + usize::from(c.length)));
     answers.answer(&answer);
     answers.0.extend(lent);
 }

@@ -1,16 +1,24 @@
+use mir.Syntax.{w8}
+use mir.Val.{Fits}
 use mathlib.Core.Path.{_≡_}
-use Prim.Native.Nat.{_≤_}
+use Prim.Native.Nat.{ℕ, _≤_}
 use borrow.Author.Needs.{needs}
-use lib.ListN.{length}
+use lib.ListN.{length, getD}
 use Rattle.guide.proofs.save.Statement.{statement}
 use Rattle.guide.proofs.save.Tie as tie
 
 -- what the types of the fields say
-beliefs : (c : tie.Start) → length (c .args .t2 .mind .beliefs) ≡ 16
+beliefs : (c : tie.Start) → length (c .args .t2 .mind .beliefs) ≡ 32
 beliefs c = search needs
 
-goals : (c : tie.Start) → length (c .args .t2 .mind .goals) ≡ 16
+goals : (c : tie.Start) → length (c .args .t2 .mind .goals) ≡ 32
 goals c = search needs
+
+belief-bytes : (c : tie.Start) (i : ℕ) → Fits w8 (getD (c .args .t2 .mind .beliefs) i 0)
+belief-bytes c i = search needs
+
+goal-bytes : (c : tie.Start) (i : ℕ) → Fits w8 (getD (c .args .t2 .mind .goals) i 0)
+goal-bytes c i = search needs
 
 plan : (c : tie.Start) → length (c .args .t2 .plan) ≡ 1024
 plan c = search needs
@@ -24,7 +32,7 @@ save-requires c κs = search needs
 returns : tie.Need-returns
 returns c =
     let s = c .before .before .before .before .before .before .before .before .before in
-    (c .before .before .save .ensures, record { beliefs = beliefs s; goals = goals s; plan = plan s; finished = finished s })
+    (c .before .before .save .ensures, record { beliefs = beliefs s; belief-bytes = λ i. belief-bytes s i .fits; goals = goals s; goal-bytes = λ i. goal-bytes s i .fits; plan = plan s; finished = finished s })
 
 pub save-spec : {M : Type 1} → statement M
 save-spec = tie.close (tie.spec save-requires (λ c. search needs) returns)

@@ -17,21 +17,21 @@ use Rattle.sets.proofs.known.Statement.{statement}
 use Rattle.sets.proofs.known.Tie as tie
 
 abbrev Inv-loop : tie.InvT-loop
-Inv-loop atoms s i₀ unknown good₀ i good = (i ≤ 16) × (atoms ≤ 8 * i) × Found (λ x. eqb x 0) (s ∖ below atoms) 0 good i
+Inv-loop atoms s i₀ unknown good₀ i good = (i ≤ 32) × (atoms ≤ 8 * i) × Found (λ x. eqb x 0) (s ∖ below 32 atoms) 0 good i
 
 abbrev μ-loop : tie.MeasureT-loop
-μ-loop atoms s i₀ unknown good₀ i good = 16 - i
+μ-loop atoms s i₀ unknown good₀ i good = 32 - i
 
 returns : tie.Need-returns Inv-loop μ-loop
 returns c =
     let a = c .before .args in
     let p = c .before .pre in
     let g = c .before .good in
-    let X = a .t1 ∖ below (a .atoms) in
-    let long : length X ≡ length (a .t1) = length-∖ (a .t1) (below (a .atoms)) in
+    let X = a .t1 ∖ below 32 (a .atoms) in
+    let long : length X ≡ length (a .t1) = length-∖ (a .t1) (below 32 (a .atoms)) in
     let bytes : AreBytes (a .t1) = λ i. elem-fits w8 w8 (a .t1) _ i (g .0 .1 .1) tt .fits in
-    found-all (λ x. eqb x 0) X 0 true 16 (omega arith) (asked-from (a .atoms) (a .t1) (omega arith) bytes 16 (omega arith) (omega (arith, c .if1 .taken)))
-    ∙ known (a .atoms) (a .t1) (omega arith) p bytes
+    found-all (λ x. eqb x 0) X 0 true 32 (omega arith) (asked-from 32 (a .atoms) (a .t1) (omega arith) bytes 32 (omega arith) (omega (arith, c .if1 .taken)))
+    ∙ known 32 (a .atoms) (a .t1) (omega arith) p bytes
 
 low-bits-requires : tie.Need-low-bits-requires Inv-loop μ-loop
 low-bits-requires c κs = search needs
@@ -40,13 +40,13 @@ loop-holds : tie.Need-loop-holds Inv-loop μ-loop
 loop-holds c =
     let a = c .before .before .args in
     let g = c .before .before .good in
-    let X = a .t1 ∖ below (a .atoms) in
-    let long : length X ≡ length (a .t1) = length-∖ (a .t1) (below (a .atoms)) in
+    let X = a .t1 ∖ below 32 (a .atoms) in
+    let long : length X ≡ length (a .t1) = length-∖ (a .t1) (below 32 (a .atoms)) in
     let bytes : AreBytes (a .t1) = λ i. elem-fits w8 w8 (a .t1) _ i (g .0 .1 .1) tt .fits in
     let own : a .atoms - 8 * (a .atoms / 8) ≡ a .atoms % 8 = omega arith in
-    let low = at-below (a .atoms) (a .atoms / 8) (omega arith) ∙ ap lowBits own ∙ sym (c .low-bits .ensures) in
-    let found = found-turn (λ x. eqb x 0) X 0 true (a .atoms / 8) 0 (omega arith) (asked-from (a .atoms) (a .t1) (omega arith) bytes (a .atoms / 8) (omega arith) (omega arith)) in
-    (omega arith, omega arith, rw (at-∖ (a .t1) (below (a .atoms)) (a .atoms / 8), low) at found)
+    let low = at-below 32 (a .atoms) (a .atoms / 8) (omega arith) ∙ ap lowBits own ∙ sym (c .low-bits .ensures) in
+    let found = found-turn (λ x. eqb x 0) X 0 true (a .atoms / 8) 0 (omega arith) (asked-from 32 (a .atoms) (a .t1) (omega arith) bytes (a .atoms / 8) (omega arith) (omega arith)) in
+    (omega arith, omega arith, rw (at-∖ (a .t1) (below 32 (a .atoms)) (a .atoms / 8), low) at found)
 
 loop-less : tie.Need-loop-less Inv-loop μ-loop
 loop-less c = search needs
@@ -55,10 +55,10 @@ loop-again : tie.Need-loop-again Inv-loop μ-loop
 loop-again c =
     let a = c .before .before .before .before .args in
     let l = c .before .loop in
-    let X = a .t1 ∖ below (a .atoms) in
-    let long : length X ≡ length (a .t1) = length-∖ (a .t1) (below (a .atoms)) in
+    let X = a .t1 ∖ below 32 (a .atoms) in
+    let long : length X ≡ length (a .t1) = length-∖ (a .t1) (below 32 (a .atoms)) in
     let found = found-turn (λ x. eqb x 0) X 0 (l .good) (l .i) 0 (omega arith) (l .inv .2) in
-    (omega arith, omega arith, rw (all-behind (a .atoms) (a .t1) (l .i) (omega arith) (l .inv .1)) at found)
+    (omega arith, omega arith, rw (all-behind 32 (a .atoms) (a .t1) (l .i) (omega arith) (l .inv .1)) at found)
 
 returns-2 : tie.Need-returns-2 Inv-loop μ-loop
 returns-2 c =
@@ -66,9 +66,9 @@ returns-2 c =
     let l = c .before .loop in
     let p = c .before .before .before .before .pre in
     let g = c .before .before .before .before .good in
-    let long : length (a .t1 ∖ below (a .atoms)) ≡ length (a .t1) = length-∖ (a .t1) (below (a .atoms)) in
-    found-all (λ x. eqb x 0) (a .t1 ∖ below (a .atoms)) 0 (l .good) (l .i) (omega arith) (l .inv .2)
-    ∙ known (a .atoms) (a .t1) (omega arith) p (λ i. elem-fits w8 w8 (a .t1) _ i (g .0 .1 .1) tt .fits)
+    let long : length (a .t1 ∖ below 32 (a .atoms)) ≡ length (a .t1) = length-∖ (a .t1) (below 32 (a .atoms)) in
+    found-all (λ x. eqb x 0) (a .t1 ∖ below 32 (a .atoms)) 0 (l .good) (l .i) (omega arith) (l .inv .2)
+    ∙ known 32 (a .atoms) (a .t1) (omega arith) p (λ i. elem-fits w8 w8 (a .t1) _ i (g .0 .1 .1) tt .fits)
 
 pub known-spec : {M : Type 1} → statement M
 known-spec =

@@ -10,10 +10,10 @@ use Rattle.sets.proofs.union.Statement.{statement}
 use Rattle.sets.proofs.union.Tie as tie
 
 abbrev Inv-loop : tie.InvT-loop
-Inv-loop a b r₀ i₀ r i = (i ≤ 16) × (r ≡ filled (a ∪ b) a i)
+Inv-loop a b r₀ i₀ r i = (i ≤ 32) × (r ≡ filled (a ∪ b) a i)
 
 abbrev μ-loop : tie.MeasureT-loop
-μ-loop a b r₀ i₀ r i = 16 - i
+μ-loop a b r₀ i₀ r i = 32 - i
 
 loop-holds : tie.Need-loop-holds Inv-loop μ-loop
 loop-holds c = (omega arith, refl)
@@ -26,8 +26,8 @@ loop-again c =
     let a = c .before .before .args .t1 in
     let b = c .before .before .args .t2 in
     let l = c .before .loop in
-    let la : length a ≡ 16 = omega arith in
-    let lb : length b ≡ 16 = omega arith in
+    let la : length a ≡ 32 = omega arith in
+    let lb : length b ≡ 32 = omega arith in
     let same : length (a ∪ b) ≡ length a = length-∪ a b (la ∙ sym lb) in
     (omega arith, rw (l .inv .1) (filled-turn (a ∪ b) a (l .i) 0 _ (omega arith) (omega arith) (sym (at-∪ a b (l .i)))))
 
@@ -36,8 +36,8 @@ returns c =
     let a = c .before .before .args .t1 in
     let b = c .before .before .args .t2 in
     let l = c .before .loop in
-    let la : length a ≡ 16 = omega arith in
-    let lb : length b ≡ 16 = omega arith in
+    let la : length a ≡ 32 = omega arith in
+    let lb : length b ≡ 32 = omega arith in
     let same : length (a ∪ b) ≡ length a = length-∪ a b (la ∙ sym lb) in
     l .inv .1 ∙ filled-all (a ∪ b) a (l .i) (omega arith) (omega arith)
 

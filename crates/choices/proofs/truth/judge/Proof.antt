@@ -9,13 +9,13 @@ mark-of-requires : tie.Need-mark-of-requires
 mark-of-requires c κs = search needs
 
 has-atom-requires : tie.Need-has-atom-requires
-has-atom-requires c κs = let k = c .match .keys2 in c .before .pre .1 (omega arith) (omega arith)
+has-atom-requires c κs = search needs
 
 mark-of-requires-2 : tie.Need-mark-of-requires-2
 mark-of-requires-2 c κs = search needs
 
 has-atom-requires-2 : tie.Need-has-atom-requires-2
-has-atom-requires-2 c κs = let k = c .match .keys3 in c .before .pre .1 (omega arith) (omega arith)
+has-atom-requires-2 c κs = search needs
 
 mark-of-requires-3 : tie.Need-mark-of-requires-3
 mark-of-requires-3 c κs = search needs
@@ -47,7 +47,7 @@ returns-5 c = rw (c .before .before .before .match .keys5) (c .both-of .ensures)
 returns-6 : tie.Need-returns-6
 returns-6 c =
     let k = c .before .before .before .before .args .x .kind in
-    let h = c .before .before .before .before .pre .0 in
+    let h = c .before .before .before .before .pre in
     let e : k ≡ 5 = omega arith in
     rw e (c .one-of .ensures)
 

@@ -34,9 +34,8 @@ judge-requires : tie.Need-judge-requires Inv-loop μ-loop
 judge-requires c κs =
     let a = c .before .before .before .before .before .before .before .before .before .before .before .args in
     let p = c .before .before .before .before .before .before .before .before .before .before .before .pre .0 in
-    let atoms = p .layout .atoms in
     let r = node-rule (a .l) (now (a .card)) (p .nodes) (c .before .before .before .before .before .loop .i) (omega arith) in
-    rw (c .before .before .before .read-node .ensures) (r .kinds, λ x y. (let low = r .atom x y in omega arith))
+    rw (c .before .before .before .read-node .ensures) (r .kinds)
 
 loop-less : tie.Need-loop-less Inv-loop μ-loop
 loop-less c = search needs

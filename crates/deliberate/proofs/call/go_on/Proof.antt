@@ -1,7 +1,6 @@
 use Rattle.layout.specs.PlaceParts.{configured}
-use Rattle.card.specs.Rows.{answerOf}
 use Rattle.deliberate.proofs.Calling.{refused-so, by-numbers}
-use mathlib.Core.Path.{refl, sym, ap, _∙_}
+use mathlib.Core.Path.{refl, sym, _∙_}
 use borrow.Author.Tests.{not-true, not-false}
 use borrow.Author.Needs.{needs}
 use denote.Ref.{now}
@@ -14,20 +13,16 @@ check-program-requires c κs = search needs
 enum-told : tie.Need-enum-told
 enum-told c = search needs
 
-answer-of-requires : tie.Need-answer-of-requires
-answer-of-requires c κs = search needs
-
 refused-requires : tie.Need-refused-requires
 refused-requires c κs = search needs
 
 returns : tie.Need-returns
 returns c =
-    let a = c .before .before .before .before .before .before .before .before .args in
-    let b = now (a .card) in
-    let p = now (a .program) in
+    let a = c .before .before .before .before .before .before .before .args in
     let d = configured (a .m) (now (a .plan)) in
-    let told = c .before .before .enum-told .given .1 in
-    refused-so b p (now (a .given)) d (a .budget) (now (a .remaining)) _ (c .before .before .before .before .check-program .ensures .bad _ told (now (a .given)) d) (c .before .answer-of .result) (c .before .answer-of .ensures ∙ ap answerOf told) (c .refused .result) (c .refused .ensures)
+    let k = c .before .before .before .check-program in
+    let told = c .before .enum-told2 .given .1 in
+    refused-so (now (a .card)) (now (a .program)) (now (a .given)) d (a .budget) (now (a .remaining)) _ (k .ensures .bad _ told (now (a .given)) d) (k .result) told (c .refused .result) (c .refused .ensures)
 
 numbers-good-requires : tie.Need-numbers-good-requires
 numbers-good-requires c κs = search needs
@@ -37,17 +32,17 @@ refused-requires-2 c κs = search needs
 
 returns-2 : tie.Need-returns-2
 returns-2 c =
-    let a = c .before .before .before .before .before .before .before .before .before .before .args in
+    let a = c .before .before .before .before .before .before .before .before .before .args in
     let b = now (a .card) in
     let p = now (a .program) in
     let d = configured (a .m) (now (a .plan)) in
-    let (e, g) = c .before .before .before .before .before .before .check-program .ensures .good _ (c .before .before .before .before .checked .given .1) in
+    let (e, g) = c .before .before .before .before .before .check-program .ensures .good (c .before .before .before .enum-told .given .1) in
     let n = sym (c .before .before .numbers-good .ensures) ∙ not-true _ (c .before .if1 .taken) in
     refused-so b p (now (a .given)) d (a .budget) (now (a .remaining)) _ (by-numbers b p _ e (now (a .given)) d n) _ refl (c .refused2 .result) (c .refused2 .ensures)
 
 from-configuration-requires : tie.Need-from-configuration-requires
 from-configuration-requires c κs =
-    let (e, g) = c .before .before .before .before .before .before .before .check-program .ensures .good _ (c .before .before .before .before .before .checked .given .1) in
+    let (e, g) = c .before .before .before .before .before .before .check-program .ensures .good (c .before .before .before .before .enum-told .given .1) in
     (e, g, sym (c .before .before .before .numbers-good .ensures) ∙ not-false _ (c .before .before .if1 .left))
 
 returns-3 : tie.Need-returns-3
@@ -58,9 +53,8 @@ go-on-spec =
     tie.close
     (tie.spec
     check-program-requires
-    (λ c. search needs)
     enum-told
-    answer-of-requires
+    (λ c. search needs)
     refused-requires
     returns
     numbers-good-requires

@@ -1,24 +1,28 @@
+use Rattle.paper.specs.Atoms.{_∈_}
+use Rattle.paper.specs.Next.{isSome}
+use Rattle.sets.proofs.Members.{passing-none, passing-yes, passing-no}
 use Rattle.deliberation.specs.FirstMove.{lowestAction}
 use Rattle.deliberation.specs.Kinds.{entryKind}
-use Rattle.deliberation.specs.Entries.{entryCount}
+use Rattle.deliberation.specs.Entries.{entryCount, moveAt}
 use Rattle.meaning.specs.Configurations.{stateOf}
 use Rattle.meaning.specs.Card.{agentFor}
 use Rattle.meaning.specs.declared.Node.{Node}
 use Rattle.deliberate.specs.First.{isAt, movableOf, Movable}
-use Rattle.deliberate.proofs.Marking.{at-some, movable-next, movable-more}
+use Rattle.deliberate.proofs.Marking.{at-some, movable-next}
 use Rattle.layout.specs.PlaceParts.{configured}
-use mathlib.Core.Bool.{Bool, false}
-use mathlib.Core.Path.{_≡_, ap, _∙_, subst}
-use Prim.Native.Nat.{_-_, _≤_, _<_}
+use mathlib.Core.Bool.{Bool}
+use mathlib.Core.Logic.{⊎-elim}
+use mathlib.Core.Path.{_≡_, sym, ap, _∙_, subst}
+use Prim.Native.Nat.{ℕ, _-_, _≤_, _<_}
 use native.Mathlib.Omega.{arith}
 use borrow.Author.Needs.{needs}
 use denote.Ref.{now}
-use lib.ListN.{length, getD, length-set, length-replicate}
+use lib.ListN.{length, length-set, length-replicate}
 use Rattle.deliberate.proofs.first.mark_moves.Statement.{statement}
 use Rattle.deliberate.proofs.first.mark_moves.Tie as tie
 
 abbrev Inv-loop : tie.InvT-loop
-Inv-loop card l m plan marks program n acts movable₀ i₀ movable i = (i ≤ n) × (length movable ≡ 128) × Movable l card program (configured m plan) i movable
+Inv-loop card l m plan marks program n acts movable₀ i₀ movable i = (i ≤ n) × (length movable ≡ 16) × Movable l card program (configured m plan) i movable
 
 abbrev μ-loop : tie.MeasureT-loop
 μ-loop card l m plan marks program n acts movable₀ i₀ movable i = n - i
@@ -30,7 +34,7 @@ no-moves-requires : tie.Need-no-moves-requires Inv-loop μ-loop
 no-moves-requires c κs = search needs
 
 loop-holds : tie.Need-loop-holds Inv-loop μ-loop
-loop-holds c = (omega arith, rw (c .no-moves .ensures) (length-replicate {A = Bool} 128 false), λ j h. absurd (omega arith))
+loop-holds c = (omega arith, rw (c .no-moves .ensures) (length-replicate {A = ℕ} 16 0), rw (c .no-moves .ensures) (passing-none _ 16))
 
 read-entry-requires : tie.Need-read-entry-requires Inv-loop μ-loop
 read-entry-requires c κs = let e = c .before .before .before .before .before .before .pre .0 .1 .bytes in omega arith
@@ -45,30 +49,37 @@ has-move-requires c κs =
     let s = stateOf (configured (a .m) (now (a .plan))) .mental in
     ((j, (l .i, (omega arith, rw (c .before .read-entry .ensures) (g .entries (l .i) (omega arith))))), c .before .before .before .before .before .is-at .ensures ∙ ap isAt (c .before .before .before .before .before .before .before .before .pre .1 .0) ∙ at-some (lowestAction (agentFor (a .l) (now (a .card))) s))
 
-array-write-movable : tie.Need-array-write-movable Inv-loop μ-loop
-array-write-movable c =
-    let most = c .before .before .before .before .before .before .before .before .before .pre .0 .1 .most in
-    let l = c .before .before .before .before .loop in
-    let k : l .i < 128 = (let n = c .before .before .before .before .before .before .before .before .before .pre .1 .1 in let t = c .before .before .before .loop-test .taken in omega arith) in
-    search (needs, k)
+add-member-requires : tie.Need-add-member-requires Inv-loop μ-loop
+add-member-requires c κs =
+    let g = c .before .before .before .before .before .before .before .before .before .before .before .pre .0 .1 in
+    let most = g .most in
+    let n = c .before .before .before .before .before .before .before .before .before .before .before .pre .1 .1 in
+    let t = c .before .before .before .before .before .loop-test .taken in
+    omega arith
 
 loop-less : tie.Need-loop-less Inv-loop μ-loop
 loop-less c = search needs
 
 loop-again : tie.Need-loop-again Inv-loop μ-loop
 loop-again c =
-    let a = c .before .before .before .before .before .before .before .before .before .args in
-    let g = c .before .before .before .before .before .before .before .before .before .pre .0 .1 in
+    let a = c .before .before .before .before .before .before .before .before .before .before .args in
+    let g = c .before .before .before .before .before .before .before .before .before .before .pre .0 .1 in
     let most = g .most in
-    let l = c .before .before .before .before .loop in
+    let l = c .before .before .before .before .before .loop in
     let d = configured (a .m) (now (a .plan)) in
-    let t = c .before .before .before .loop-test .taken in
-    let n = c .before .before .before .before .before .before .before .before .before .pre .1 .1 in
+    let t = c .before .before .before .before .loop-test .taken in
+    let n = c .before .before .before .before .before .before .before .before .before .before .pre .1 .1 in
     let k : l .i < entryCount (now (a .program)) = omega arith in
     let s = l .inv .1 in
-    let e = c .has-move .ensures ∙ ap (λ (x : Node). movableOf (agentFor (a .l) (now (a .card))) (stateOf d .mental) (entryKind (x .kind)) (x .a) (x .b) (λ j. getD (l .movable) j false)) (c .before .before .read-entry .ensures)
+    let has : ℕ → Bool = λ j. isSome (moveAt (a .l) (now (a .card)) (now (a .program)) (stateOf d .mental) j) in
+    let e = c .before .has-move .ensures ∙ ap (λ (x : Node). movableOf (agentFor (a .l) (now (a .card))) (stateOf d .mental) (entryKind (x .kind)) (x .a) (x .b) (λ j. j ∈ l .movable)) (c .before .before .before .read-entry .ensures)
     ∙ movable-next (a .l) (now (a .card)) (now (a .program)) d (l .i) (l .movable) (l .inv .2) g k in
-    (omega arith, simp length-set s, movable-more (a .l) (now (a .card)) (now (a .program)) d (l .i) (l .movable) (l .inv .2) _ (omega arith) e)
+    ⊎-elim
+    (λ w.
+    (let q = w .4 ∙ w .2 .ensures in
+    (omega arith, ap length q ∙ length-set (l .movable) _ _ ∙ s, rw q (passing-yes has (l .i) (l .movable) (l .inv .2) (sym e ∙ w .0 .taken) (omega arith)))))
+    (λ w. (omega arith, ap length (w .1) ∙ s, rw (w .1) (passing-no has (l .i) (l .movable) (l .inv .2) (sym e ∙ w .0 .left))))
+    (c .if1 .came)
 
 returns : tie.Need-returns Inv-loop μ-loop
 returns c =
@@ -88,7 +99,8 @@ mark-moves-spec =
     loop-holds
     read-entry-requires
     has-move-requires
-    array-write-movable
+    (λ c. search needs)
+    add-member-requires
     (λ c. search needs)
     loop-less
     loop-again

@@ -35,8 +35,8 @@ move-leaf-requires c κs =
     let f = c .before .before .before .reach .ensures .0 in
     ((j, f .action), (now (a .program), (g, f .leaf)))
 
-kept-requires : tie.Need-kept-requires
-kept-requires c κs =
+put-back-requires : tie.Need-put-back-requires
+put-back-requires c κs =
     let a = c .before .before .before .before .before .before .before .before .before .before .before .args in
     let ((j, g), (r, h)) = c .before .before .before .before .before .before .before .before .before .before .before .pre in
     (h, c .before .move-leaf .ensures (now (a .program)) g (c .before .before .before .before .before .reach .ensures .0 .leaf) .room)
@@ -55,7 +55,7 @@ returns c =
     let plan = k .last .1 .1 .1 .0 in
     let left = k .last .1 .1 .1 .1 .1 .1 .1 .0 in
     kept-so (a .l) b p d (now (a .stack)) (a .top) r h down (q .result .leaf .top) (f .leaf .stacked .room) rising behind (k .result) plan left _
-    (subst (λ (o : MoveResult). Makes (a .l) b d (drop (q .result .leaf .top) down) o (k .result) plan left) (sym (f .same)) (k .ensures p g (f .leaf))) (c .kept .result) _ (c .kept .ensures .0) (c .kept .ensures .1)
+    (subst (λ (o : MoveResult). Makes (a .l) b d (drop (q .result .leaf .top) down) o (k .result) plan left) (sym (f .same)) (k .ensures p g (f .leaf))) _ (c .put-back .ensures)
 
 pub make-move-spec : {M : Type 1} → statement M
 make-move-spec =
@@ -66,5 +66,5 @@ make-move-spec =
     add-reach
     reach-requires
     move-leaf-requires
-    kept-requires
+    put-back-requires
     returns)

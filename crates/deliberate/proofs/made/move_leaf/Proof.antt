@@ -4,13 +4,15 @@ use Rattle.meaning.specs.Configurations.{stateOf}
 use Rattle.deliberation.specs.Kinds.{entryKind}
 use Rattle.deliberation.specs.FirstMove.{Move}
 use Rattle.deliberation.specs.Deliberate.{moveResult}
+use Rattle.deliberate.specs.declared.made.MoveMade.{MoveMade}
 use Rattle.deliberate.specs.Made.{Makes}
-use Rattle.deliberate.proofs.Making.{two-more, leaf-good, leaf-idles, leaf-choice}
+use Rattle.deliberate.proofs.Making.{stayed-top, two-more, leaf-good, leaf-idles, leaf-choice}
 use mathlib.Core.List.{List}
 use mathlib.Core.Option.{Option}
-use mathlib.Core.Path.{sym, subst}
+use mathlib.Core.Path.{sym, ap, _∙_, subst}
 use Prim.Native.Nat.{ℕ, _≤_, _<_}
 use native.Mathlib.Omega.{arith}
+use borrow.Author.Needs.{needs}
 use denote.Ref.{now}
 use lib.ListN.{drop}
 use Rattle.deliberate.proofs.made.move_leaf.Statement.{statement}
@@ -28,14 +30,16 @@ turn-requires c κs =
 
 returns : tie.Need-returns
 returns c = λ p g x.
-    let a = c .before .before .before .before .before .before .args in
+    let a = c .before .before .before .before .before .before .before .args in
     let b = now (a .card) in
     let d = configured (a .m) (now (a .plan)) in
-    let (j, e) = c .before .before .before .before .before .before .pre .0 in
-    let r = c .turn in
-    let (q, w, z) = r .ensures .0 in
+    let (j, e) = c .before .before .before .before .before .before .before .pre .0 in
+    let r = c .before .turn in
+    let left = r .last .1 .1 .1 .1 .0 in
+    let (w, z) = r .ensures .0 in
     let (t, (k, f)) = r .ensures .1 in
-    leaf-idles (a .l) b p d g (now (a .stack)) (a .leaf) x (now (a .marks)) j (r .result) (r .last .1 .1 .1 .1 .0) q w z t k f
+    let (n, q) = stayed-top (c .stays .result) (a .m) MoveMade.On (r .result) (c .stays .ensures) in
+    leaf-idles (a .l) b p d g (now (a .stack)) (a .leaf) x (now (a .marks)) j (c .stays .result) left q (rw n w) z t k (ap (λ n. drop n left) n ∙ f)
 
 choice-of-requires : tie.Need-choice-of-requires
 choice-of-requires c κs =
@@ -66,4 +70,4 @@ returns-2 c = λ p g x.
     (r .ensures (entryKind (a .leaf .entry .kind)) (a .leaf .entry .a) (c .before .before .choice-of .ensures) (now (a .stack)) (x .stacked .within) (x .stacked .room))
 
 pub move-leaf-spec : {M : Type 1} → statement M
-move-leaf-spec = tie.close (tie.spec turn-requires returns choice-of-requires make-choice-requires returns-2)
+move-leaf-spec = tie.close (tie.spec turn-requires (λ c κs. search needs) returns choice-of-requires make-choice-requires returns-2)

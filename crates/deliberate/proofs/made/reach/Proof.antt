@@ -1,14 +1,15 @@
+use Rattle.paper.specs.Atoms.{_∈_}
+use Rattle.sets.proofs.Members.{passing-below}
 use Rattle.paper.specs.Next.{isSome}
 use Rattle.layout.specs.PlaceParts.{configured}
 use Rattle.meaning.specs.Configurations.{stateOf}
 use Rattle.deliberation.specs.Entries.{moveAt}
 use Rattle.deliberate.proofs.Descending.{stacked-room, down-came, later-kept}
-use mathlib.Core.Bool.{Bool, false}
+use mathlib.Core.Bool.{Bool}
 use mathlib.Core.Path.{refl, _∙_}
 use Prim.Native.Nat.{ℕ}
 use native.Mathlib.Omega.{arith}
 use denote.Ref.{now}
-use lib.ListN.{getD}
 use Rattle.deliberate.proofs.made.reach.Statement.{statement}
 use Rattle.deliberate.proofs.made.reach.Tie as tie
 
@@ -73,7 +74,7 @@ returns-2 c =
         leaf = y;
         same =
             down-came (a .l) b p d g (a .from) has (λ i h. refl) (q .ensures .0 has)
-            ∙ down-came (a .l) b p d g (q .result .at) (λ i. getD (k .result) i false) (k .ensures) (e .ensures .0);
+            ∙ down-came (a .l) b p d g (q .result .at) (λ i. i ∈ k .result) (passing-below has (q .result .at) (k .result) (k .ensures)) (e .ensures .0);
         action = λ _. c .before .before .before .before .first-of-kind .ensures;
       },
       omega arith,

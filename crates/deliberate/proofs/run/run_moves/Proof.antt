@@ -2,7 +2,11 @@ use Rattle.paper.proofs.Relation.{false≢true}
 use lib.ListN.{length, drop}
 use Rattle.deliberate.specs.declared.run.RanMoves.{RanMoves}
 use Rattle.deliberate.specs.declared.made.MoveMade.{MoveMade}
-use Rattle.deliberate.specs.Ran.{RanTo}
+use Rattle.deliberate.specs.declared.made.AfterMove.{AfterMove}
+use Rattle.deliberate.specs.Made.{MakesNext, stayed}
+use Rattle.deliberate.proofs.Next.{unmoved, kept-on, kept-off}
+use Rattle.meaning.specs.declared.Mind.{Mind}
+use Rattle.deliberate.specs.Ran.{RanTo, stoppedBy}
 use mathlib.Core.Path.{subst, _≡_, sym}
 use Rattle.choices.specs.Judged.{Marked}
 use mathlib.Core.Logic.{inl, inr}
@@ -51,14 +55,14 @@ returns c =
     let e : l .rest ≡ 128 = (let u = c .before .if1 .taken in omega arith) in
     subst (λ (x : RanMoves). RanTo all x (l .plan) (l .stack)) (sym (c .ended .ensures)) (is-finished (a .l) b p (a .budget) all d (l .stack) (l .rest) (l .count) (l .inv .0) (omega (arith, c .before .before .loop-test .taken)) e)
 
-judged-requires : tie.Need-judged-requires Inv-loop μ-loop
-judged-requires c κs = let l = c .before .before .before .before .loop in (l .inv .0 .ready .card, l .inv .1)
+judge-nodes-requires : tie.Need-judge-nodes-requires Inv-loop μ-loop
+judge-nodes-requires c κs = let l = c .before .before .before .before .loop in (l .inv .0 .ready .card, l .inv .1)
 
 loop-less : tie.Need-loop-less Inv-loop μ-loop
-loop-less c = let l = c .before .before .before .before .before .loop in let k : l .known ≡ false = not-true _ (c .before .before .if2 .taken) in rw (k, c .judged .ensures .2) (omega arith)
+loop-less c = let l = c .before .before .before .before .before .loop in let k : l .known ≡ false = not-true _ (c .before .before .if2 .taken) in rw k (omega arith)
 
 loop-again : tie.Need-loop-again Inv-loop μ-loop
-loop-again c = let l = c .before .before .before .before .before .loop in (l .inv .0, c .judged .ensures .1, λ h. c .judged .ensures .0)
+loop-again c = let l = c .before .before .before .before .before .loop in (l .inv .0, c .judge-nodes .ensures .1, λ h. c .judge-nodes .ensures .0)
 
 make-move-requires : tie.Need-make-move-requires Inv-loop μ-loop
 make-move-requires c κs =
@@ -89,10 +93,11 @@ loop-again-2 c =
     let l = c .before .before .before .before .before .before .before .before .before .before .loop in
     let d = configured (l .cur) (l .plan) in
     let low : l .rest < 128 = (let w = l .inv .0 .remains .within in let u = c .before .before .before .before .before .before .before .before .if1 .left in omega arith) in
-    let s = c .before .before .before .make-move in (
-      is-on (a .l) b p (a .budget) all d (l .stack) (l .rest) (l .count) (l .inv .0) (omega (arith, c .before .before .before .before .before .before .before .before .before .loop-test .taken)) low (s .result) (s .last .1 .1 .1 .0) (s .last .1 .1 .1 .1 .1 .1 .0) (s .ensures) (c .before .before .before .before .before .before .before .before .before .before .before .before .before .before .pre .1) (c .before .enum-told .given .1),
+    let s = c .before .before .before .make-move in
+    let k = subst (λ (x : AfterMove). MakesNext (a .l) b p d (l .stack) (l .rest) x (s .last .1 .1 .1 .0) (s .last .1 .1 .1 .1 .1 .1 .0)) (kept-on (s .result) (l .rest) (c .before .enum-told .given .1)) (s .ensures) in (
+      is-on (a .l) b p (a .budget) all d (l .stack) (l .rest) (l .count) (l .inv .0) (omega (arith, c .before .before .before .before .before .before .before .before .before .loop-test .taken)) low (s .result) (s .last .1 .1 .1 .0) (s .last .1 .1 .1 .1 .1 .1 .0) k (c .before .before .before .before .before .before .before .before .before .before .before .before .before .before .pre .1) (c .before .enum-told .given .1),
       l .inv .1,
-      λ h. s .ensures .keeps h (l .marks) (l .inv .2 (not-false _ (c .before .before .before .before .before .before .before .if2 .left))),
+      λ h. k .keeps h (l .marks) (l .inv .2 (not-false _ (c .before .before .before .before .before .before .before .if2 .left))),
     )
 
 ended-requires-2 : tie.Need-ended-requires-2 Inv-loop μ-loop
@@ -111,9 +116,12 @@ returns-2 c =
     let left = s .last .1 .1 .1 .1 .1 .1 .0 in
     let told = c .before .before .match .keys2 in
     let off : s .result .made ≡ MoveMade.On → ⊥ = λ e. (elim (rw e at told) [ inl h ↦ absurd (omega arith) | inr h ↦ absurd (omega arith) ]) in
+    let x = stayed (s .result .mind) (s .result .made) (l .rest) in
+    let k = subst (λ (x : AfterMove). MakesNext (a .l) b p d (l .stack) (l .rest) x (s .last .1 .1 .1 .0) left) (kept-off (s .result) (l .rest) off) (s .ensures) in
     subst (λ (x : RanMoves). RanTo all x (s .last .1 .1 .1 .0) left) (sym (c .ended2 .ensures))
-    (subst (λ e. RanTo all (record { mind = s .result .mind; count = l .count; ending = e; top = s .result .top }) (s .last .1 .1 .1 .0) left) (sym (c .before .stopped .ensures))
-    (is-stopped (a .l) b p (a .budget) all d (l .stack) (l .rest) (l .count) (l .inv .0) (omega (arith, c .before .before .before .before .before .before .before .before .before .loop-test .taken)) low (s .result) (s .last .1 .1 .1 .0) left (s .ensures) off))
+    (subst (λ e. RanTo all (record { mind = l .cur; count = l .count; ending = e; top = l .rest }) (s .last .1 .1 .1 .0) left) (sym (c .before .stopped .ensures))
+    (subst (λ (m : Mind). RanTo all (record { mind = m; count = l .count; ending = stoppedBy (s .result .made); top = l .rest }) (s .last .1 .1 .1 .0) left) (unmoved _ k off)
+    (is-stopped (a .l) b p (a .budget) all d (l .stack) (l .rest) (l .count) (l .inv .0) (omega (arith, c .before .before .before .before .before .before .before .before .before .loop-test .taken)) low x (s .last .1 .1 .1 .0) left k off)))
 
 ended-requires-3 : tie.Need-ended-requires-3 Inv-loop μ-loop
 ended-requires-3 c κs = search needs
@@ -138,7 +146,7 @@ run-moves-spec =
     loop-holds
     ended-requires
     returns
-    judged-requires
+    judge-nodes-requires
     loop-less
     loop-again
     make-move-requires

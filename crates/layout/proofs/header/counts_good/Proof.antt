@@ -17,7 +17,7 @@ in-range-requires-3 c κs = search needs
 
 returns : tie.Need-returns
 unfolding countsGood
-returns c = rw (c .before .before .before .before .before .before .before .before .in-range .ensures, c .before .before .before .before .before .before .in-range2 .ensures, c .before .before .before .before .in-range3 .ensures, c .before .before .before .before .before .before .before .before .before .before .most-atoms .ensures)
+returns c = rw (c .before .before .before .before .before .before .before .before .in-range .ensures, c .before .before .before .before .before .before .in-range2 .ensures, c .before .before .before .before .in-range3 .ensures, c .before .before .before .before .before .before .before .before .before .before .most-atoms .ensures .0)
 
 pub counts-good-spec : {M : Type 1} → statement M
 counts-good-spec =

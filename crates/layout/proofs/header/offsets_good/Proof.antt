@@ -27,7 +27,7 @@ end-of-requires-5 c κs = search needs
 returns : tie.Need-returns
 unfolding offsetsGood
 returns c =
-    rw (c .end-of5 .ensures, c .before .end-of4 .ensures, c .before .before .before .end-of3 .ensures, c .before .before .before .before .before .end-of2 .ensures, c .before .before .before .before .before .before .before .before .end-of .ensures, c .before .before .before .before .before .before .before .before .before .before .before .header-bytes .ensures, c .before .before .before .before .before .before .specification-bytes .ensures)
+    rw (c .end-of5 .ensures, c .before .end-of4 .ensures, c .before .before .before .end-of3 .ensures, c .before .before .before .before .before .end-of2 .ensures, c .before .before .before .before .before .before .before .before .end-of .ensures, c .before .before .before .before .before .before .before .before .before .before .before .header-bytes .ensures .0, c .before .before .before .before .before .before .specification-bytes .ensures .0)
 
 pub offsets-good-spec : {M : Type 1} → statement M
 offsets-good-spec =

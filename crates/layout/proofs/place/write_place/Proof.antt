@@ -9,10 +9,10 @@ use Rattle.layout.proofs.place.write_place.Statement.{statement}
 use Rattle.layout.proofs.place.write_place.Tie as tie
 
 -- the sets are as long as their types say
-lb : (c : tie.Start) → length (c .args .m .beliefs) ≡ 16
+lb : (c : tie.Start) → length (c .args .m .beliefs) ≡ 32
 lb c = search needs
 
-lg : (c : tie.Start) → length (c .args .m .goals) ≡ 16
+lg : (c : tie.Start) → length (c .args .m .goals) ≡ 32
 lg c = search needs
 
 header-of-requires : tie.Need-header-of-requires
@@ -40,7 +40,7 @@ returns c =
     let d₃ = c .before .before .before .before .before .before .before .before .before .write-sets in
     let d₄ = c .before .before .copy2 in
     let p = c .before .before .before .before .before .plan-at in
-    place-written (a .l) (configured (a .m) (now (a .plan))) (p .result) (p .ensures) (now (a .out)) (d₁ .last .0) (d₃ .last .1 .1 .1 .0) (d₄ .last .0) (lb s) (lg s) (s .pre .2) (s .pre .0)
+    place-written (a .l) (configured (a .m) (now (a .plan))) (p .result) (p .ensures .0) (now (a .out)) (d₁ .last .0) (d₃ .last .1 .1 .1 .0) (d₄ .last .0) (lb s) (lg s) (s .pre .2) (s .pre .0)
     (h .result) (h .ensures) (ap length (h .ensures)) (d₁ .ensures) (d₃ .ensures) (d₄ .ensures)
 
 pub write-place-spec : {M : Type 1} → statement M

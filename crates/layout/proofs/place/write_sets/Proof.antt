@@ -6,10 +6,10 @@ use Rattle.layout.proofs.place.write_sets.Statement.{statement}
 use Rattle.layout.proofs.place.write_sets.Tie as tie
 
 -- the sets are as long as their types say
-lb : (c : tie.Start) → length (c .args .t2) ≡ 16
+lb : (c : tie.Start) → length (c .args .t2) ≡ 32
 lb c = search needs
 
-lg : (c : tie.Start) → length (c .args .t3) ≡ 16
+lg : (c : tie.Start) → length (c .args .t3) ≡ 32
 lg c = search needs
 
 set-bytes-requires : tie.Need-set-bytes-requires
@@ -25,7 +25,7 @@ copy-requires-2 : tie.Need-copy-requires-2
 copy-requires-2 c κs = let s = c .before .before .before .before .before .before .before .before .before .before in (omega (arith, c .before .before .before .before .before .copy .kept .0, s .pre), omega (arith, lg s))
 
 returns : tie.Need-returns
-returns c = c .before .before .copy2 .ensures ∙ rw (c .before .before .before .before .before .before .before .before .copy .ensures, c .before .before .before .before .place-goals-at .ensures, c .before .before .before .before .before .before .before .before .before .before .before .set-bytes .ensures)
+returns c = c .before .before .copy2 .ensures ∙ rw (c .before .before .before .before .before .before .before .before .copy .ensures, c .before .before .before .before .place-goals-at .ensures .0, c .before .before .before .before .before .before .before .before .before .before .before .set-bytes .ensures .0)
 
 pub write-sets-spec : {M : Type 1} → statement M
 write-sets-spec =

@@ -1,16 +1,15 @@
-use Rattle.paper.specs.Atoms.{_∪_, _∖_}
+use Rattle.paper.specs.Atoms.{_∖_}
 use Rattle.paper.specs.Transitions.{σ′, γ′}
 use Rattle.moves.specs.declared.step.Stepped.{Stepped}
 use Rattle.meaning.specs.Configurations.{padded, configurationOf}
 use Rattle.meaning.specs.Card.{specificationOf}
 use Rattle.runs.specs.Order.{kind, number}
 use Rattle.runs.specs.Step.{Reached}
-use Rattle.meaning.specs.declared.SpecificationEntry.{SpecificationEntry}
 use Rattle.moves.specs.Steps.{transitionOf, configurationAfter}
 use Rattle.moves.proofs.Finished.{finished-at}
 use Rattle.moves.proofs.Stepping.{specification-known, plan-not-empty, acted-length, acts-to}
 use Rattle.layout.specs.PlaceParts.{configured}
-use mathlib.Core.Path.{sym, ap, ap₂, _∙_}
+use mathlib.Core.Path.{sym, ap, _∙_}
 use native.Mathlib.Omega.{arith}
 use borrow.Author.Needs.{needs}
 use denote.Ref.{now}
@@ -18,46 +17,40 @@ use lib.ListN.{length, take, drop}
 use Rattle.moves.proofs.step.step_action.Statement.{statement}
 use Rattle.moves.proofs.step.step_action.Tie as tie
 
-read-specification-requires : tie.Need-read-specification-requires
-read-specification-requires c κs =
-    let a = c .before .args in
-    (c .before .pre .0 .card .layout, specification-known (a .l) (now (a .card)) (configured (a .m) (now (a .plan))) (c .before .pre .0) (a .i) (c .before .pre .1))
-
-union-requires : tie.Need-union-requires
-union-requires c κs = search needs
+act-on-requires : tie.Need-act-on-requires
+act-on-requires c κs =
+    let s = c .before .before .before .before in
+    let a = s .args in
+    (search needs, s .pre .0 .card .layout, specification-known (a .l) (now (a .card)) (configured (a .m) (now (a .plan))) (s .pre .0) (a .i) (s .pre .1))
 
 difference-requires : tie.Need-difference-requires
 difference-requires c κs = search needs
 
-difference-requires-2 : tie.Need-difference-requires-2
-difference-requires-2 c κs = search needs
-
 drop-front-requires : tie.Need-drop-front-requires
 drop-front-requires c κs =
-    let a = c .before .before .before .before .before .before .before .before .before .before .before .args in
-    (plan-not-empty (a .l) (now (a .card)) (configured (a .m) (now (a .plan))) (c .before .before .before .before .before .before .before .before .before .before .before .pre .0) (a .i) (c .before .before .before .before .before .before .before .before .before .before .before .pre .1), c .before .before .before .before .before .before .before .before .before .before .before .pre .0 .fits, c .before .before .before .before .before .before .before .before .before .before .before .pre .0 .zeros)
+    let s = c .before .before .before .before .before .before .before .before .before in
+    let a = s .args in
+    (plan-not-empty (a .l) (now (a .card)) (configured (a .m) (now (a .plan))) (s .pre .0) (a .i) (s .pre .1), s .pre .0 .fits, s .pre .0 .zeros)
 
 sub-taken : tie.Need-sub-taken
 sub-taken c =
-    let a = c .before .before .before .before .before .before .before .before .before .before .before .before .args in
-    plan-not-empty (a .l) (now (a .card)) (configured (a .m) (now (a .plan))) (c .before .before .before .before .before .before .before .before .before .before .before .before .pre .0) (a .i) (c .before .before .before .before .before .before .before .before .before .before .before .before .pre .1)
+    let s = c .before .before .before .before .before .before .before .before .before .before in
+    let a = s .args in
+    plan-not-empty (a .l) (now (a .card)) (configured (a .m) (now (a .plan))) (s .pre .0) (a .i) (s .pre .1)
 
 taken-requires : tie.Need-taken-requires
-taken-requires c κs = (let f = c .before .before .before .before .before .before .before .before .before .before .before .before .pre .0 .fits in omega arith, omega arith)
+taken-requires c κs = (let f = c .before .before .before .before .before .before .before .before .before .before .pre .0 .fits in omega arith, omega arith)
 
 returns : tie.Need-returns
 unfolding configurationOf kind number σ′ γ′ specificationOf
 returns c =
-    let a = c .before .before .before .before .before .before .before .before .before .before .before .before .before .args in
-    let b = now (a .card) in
+    let s = c .before .before .before .before .before .before .before .before .before .before .before in
+    let a = s .args in
     let d = configured (a .m) (now (a .plan)) in
-    let t = acts-to (a .l) (now (a .card)) (configured (a .m) (now (a .plan))) (c .before .before .before .before .before .before .before .before .before .before .before .before .before .pre .0) (a .i) (c .before .before .before .before .before .before .before .before .before .before .before .before .before .pre .1) in
-    let e = c .before .before .before .before .before .before .before .before .before .before .before .read-specification .ensures in
-    let add = ap (λ (x : SpecificationEntry). x .add) e in
-    let del = ap (λ (x : SpecificationEntry). x .del) e in
-    let beliefs = c .before .before .before .before .difference .ensures ∙ ap₂ _∖_ (c .before .before .before .before .before .union .ensures ∙ ap (λ x. a .m .beliefs ∪ x) add) del in
-    let goals = c .before .before .before .difference2 .ensures ∙ ap (λ x. a .m .goals ∖ x) beliefs in
-    let n = sym (acted-length (a .l) (now (a .card)) (configured (a .m) (now (a .plan))) (c .before .before .before .before .before .before .before .before .before .before .before .before .before .pre .0) (a .i) (c .before .before .before .before .before .before .before .before .before .before .before .before .before .pre .1)) in
+    let t = acts-to (a .l) (now (a .card)) (configured (a .m) (now (a .plan))) (s .pre .0) (a .i) (s .pre .1) in
+    let beliefs = c .before .before .before .before .before .before .act-on .ensures in
+    let goals = c .before .before .before .difference .ensures ∙ ap (λ x. a .m .goals ∖ x) beliefs in
+    let n = sym (acted-length (a .l) (now (a .card)) (configured (a .m) (now (a .plan))) (s .pre .0) (a .i) (s .pre .1)) in
     let f = finished-at (a .m .finished) _ _ n in
     let r = c .taken .ensures in (
       ap (λ (x : Stepped). x .transition) r ∙ ap transitionOf (sym t),
@@ -68,11 +61,10 @@ pub step-action-spec : {M : Type 1} → statement M
 step-action-spec =
     tie.close
     (tie.spec
-    read-specification-requires
     (λ c. search needs)
-    union-requires
+    (λ c. search needs)
+    act-on-requires
     difference-requires
-    difference-requires-2
     drop-front-requires
     sub-taken
     taken-requires

@@ -8,8 +8,8 @@ use denote.Ref.{now}
 use Rattle.place.proofs.judge.from_mark.Statement.{statement}
 use Rattle.place.proofs.judge.from_mark.Tie as tie
 
-mark-good-requires : tie.Need-mark-good-requires
-mark-good-requires c κs = search needs
+place-mark-good-requires : tie.Need-place-mark-good-requires
+place-mark-good-requires c κs = search needs
 
 row-requires : tie.Need-row-requires
 row-requires c κs = search needs
@@ -21,28 +21,28 @@ returns : tie.Need-returns
 unfolding rowsFrom placeTable
 returns c =
     let b = now (c .before .before .before .before .before .args .p) in
-    let good = c .before .before .before .mark-good in
+    let good = c .before .before .before .place-mark-good in
     stops _ _ b (good .result) (ap not (sym (good .ensures))) (c .before .before .row .result) (c .before .before .row .ensures) _ (c .enum-told2 .given .1)
 
-from-counts-requires : tie.Need-from-counts-requires
-from-counts-requires c κs = search needs
+from-header-requires : tie.Need-from-header-requires
+from-header-requires c κs = search needs
 
 returns-2 : tie.Need-returns-2
 unfolding rowsFrom placeTable
 returns-2 c =
     let b = now (c .before .before .before .before .before .before .args .p) in
-    let good = c .before .before .before .before .mark-good in
+    let good = c .before .before .before .before .place-mark-good in
     let told = c .before .before .before .row in
-    c .from-counts .ensures ∙ sym (goes-on _ _ b (good .result) (ap not (sym (good .ensures))) (told .result) (told .ensures) (c .before .enum-told .given .1))
+    c .from-header .ensures ∙ sym (goes-on _ _ b (good .result) (ap not (sym (good .ensures))) (told .result) (told .ensures) (c .before .enum-told .given .1))
 
 pub from-mark-spec : {M : Type 1} → statement M
 from-mark-spec =
     tie.close
     (tie.spec
-    mark-good-requires
+    place-mark-good-requires
     row-requires
     enum-told
     (λ c. search needs)
     returns
-    from-counts-requires
+    from-header-requires
     returns-2)

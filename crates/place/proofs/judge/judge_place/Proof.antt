@@ -1,4 +1,3 @@
-use borrow.Author.Tests.{leb-true}
 use Rattle.meaning.specs.Refusals.{placeTable}
 use Rattle.card.specs.Rows.{rowsFrom}
 use Rattle.card.proofs.Rows.{stops, goes-on, row-done}
@@ -9,8 +8,8 @@ use denote.Ref.{now}
 use Rattle.place.proofs.judge.judge_place.Statement.{statement}
 use Rattle.place.proofs.judge.judge_place.Tie as tie
 
-length-good-requires : tie.Need-length-good-requires
-length-good-requires c κs = search needs
+has-edition-requires : tie.Need-has-edition-requires
+has-edition-requires c κs = search needs
 
 row-requires : tie.Need-row-requires
 row-requires c κs = search needs
@@ -22,27 +21,27 @@ returns : tie.Need-returns
 unfolding placeTable
 returns c =
     let b = now (c .before .before .before .before .before .args .p) in
-    let good = c .before .before .before .length-good in
-    stops _ _ b (good .result) (ap not (sym (good .ensures))) (c .before .before .row .result) (c .before .before .row .ensures) _ (c .enum-told2 .given .1)
+    let good = c .before .before .before .has-edition in
+    stops _ _ b (good .result) (ap not (sym (good .ensures .0))) (c .before .before .row .result) (c .before .before .row .ensures) _ (c .enum-told2 .given .1)
 
 from-mark-requires : tie.Need-from-mark-requires
 from-mark-requires c κs =
     let good = row-done _ _ (sym (c .before .before .row .ensures) ∙ c .enum-told .given .1) in
-    (leb-true 44 _ (sym (c .before .before .before .length-good .ensures) ∙ good), c .before .before .before .before .before .pre)
+    (c .before .before .before .has-edition .ensures .1 good, c .before .before .before .before .before .pre)
 
 returns-2 : tie.Need-returns-2
 unfolding rowsFrom placeTable
 returns-2 c =
     let b = now (c .before .before .before .before .before .before .args .p) in
-    let good = c .before .before .before .before .length-good in
+    let good = c .before .before .before .before .has-edition in
     let told = c .before .before .before .row in
-    c .from-mark .ensures ∙ sym (goes-on _ _ b (good .result) (ap not (sym (good .ensures))) (told .result) (told .ensures) (c .before .enum-told .given .1))
+    c .from-mark .ensures ∙ sym (goes-on _ _ b (good .result) (ap not (sym (good .ensures .0))) (told .result) (told .ensures) (c .before .enum-told .given .1))
 
 pub judge-place-spec : {M : Type 1} → statement M
 judge-place-spec =
     tie.close
     (tie.spec
-    length-good-requires
+    has-edition-requires
     row-requires
     enum-told
     (λ c. search needs)

@@ -10,7 +10,7 @@ plan-at-requires : tie.Need-plan-at-requires
 plan-at-requires c κs = search needs
 
 returns : tie.Need-returns
-returns c = ap (λ n. leb n (length (now (c .before .before .args .p)))) (c .plan-at .ensures)
+returns c = ap (λ n. leb n (length (now (c .before .before .args .p)))) (c .plan-at .ensures .0)
 
 pub length-good-spec : {M : Type 1} → statement M
 length-good-spec = tie.close (tie.spec plan-at-requires returns)

@@ -1,3 +1,4 @@
+use Rattle.meaning.specs.Sizes.{setBytes, planAt}
 use Rattle.layout.specs.declared.place.PlaceParts.{PlaceParts}
 use lib.Dec.{eqb}
 use lib.ListN.{length}
@@ -18,7 +19,7 @@ place-size-requires c κs = search needs
 returns : tie.Need-returns
 returns c =
     let a = c .before .before .before .before .args in
-    (λ i. eqb (a .h .offset) (c .before .before .plan-at .ensures i) && eqb (length (now (a .p))) (c .place-size .ensures i)) ∙ ap (λ (h : PlaceParts). eqb (h .offset) 44 && eqb (length (now (c .before .before .before .before .args .p))) (44 + h .length)) (c .before .before .before .before .pre .0)
+    (λ i. eqb (a .h .offset) (c .before .before .plan-at .ensures .0 i) && eqb (length (now (a .p))) (c .place-size .ensures i)) ∙ ap (λ (h : PlaceParts). eqb (h .offset) (planAt (setBytes (a .l))) && eqb (length (now (c .before .before .before .before .args .p))) (planAt (setBytes (a .l)) + h .length)) (c .before .before .before .before .pre .0)
 
 pub offsets-good-spec : {M : Type 1} → statement M
 offsets-good-spec = tie.close (tie.spec plan-at-requires place-size-requires returns)

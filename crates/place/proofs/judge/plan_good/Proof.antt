@@ -1,3 +1,4 @@
+use Rattle.meaning.specs.Sizes.{setBytes, planAt}
 use Rattle.meaning.specs.Refusals.{actionsGood}
 use Rattle.meaning.specs.Card.{part}
 use lib.Seq.{take-all}
@@ -20,9 +21,10 @@ returns : tie.Need-returns
 unfolding part
 returns c =
     let b = now (c .before .before .before .before .args .p) in
-    let at = c .before .before .plan-at .ensures in
-    let n : length (drop 44 b) ≡ length b - 44 = length-drop 44 b in
-    c .actions-good .ensures ∙ (λ i. actionsGood (c .before .before .before .before .args .l .actions) (part b (at i) (length b - at i))) ∙ ap (actionsGood (c .before .before .before .before .args .l .actions)) (take-all (length b - 44) (drop 44 b) (omega arith))
+    let at = c .before .before .plan-at .ensures .0 in
+    let k = planAt (setBytes (c .before .before .before .before .args .l)) in
+    let n : length (drop k b) ≡ length b - k = length-drop k b in
+    c .actions-good .ensures ∙ (λ i. actionsGood (c .before .before .before .before .args .l .actions) (part b (at i) (length b - at i))) ∙ ap (actionsGood (c .before .before .before .before .args .l .actions)) (take-all (length b - k) (drop k b) (omega arith))
 
 pub plan-good-spec : {M : Type 1} → statement M
 plan-good-spec = tie.close (tie.spec plan-at-requires (λ c. search needs) (λ c. search needs) actions-good-requires returns)

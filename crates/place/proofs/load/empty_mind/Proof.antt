@@ -13,7 +13,7 @@ fill-requires c κs = search needs
 
 returns : tie.Need-returns
 unfolding part empty configurationOf
-returns c = λ i. record { mind = record { beliefs = replicate 16 0; goals = replicate 16 0; length = 0; phase = 0; finished = 0 }; plan = c .fill .ensures i }
+returns c = λ i. record { mind = record { beliefs = replicate 32 0; goals = replicate 32 0; length = 0; phase = 0; finished = 0 }; plan = c .fill .ensures i }
 
 pub empty-mind-spec : {M : Type 1} → statement M
 empty-mind-spec = tie.close (tie.spec size-requires (λ c. search needs) fill-requires returns)

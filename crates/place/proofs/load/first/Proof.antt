@@ -1,6 +1,6 @@
 use Rattle.meaning.proofs.Parts.{length-part}
 use Rattle.meaning.specs.Configurations.{padded, configurationOf}
-use Rattle.meaning.specs.Card.{part, plan, initialPlan, start}
+use Rattle.meaning.specs.Card.{part, plan, initialPlan, start, initialBeliefs, initialGoals}
 use Rattle.meaning.specs.declared.Layout.{Layout}
 use Rattle.paper.specs.Transitions.{struckBy}
 use mathlib.Core.Path.{_≡_, sym, ap, _∙_}
@@ -38,8 +38,8 @@ returns c =
     let at = a .l .pool .offset + a .l .initial .start in
     let π : part b at (a .l .initial .length) ≡ initialPlan b = ap (λ (x : Layout). plan x b (x .initial)) (d .says) in
     let n : a .l .initial .length ≡ length (initialPlan b) = sym (length-part b at (a .l .initial .length) (omega arith)) ∙ ap length π in
-    let σ = c .before .before .before .before .initial-beliefs .ensures in
-    let γ = c .before .before .difference .ensures ∙ (λ i. struckBy (σ i) (c .before .before .before .initial-goals .ensures i)) in
+    let σ = c .before .before .before .before .initial-beliefs .ensures ∙ ap (λ (x : Layout). initialBeliefs x b) (d .says) in
+    let γ = c .before .before .difference .ensures ∙ (λ i. struckBy (σ i) ((c .before .before .before .initial-goals .ensures ∙ ap (λ (x : Layout). initialGoals x b) (d .says)) i)) in
     let q = c .fill .ensures ∙ ap padded ((λ i. part b (c .before .before .before .before .before .pool-at .ensures i) (a .l .initial .length)) ∙ π) in
     λ i. record { mind = record { beliefs = σ i; goals = γ i; length = n i; phase = 0; finished = 0 }; plan = q i }
 

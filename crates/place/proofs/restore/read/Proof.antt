@@ -1,3 +1,4 @@
+use Rattle.meaning.specs.Sizes.{setBytes, planAt}
 use Rattle.layout.specs.declared.place.PlaceParts.{PlaceParts}
 use Rattle.meaning.specs.Configurations.{padded, configurationOf}
 use Rattle.meaning.specs.Place.{placed}
@@ -35,9 +36,10 @@ returns c =
     let h = c .before .before .before .before .before .before .before .read-parts .ensures .0 in
     let n = c .before .before .before .before .before .before .before .read-parts .result .length in
     let e : n ≡ numberAt b 4 = ap (λ (x : PlaceParts). x .length) h in
-    let l : length (drop 44 b) ≡ n = length-drop 44 b ∙ omega arith in
-    let π : part b 44 n ≡ drop 44 b = take-all n (drop 44 b) (omega arith) in
-    let q = c .fill .ensures ∙ (λ i. padded (part b (c .before .plan-at .ensures i) n)) ∙ ap padded π in
+    let at = planAt (setBytes (c .before .before .before .before .before .before .before .before .before .args .l)) in
+    let l : length (drop at b) ≡ n = length-drop at b ∙ omega arith in
+    let π : part b at n ≡ drop at b = take-all n (drop at b) (omega arith) in
+    let q = c .fill .ensures ∙ (λ i. padded (part b (c .before .plan-at .ensures .0 i) n)) ∙ ap padded π in
     λ i. record { mind = record { beliefs = h i .beliefs; goals = h i .goals; length = sym l i; phase = h i .phase; finished = h i .finished }; plan = q i }
 
 pub read-spec : {M : Type 1} → statement M

@@ -17,10 +17,10 @@ use Rattle.place.proofs.save.save.Statement.{statement}
 use Rattle.place.proofs.save.save.Tie as tie
 
 -- the sets of the configuration are as long as their types say
-lb : (c : tie.Start) → length (c .args .m .beliefs) ≡ 16
+lb : (c : tie.Start) → length (c .args .m .beliefs) ≡ 32
 lb c = search needs
 
-lg : (c : tie.Start) → length (c .args .m .goals) ≡ 16
+lg : (c : tie.Start) → length (c .args .m .goals) ≡ 32
 lg c = search needs
 
 admit-requires : tie.Need-admit-requires
@@ -83,9 +83,11 @@ returns-2 c = too-short (c .before) _ (c .refused-write2 .ensures)
 
 cast-count : tie.Need-cast-count
 cast-count c =
-    let h = c .before .before .before .before .before .before .before .before .admit .ensures .1 _ (c .before .before .before .before .before .before .admitted .given .1) .fits in
+    let h = c .before .before .before .before .before .before .before .before .admit .ensures .1 _ (c .before .before .before .before .before .before .admitted .given .1) in
+    let k = h .card .layout .set-most in
+    let f = h .fits in
     let n = c .before .before .before .place-size .ensures in
-    search (needs, h, n)
+    search (needs, f, n, k)
 
 write-place-requires : tie.Need-write-place-requires
 write-place-requires c κs =

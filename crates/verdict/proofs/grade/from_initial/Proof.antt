@@ -19,7 +19,7 @@ plan-weight-requires : tie.Need-plan-weight-requires
 plan-weight-requires c κs =
     let a = c .before .before .before .before .args in
     let p = c .before .before .before .before .pre in
-    ((weighable (a .l) (now (a .card)) (p .0) _ (c .header-bytes .ensures), p .1), p .0 .initial .inside)
+    ((weighable (a .l) (now (a .card)) (p .0) _ (c .header-bytes .ensures .0), p .1), p .0 .initial .inside)
 
 heaviest-plan-requires : tie.Need-heaviest-plan-requires
 heaviest-plan-requires c κs = search needs

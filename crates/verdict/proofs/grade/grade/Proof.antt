@@ -39,7 +39,7 @@ sum-requires : tie.Need-sum-requires
 sum-requires c κs =
     let b = now (c .before .before .before .before .before .before .before .before .before .args .card) in
     let j = good-judged b _ (sym (c .before .before .before .before .before .before .before .check .ensures) ∙ c .before .before .before .before .before .v .given .1) in
-    (weighable _ b (good-card _ b (j .0) (j .1)) _ (c .before .header-bytes .ensures), c .before .before .before .no-sums .ensures)
+    (weighable _ b (good-card _ b (j .0) (j .1)) _ (c .before .header-bytes .ensures .0), c .before .before .before .no-sums .ensures)
 
 from-initial-requires : tie.Need-from-initial-requires
 from-initial-requires c κs =

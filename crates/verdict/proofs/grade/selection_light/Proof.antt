@@ -19,7 +19,7 @@ plan-weight-requires c κs =
     let a = c .before .before .before .before .args in
     let p = c .before .before .before .before .pre in
     let e = ap (λ (x : SelectionEntry). x .plan) (c .before .before .read-selection .ensures .0) in
-    ((weighable (a .l) (now (a .card)) (p .0) _ (c .header-bytes .ensures), p .1), good-as (a .l) 1 _ _ e (p .0 .selections (a .i) (p .2) .plan) .inside)
+    ((weighable (a .l) (now (a .card)) (p .0) _ (c .header-bytes .ensures .0), p .1), good-as (a .l) 1 _ _ e (p .0 .selections (a .i) (p .2) .plan) .inside)
 
 heaviest-plan-requires : tie.Need-heaviest-plan-requires
 heaviest-plan-requires c κs = search needs

@@ -1,0 +1,34 @@
+use Rattle.layout.specs.PlaceParts.{configured}
+use Rattle.meaning.specs.Refusals.{answerNumber}
+use Rattle.meaning.specs.declared.Mind.{Mind}
+use Rattle.meaning.specs.declared.Written.{Written}
+use Rattle.meaning.specs.Calls.{lists, listLeaves}
+use mathlib.Core.Path.{ap, _∙_}
+use borrow.Author.Needs.{needs}
+use denote.Ref.{now}
+use Rattle.board.proofs.rigtemple_4_list_parts.Statement.{statement}
+use Rattle.board.proofs.rigtemple_4_list_parts.Tie as tie
+
+mind-requires : tie.Need-mind-requires
+mind-requires c κs = search needs
+
+list-requires : tie.Need-list-requires
+list-requires c κs = search needs
+
+answer-number-requires : tie.Need-answer-number-requires
+answer-number-requires c κs = search needs
+
+returns : tie.Need-returns
+returns c =
+    let a = c .before .before .before .before .before .before .before .before .args in
+    let t = c .before .before .before .list .ensures in
+    let m = c .before .before .before .before .before .mind .ensures in
+    let e = t .0 ∙ ap (λ (x : Mind). lists (now (a .card)) (configured x (now (a .plan))) (now (a .list))) m in (
+      c .answer-number .ensures ∙ ap (λ (x : Written). answerNumber (x .answer)) e,
+      ap (λ (x : Written). x .count) e,
+      t .1 ∙ ap (λ (x : Mind). listLeaves (now (a .card)) (configured x (now (a .plan))) (now (a .list))) m,
+    )
+
+pub rigtemple-4-list-parts-spec : {M : Type 1} → statement M
+rigtemple-4-list-parts-spec =
+    tie.close (tie.spec mind-requires list-requires answer-number-requires (λ c. search needs) returns)

@@ -1,0 +1,50 @@
+use Rattle.board.specs.Header.{whole}
+use Rattle.layout.specs.PlaceParts.{configured}
+use Rattle.meaning.specs.Refusals.{answerNumber}
+use Rattle.meaning.specs.declared.Mind.{Mind}
+use Rattle.meaning.specs.Numbers.{endingNumber}
+use Rattle.meaning.specs.declared.Ran.{Ran}
+use Rattle.meaning.specs.Calls.{runs}
+use mathlib.Core.Path.{ap, _∙_}
+use borrow.Author.Needs.{needs}
+use denote.Ref.{now}
+use Rattle.board.proofs.rigtemple_4_run_parts.Statement.{statement}
+use Rattle.board.proofs.rigtemple_4_run_parts.Tie as tie
+
+mind-requires : tie.Need-mind-requires
+mind-requires c κs = search needs
+
+run-requires : tie.Need-run-requires
+run-requires c κs = search needs
+
+put-requires : tie.Need-put-requires
+put-requires c κs = search needs
+
+ending-number-requires : tie.Need-ending-number-requires
+ending-number-requires c κs = search needs
+
+answer-number-requires : tie.Need-answer-number-requires
+answer-number-requires c κs = search needs
+
+returns : tie.Need-returns
+returns c =
+    let a = c .before .before .before .before .before .before .before .before .before .before .before .before .before .before .before .before .before .before .args in
+    let t = c .before .before .before .before .before .before .before .before .before .run in
+    let u = c .before .before .put .ensures in
+    let e = t .ensures ∙ ap (λ (x : Mind). runs (now (a .card)) (configured x (now (a .plan))) (a .budget)) (c .before .before .before .before .before .before .before .before .before .before .before .mind .ensures) in (
+      c .answer-number .ensures ∙ ap (λ (x : Ran). answerNumber (x .answer)) e,
+      (λ i. whole (u .0 i) (u .1 i) (t .last .1 .1 .0) (u .2 i) (u .3 i) (u .4 i)) ∙ ap (λ (x : Ran). x .configuration) e,
+      ap (λ (x : Ran). x .count) e,
+      c .before .ending-number .ensures ∙ ap (λ (x : Ran). endingNumber (x .ending)) e,
+    )
+
+pub rigtemple-4-run-parts-spec : {M : Type 1} → statement M
+rigtemple-4-run-parts-spec =
+    tie.close
+    (tie.spec
+    mind-requires
+    run-requires
+    put-requires
+    ending-number-requires
+    answer-number-requires
+    returns)

@@ -1,0 +1,12 @@
+pub mod Widening
+pub mod Rows
+pub mod Orders
+pub mod Cards
+pub mod Reading
+pub mod Places
+pub mod Moves
+pub mod Closed
+pub mod Calls
+pub mod AsBefore
+pub mod Edition2
+pub mod Cases

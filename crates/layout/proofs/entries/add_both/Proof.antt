@@ -1,0 +1,33 @@
+use Rattle.meaning.specs.Card.{specificationAt}
+use borrow.Author.Needs.{needs}
+use Rattle.layout.proofs.entries.add_both.Statement.{statement}
+use Rattle.layout.proofs.entries.add_both.Tie as tie
+
+specification-at-requires : tie.Need-specification-at-requires
+specification-at-requires c κs = search needs
+
+add-set-requires : tie.Need-add-set-requires
+add-set-requires c κs = search needs
+
+del-at-requires : tie.Need-del-at-requires
+del-at-requires c κs = search needs
+
+add-set-requires-2 : tie.Need-add-set-requires-2
+add-set-requires-2 c κs = search needs
+
+returns : tie.Need-returns
+unfolding specificationAt
+returns c = cc
+
+pub add-both-spec : {M : Type 1} → statement M
+add-both-spec =
+    tie.close
+    (tie.spec
+    specification-at-requires
+    (λ c. search needs)
+    add-set-requires
+    del-at-requires
+    (λ c. search needs)
+    add-set-requires-2
+    (λ c. search needs)
+    returns)
