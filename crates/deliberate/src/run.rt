@@ -8,28 +8,30 @@ ghost use Rattle.program.specs.GoodProgram.{GoodProgram};
 ghost use Rattle.deliberate.specs.Made.{Remains};
 ghost use Rattle.deliberate.specs.Ran.{RanTo, stoppedBy};
 use crate::made::MoveMade;
+use crate::made::Point;
 use crate::made::make_move;
 use choices::truth::judge_nodes;
 use choices::truth::no_marks;
 use deliberation::DeliberationEnding;
 use meaning::Layout;
-use meaning::Mind;
 use meaning::Plan;
+use meaning::Set;
+use meaning::Standing;
 
-// What a deliberation comes to beside the plan and the numbers that remain: where these begin.
+// What a deliberation comes to beside the sets, the plan and the numbers that remain: where these begin.
 pub struct RanMoves {
-    pub mind: Mind,
+    pub standing: Standing,
     pub count: u16,
     pub ending: DeliberationEnding,
     pub top: usize,
 }
 
 // Where a deliberation ends.
-fn ended(m: Mind, count: u16, ending: DeliberationEnding, top: usize) -> RanMoves
-    ensures { λ r. ⌜ r ≡ record { mind = m; count = count; ending = ending; top = top } ⌝ }
+fn ended(m: Standing, count: u16, ending: DeliberationEnding, top: usize) -> RanMoves
+    ensures { λ r. ⌜ r ≡ record { standing = m; count = count; ending = ending; top = top } ⌝ }
 {
     RanMoves {
-        mind: m,
+        standing: m,
         count: count,
         ending: ending,
         top: top,
@@ -52,37 +54,44 @@ fn stopped(made: MoveMade) -> DeliberationEnding
 pub fn run_moves(
     card: &[u8],
     l: Layout,
-    m: Mind,
+    beliefs: &mut Set,
+    goals: &mut Set,
+    at: Point,
     plan: &mut Plan,
     program: &[u8],
     budget: u16,
     stack: &mut [u8; 128],
-    top: usize,
 ) -> RanMoves
-    requires { ⌜ Ready l (now card) (configured m (now plan)) × GoodProgram l (now card) (now program) × Remains (now program) (now stack) top ⌝ }
+    requires { ⌜ Ready l (now card) (configured (now beliefs) (now goals) (at .standing) (now plan))
+        × GoodProgram l (now card) (now program) × Remains (now program) (now stack) (at .top) ⌝ }
     ensures { λ r. ⌜ RanTo (deliberate (agentFor l (now (card .entry))) (conditions 𝐁 l (now (card .entry))) (entriesOf (now (program .entry)))
-        budget (drop top (now (stack .entry))) (stateOf (configured m (now (plan .entry))))) r (now (plan .exit)) (now (stack .exit)) ⌝ }
+        budget (drop (at .top) (now (stack .entry))) (stateOf (configured (now (beliefs .entry)) (now (goals .entry)) (at .standing) (now (plan .entry))))) r
+        (configured (now (beliefs .exit)) (now (goals .exit)) (r .standing) (now (plan .exit))) (now (stack .exit)) ⌝ }
 {
-    let mut cur = m;
+    let mut cur = at.standing;
     let mut marks = no_marks();
     let mut known = false;
-    let mut rest = top;
+    let mut rest = at.top;
     let mut count: u16 = 0;
     while count < budget {
         if rest == 128 {
             return ended(cur, count, DeliberationEnding::Finished, rest);
         }
         if !known {
-            judge_nodes(card, l, cur, &mut marks);
+            judge_nodes(card, l, beliefs, goals, &mut marks);
             known = true;
         } else {
-            let moved = make_move(card, l, cur, plan, &marks, program, stack, rest);
+            let here = Point {
+                standing: cur,
+                top: rest,
+            };
+            let moved = make_move(card, l, beliefs, goals, here, plan, &marks, program, stack);
             let made = moved.made;
+            cur = moved.standing;
             let MoveMade::On = made else {
                 return ended(cur, count, stopped(made), rest);
             };
             known = moved.known;
-            cur = moved.mind;
             rest = moved.top;
             count += 1;
         }
