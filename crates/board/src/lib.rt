@@ -18,39 +18,25 @@ use answers::verdict_offender;
 use answers::verdict_rule;
 use card::check::check;
 use meaning::Checked;
-use meaning::Mind;
 use meaning::Plan;
 use meaning::Set;
+use meaning::Standing;
 
-// The mind of a configuration that is lent in its parts.
-fn mind(beliefs: &Set, goals: &Set, length: u16, phase: u8, finished: u16) -> Mind
-    ensures { λ r. ⌜ r ≡ record { beliefs = now (beliefs .entry); goals = now (goals .entry); length = length; phase = phase; finished = finished } ⌝ }
+// All of a configuration that is lent in its parts but its sets and its plan.
+fn standing(length: u16, phase: u8, finished: u16) -> Standing
+    ensures { λ r. ⌜ r ≡ record { length = length; phase = phase; finished = finished } ⌝ }
 {
-    Mind {
-        beliefs: *beliefs,
-        goals: *goals,
+    Standing {
         length: length,
         phase: phase,
         finished: finished,
     }
 }
 
-// A mind into the lent parts.
-fn put(
-    m: Mind,
-    beliefs: &mut Set,
-    goals: &mut Set,
-    length: &mut u16,
-    phase: &mut u8,
-    finished: &mut u16,
-)
-    ensures { λ r. ⌜ (now (beliefs .exit) ≡ m .beliefs) × (now (goals .exit) ≡ m .goals)
-        × (now (length .exit) ≡ m .length) × (now (phase .exit) ≡ m .phase) × (now (finished .exit) ≡ m .finished) ⌝ }
+// The same into the lent parts.
+fn put(m: Standing, length: &mut u16, phase: &mut u8, finished: &mut u16)
+    ensures { λ r. ⌜ (now (length .exit) ≡ m .length) × (now (phase .exit) ≡ m .phase) × (now (finished .exit) ≡ m .finished) ⌝ }
 {
-    let b = m.beliefs;
-    let g = m.goals;
-    *beliefs = b;
-    *goals = g;
     *length = m.length;
     *phase = m.phase;
     *finished = m.finished;
@@ -83,9 +69,9 @@ pub extern "C" fn rigtemple_4_load_parts(
         (whole (now (beliefs .exit)) (now (goals .exit)) (now (plan .exit)) (now (length .exit)) (now (phase .exit))
         (now (finished .exit))) ⌝ }
 {
-    let loaded = place::load::load(card, plan);
-    let m = loaded.mind;
-    put(m, beliefs, goals, length, phase, finished);
+    let loaded = place::load::load(card, beliefs, goals, plan);
+    let m = loaded.standing;
+    put(m, length, phase, finished);
     let a = loaded.answer;
     answer_number(a)
 }
@@ -112,12 +98,14 @@ pub extern "C" fn rigtemple_4_take_parts(
 {
     let taken = moves::take::take(
         card,
-        mind(beliefs, goals, *length, *phase, *finished),
+        beliefs,
+        goals,
+        standing(*length, *phase, *finished),
         plan,
         choice,
     );
-    let m = taken.mind;
-    put(m, beliefs, goals, length, phase, finished);
+    let m = taken.standing;
+    put(m, length, phase, finished);
     let a = taken.answer;
     *node = answer_carried(a) as u16;
     answer_number(a)
@@ -146,12 +134,14 @@ pub extern "C" fn rigtemple_4_run_parts(
 {
     let ran = moves::run::run(
         card,
-        mind(beliefs, goals, *length, *phase, *finished),
+        beliefs,
+        goals,
+        standing(*length, *phase, *finished),
         plan,
         budget,
     );
-    let m = ran.mind;
-    put(m, beliefs, goals, length, phase, finished);
+    let m = ran.standing;
+    put(m, length, phase, finished);
     *count = ran.count;
     let e = ran.ending;
     *ending = ending_number(e);
@@ -187,13 +177,15 @@ pub extern "C" fn rigtemple_4_deliberate_parts(
     let made = deliberate::call::deliberate(
         card,
         program,
-        mind(beliefs, goals, *length, *phase, *finished),
+        beliefs,
+        goals,
+        standing(*length, *phase, *finished),
         plan,
         budget,
         remaining,
     );
-    let m = made.mind;
-    put(m, beliefs, goals, length, phase, finished);
+    let m = made.standing;
+    put(m, length, phase, finished);
     *count = made.count;
     *remaining_length = made.length;
     let e = made.ending;
@@ -227,10 +219,19 @@ pub extern "C" fn rigtemple_4_go_on_parts(
         (now (finished .exit)))
         (now (moves .exit)) (now (ending .exit)) (now (remaining .exit)) (now («remaining_length» .exit)) ⌝ }
 {
-    let before = mind(beliefs, goals, *length, *phase, *finished);
-    let made = deliberate::call::go_on(card, program, numbers, before, plan, budget, remaining);
-    let m = made.mind;
-    put(m, beliefs, goals, length, phase, finished);
+    let made = deliberate::call::go_on(
+        card,
+        program,
+        numbers,
+        beliefs,
+        goals,
+        standing(*length, *phase, *finished),
+        plan,
+        budget,
+        remaining,
+    );
+    let m = made.standing;
+    put(m, length, phase, finished);
     *moves = made.count;
     *remaining_length = made.length;
     let e = made.ending;
@@ -255,9 +256,9 @@ pub extern "C" fn rigtemple_4_restore_parts(
         (whole (now (beliefs .exit)) (now (goals .exit)) (now (plan .exit)) (now (length .exit)) (now (phase .exit))
         (now (finished .exit))) ⌝ }
 {
-    let restored = place::restore::restore(card, place, plan);
-    let m = restored.mind;
-    put(m, beliefs, goals, length, phase, finished);
+    let restored = place::restore::restore(card, place, beliefs, goals, plan);
+    let m = restored.standing;
+    put(m, length, phase, finished);
     let a = restored.answer;
     answer_number(a)
 }
@@ -281,7 +282,9 @@ pub extern "C" fn rigtemple_4_list_parts(
 {
     let listed = listing::list::list(
         card,
-        mind(beliefs, goals, length, phase, finished),
+        beliefs,
+        goals,
+        standing(length, phase, finished),
         plan,
         list,
     );
@@ -307,7 +310,13 @@ pub extern "C" fn rigtemple_4_next_parts(
         (whole (now (beliefs .entry)) (now (goals .entry)) (now (plan .entry)) length phase finished) r
         (now (coming .exit)) (now (choice .exit)) ⌝ }
 {
-    let next = moves::next::next(card, mind(beliefs, goals, length, phase, finished), plan);
+    let next = moves::next::next(
+        card,
+        beliefs,
+        goals,
+        standing(length, phase, finished),
+        plan,
+    );
     let k = next.coming;
     *coming = coming_number(k);
     *choice = coming_choice(k);
@@ -334,7 +343,9 @@ pub extern "C" fn rigtemple_4_save_parts(
 {
     let saved = place::save::save(
         card,
-        mind(beliefs, goals, length, phase, finished),
+        beliefs,
+        goals,
+        standing(length, phase, finished),
         plan,
         place,
     );

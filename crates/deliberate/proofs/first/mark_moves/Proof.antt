@@ -23,7 +23,7 @@ use Rattle.deliberate.proofs.first.mark_moves.Statement.{statement}
 use Rattle.deliberate.proofs.first.mark_moves.Tie as tie
 
 abbrev Inv-loop : tie.InvT-loop
-Inv-loop card l m plan marks program n acts movable₀ i₀ movable i = (i ≤ n) × (length movable ≡ 16) 
+Inv-loop card l m plan marks program n acts movable₀ i₀ movable i = (i ≤ n) × (length movable ≡ 16)
     × AllSets l card m plan marks (λ c. acts ≡ isSome (lowestAction (agentFor l card) (stateOf c .mental)) → Movable l card program c i movable)
 
 abbrev μ-loop : tie.MeasureT-loop
@@ -81,16 +81,20 @@ loop-again c =
     ∙ movable-next (a .l) b p d (l .i) (l .movable) (l .inv .2 σ γ j q) g k) in
     ⊎-elim
     (λ w.
-    (let q = w .4 ∙ w .2 .ensures in
-    (omega arith, ap length q ∙ length-set (l .movable) _ _ ∙ s,
-    λ σ γ j e.
-    (let has : ℕ → Bool = λ i. isSome (moveAt (a .l) b p (stateOf (configured σ γ (a .m) (now (a .plan))) .mental) i) in
-    rw q (passing-yes has (l .i) (l .movable) (l .inv .2 σ γ j e) (sym (marked σ γ j e) ∙ w .0 .taken) (omega arith))))))
-    (λ w.
-    (omega arith, ap length (w .1) ∙ s,
-    λ σ γ j e.
-    (let has : ℕ → Bool = λ i. isSome (moveAt (a .l) b p (stateOf (configured σ γ (a .m) (now (a .plan))) .mental) i) in
-    rw (w .1) (passing-no has (l .i) (l .movable) (l .inv .2 σ γ j e) (sym (marked σ γ j e) ∙ w .0 .left)))))
+    (let q = w .4 ∙ w .2 .ensures in (
+      omega arith,
+      ap length q ∙ length-set (l .movable) _ _ ∙ s,
+      λ σ γ j e.
+          (let has : ℕ → Bool = λ i. isSome (moveAt (a .l) b p (stateOf (configured σ γ (a .m) (now (a .plan))) .mental) i) in
+          rw q (passing-yes has (l .i) (l .movable) (l .inv .2 σ γ j e) (sym (marked σ γ j e) ∙ w .0 .taken) (omega arith))),
+    )))
+    (λ w. (
+      omega arith,
+      ap length (w .1) ∙ s,
+      λ σ γ j e.
+          (let has : ℕ → Bool = λ i. isSome (moveAt (a .l) b p (stateOf (configured σ γ (a .m) (now (a .plan))) .mental) i) in
+          rw (w .1) (passing-no has (l .i) (l .movable) (l .inv .2 σ γ j e) (sym (marked σ γ j e) ∙ w .0 .left))),
+    ))
     (c .if1 .came)
 
 returns : tie.Need-returns Inv-loop μ-loop
