@@ -27,7 +27,10 @@ finished : (c : tie.Start) → c .args .m .finished ≤ 65535
 finished c = search needs
 
 returns : tie.Need-returns
-returns c = (refl, record { beliefs = beliefs (c .before); belief-bytes = λ i. belief-bytes (c .before) i .fits; goals = goals (c .before); goal-bytes = λ i. goal-bytes (c .before) i .fits; plan = plan (c .before); finished = finished (c .before) })
+returns c = (refl, record { beliefs = beliefs c; belief-bytes = λ i. belief-bytes c i .fits; goals = goals c; goal-bytes = λ i. goal-bytes c i .fits; plan = plan c; finished = finished c })
 
 pub whole-spec : {M : Type 1} → statement M
-whole-spec = tie.close (tie.spec returns)
+whole-spec =
+    tie.close
+    (tie.spec
+    returns)
