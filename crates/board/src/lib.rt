@@ -168,10 +168,9 @@ pub extern "C" fn rigtemple_4_deliberate_parts(
     remaining_length: &mut u8,
 ) -> u16
     ensures { λ r. ⌜ Deliberates (now (card .entry)) (now (program .entry))
-        (whole (now (beliefs .entry)) (now (goals .entry)) (now (plan .entry)) (now (length .entry)) (now (phase .entry))
-        (now (finished .entry))) budget (now (remaining .entry)) r
-        (whole (now (beliefs .exit)) (now (goals .exit)) (now (plan .exit)) (now (length .exit)) (now (phase .exit))
-        (now (finished .exit)))
+        (whole (now (beliefs .entry)) (now (goals .entry)) (now (plan .entry)) (now (length .entry)) (now (phase .entry)) (now (finished .entry)))
+        budget (now (remaining .entry)) r
+        (whole (now (beliefs .exit)) (now (goals .exit)) (now (plan .exit)) (now (length .exit)) (now (phase .exit)) (now (finished .exit)))
         (now (count .exit)) (now (ending .exit)) (now (remaining .exit)) (now («remaining_length» .exit)) ⌝ }
 {
     let made = deliberate::call::deliberate(
@@ -184,14 +183,11 @@ pub extern "C" fn rigtemple_4_deliberate_parts(
         budget,
         remaining,
     );
-    let m = made.standing;
-    put(m, length, phase, finished);
+    put(made.standing, length, phase, finished);
     *count = made.count;
     *remaining_length = made.length;
-    let e = made.ending;
-    *ending = deliberation_ending_number(e);
-    let a = made.answer;
-    answer_number(a)
+    *ending = deliberation_ending_number(made.ending);
+    answer_number(made.answer)
 }
 
 // The same from given numbers that remain of the program, the next first.
@@ -213,10 +209,9 @@ pub extern "C" fn rigtemple_4_go_on_parts(
     remaining_length: &mut u8,
 ) -> u16
     ensures { λ r. ⌜ GoesOn (now (card .entry)) (now (program .entry)) (now (numbers .entry))
-        (whole (now (beliefs .entry)) (now (goals .entry)) (now (plan .entry)) (now (length .entry)) (now (phase .entry))
-        (now (finished .entry))) budget (now (remaining .entry)) r
-        (whole (now (beliefs .exit)) (now (goals .exit)) (now (plan .exit)) (now (length .exit)) (now (phase .exit))
-        (now (finished .exit)))
+        (whole (now (beliefs .entry)) (now (goals .entry)) (now (plan .entry)) (now (length .entry)) (now (phase .entry)) (now (finished .entry)))
+        budget (now (remaining .entry)) r
+        (whole (now (beliefs .exit)) (now (goals .exit)) (now (plan .exit)) (now (length .exit)) (now (phase .exit)) (now (finished .exit)))
         (now (moves .exit)) (now (ending .exit)) (now (remaining .exit)) (now («remaining_length» .exit)) ⌝ }
 {
     let made = deliberate::call::go_on(
@@ -230,14 +225,11 @@ pub extern "C" fn rigtemple_4_go_on_parts(
         budget,
         remaining,
     );
-    let m = made.standing;
-    put(m, length, phase, finished);
+    put(made.standing, length, phase, finished);
     *moves = made.count;
     *remaining_length = made.length;
-    let e = made.ending;
-    *ending = deliberation_ending_number(e);
-    let a = made.answer;
-    answer_number(a)
+    *ending = deliberation_ending_number(made.ending);
+    answer_number(made.answer)
 }
 
 // The configuration that a place holds; the empty one in a refusal.

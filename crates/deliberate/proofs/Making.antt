@@ -46,7 +46,6 @@ use Rattle.deliberation.proofs.Good.{move-at}
 use Rattle.deliberation.proofs.Run.{leads-nothing, leads-full, leads-to}
 use Rattle.program.specs.GoodProgram.{GoodEntry, GoodProgram}
 use Rattle.deliberate.specs.declared.made.MoveMade.{MoveMade}
-use Rattle.deliberate.specs.declared.made.AfterMove.{AfterMove}
 use Rattle.deliberate.specs.declared.descent.Leaf.{Leaf}
 use Rattle.deliberate.specs.Descent.{AtLeaf}
 use Rattle.deliberate.specs.Made.{madeOf, configurationAfter, numbersAfter, Makes, stayed, movedBy, madeBy, knownAfter, HoldsBy, by-plan, by-mark, again, ifOpen}

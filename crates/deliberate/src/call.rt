@@ -1,5 +1,5 @@
-// The calls `deliberate` and `go on` (02, Wish 6), where sets, plan and the numbers that remain are lent: the card, the program, the
-// given numbers and the configuration are checked in this order. A refusal writes to no lent buffer.
+// The calls `deliberate` and `go on` (02, Wish 6), where sets, plan and the numbers that remain are lent: the card, the program,
+// the given numbers and the configuration are checked in this order. A refusal writes to no lent buffer.
 ghost use mathlib.Core.Path.{_≡_};
 ghost use mathlib.Core.Bool.{true};
 ghost use mathlib.Core.List.{[], _∷_};
@@ -124,7 +124,8 @@ fn from_moves(
         × GoodProgram l (now card) (now program) × Remains (now program) (now remaining) (at .top) ⌝ }
     ensures { λ r. ⌜ deliberatedWith r (now (beliefs .exit)) (now (goals .exit)) (now (plan .exit)) (now (remaining .exit))
         ≡ deliberated (deliberate (agentFor l (now (card .entry))) (conditions 𝐁 l (now (card .entry))) (entriesOf (now (program .entry)))
-        budget (drop (at .top) (now (remaining .entry))) (stateOf (configured (now (beliefs .entry)) (now (goals .entry)) (at .standing) (now (plan .entry))))) ⌝ }
+        budget (drop (at .top) (now (remaining .entry)))
+        (stateOf (configured (now (beliefs .entry)) (now (goals .entry)) (at .standing) (now (plan .entry))))) ⌝ }
 {
     let ran = run_moves(
         card,

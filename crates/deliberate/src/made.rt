@@ -53,7 +53,8 @@ pub struct AfterMove {
     pub top: usize,
 }
 
-// A move that leaves the configuration, or none: "idle moves, which leave the whole configuration as it is, phase and finished count too".
+// A move that leaves the configuration, or none: "idle moves, which leave the whole configuration as it is, phase and finished
+// count too".
 fn stays(m: Standing, made: MoveMade, top: usize) -> AfterMove
     ensures { λ r. ⌜ r ≡ stayed m made top ⌝ }
 {
@@ -131,11 +132,13 @@ fn make_choice(
     requires { ⌜ Ready l (now card) (configured (now beliefs) (now goals) m (now plan)) × ((κ : EntryKind) × ((a : ℕ)
         × (choice ≡ chosen (taken (agentFor l (now card)) (stateOf (configured (now beliefs) (now goals) m (now plan)) .mental) κ a)))) ⌝ }
     ensures { λ r. ⌜ ((κ : EntryKind) (a : ℕ)
-        → choice ≡ chosen (taken (agentFor l (now (card .entry))) (stateOf (configured (now (beliefs .entry)) (now (goals .entry)) m (now (plan .entry))) .mental) κ a)
+        → choice ≡ chosen (taken (agentFor l (now (card .entry)))
+        (stateOf (configured (now (beliefs .entry)) (now (goals .entry)) m (now (plan .entry))) .mental) κ a)
         → (stack : Bytes) → top ≤ 128 → length stack ≡ 128
         → Makes l (now (card .entry)) (configured (now (beliefs .entry)) (now (goals .entry)) m (now (plan .entry))) (drop top stack)
         (moveResult (agentFor l (now (card .entry))) (stateOf (configured (now (beliefs .entry)) (now (goals .entry)) m (now (plan .entry))))
-        (byChoice (taken (agentFor l (now (card .entry))) (stateOf (configured (now (beliefs .entry)) (now (goals .entry)) m (now (plan .entry))) .mental) κ a) [])
+        (byChoice (taken (agentFor l (now (card .entry)))
+        (stateOf (configured (now (beliefs .entry)) (now (goals .entry)) m (now (plan .entry))) .mental) κ a) [])
         (drop top stack)) r (configured (now (beliefs .exit)) (now (goals .exit)) (r .standing) (now (plan .exit))) stack) ⌝ }
 {
     let Chosen::At(kind, i) = choice else {
@@ -196,10 +199,12 @@ fn move_leaf(
         × (reached .leaf .entry .kind ≡ 0 → reached .action ≡ firstOfKind l (now card) (configured (now beliefs) (now goals) m (now plan)) 1) ⌝ }
     requires { ⌜ ((p : Bytes) × (GoodProgram l (now card) p × AtLeaf p (now stack) (reached .leaf))) ⌝ }
     ensures { λ r. ⌜ ((p : Bytes) → GoodProgram l (now (card .entry)) p → AtLeaf p (now (stack .entry)) (reached .leaf)
-        → Makes l (now (card .entry)) (configured (now (beliefs .entry)) (now (goals .entry)) m (now (plan .entry))) (drop (reached .leaf .top) (now (stack .entry)))
+        → Makes l (now (card .entry)) (configured (now (beliefs .entry)) (now (goals .entry)) m (now (plan .entry)))
+        (drop (reached .leaf .top) (now (stack .entry)))
         (moveResult (agentFor l (now (card .entry))) (stateOf (configured (now (beliefs .entry)) (now (goals .entry)) m (now (plan .entry))))
         (moveAt l (now (card .entry)) p (stateOf (configured (now (beliefs .entry)) (now (goals .entry)) m (now (plan .entry))) .mental) (reached .leaf .at))
-        (drop (reached .leaf .top) (now (stack .entry)))) r (configured (now (beliefs .exit)) (now (goals .exit)) (r .standing) (now (plan .exit))) (now (stack .exit))) ⌝ }
+        (drop (reached .leaf .top) (now (stack .entry)))) r
+        (configured (now (beliefs .exit)) (now (goals .exit)) (r .standing) (now (plan .exit))) (now (stack .exit))) ⌝ }
 {
     let leaf = reached.leaf;
     let e = leaf.entry;

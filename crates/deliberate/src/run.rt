@@ -10,13 +10,13 @@ ghost use Rattle.deliberate.specs.Ran.{RanTo, stoppedBy};
 use crate::made::MoveMade;
 use crate::made::Point;
 use crate::made::make_move;
-use choices::truth::judge_nodes;
 use choices::truth::no_marks;
 use deliberation::DeliberationEnding;
 use meaning::Layout;
 use meaning::Plan;
 use meaning::Set;
 use meaning::Standing;
+use moves::run::refresh;
 
 // What a deliberation comes to beside the sets, the plan and the numbers that remain: where these begin.
 pub struct RanMoves {
@@ -27,14 +27,15 @@ pub struct RanMoves {
 }
 
 // Where a deliberation ends.
-fn ended(m: Standing, count: u16, ending: DeliberationEnding, top: usize) -> RanMoves
-    ensures { λ r. ⌜ r ≡ record { standing = m; count = count; ending = ending; top = top } ⌝ }
+fn ended(at: Point, count: u16, ending: DeliberationEnding) -> RanMoves
+    ensures { λ r. ⌜ r ≡ record { standing = at .standing; count = count; ending = ending; top = at .top } ⌝ }
 {
+    let m = at.standing;
     RanMoves {
         standing: m,
         count: count,
         ending: ending,
-        top: top,
+        top: at.top,
     }
 }
 
@@ -65,36 +66,29 @@ pub fn run_moves(
     requires { ⌜ Ready l (now card) (configured (now beliefs) (now goals) (at .standing) (now plan))
         × GoodProgram l (now card) (now program) × Remains (now program) (now stack) (at .top) ⌝ }
     ensures { λ r. ⌜ RanTo (deliberate (agentFor l (now (card .entry))) (conditions 𝐁 l (now (card .entry))) (entriesOf (now (program .entry)))
-        budget (drop (at .top) (now (stack .entry))) (stateOf (configured (now (beliefs .entry)) (now (goals .entry)) (at .standing) (now (plan .entry))))) r
+        budget (drop (at .top) (now (stack .entry)))
+        (stateOf (configured (now (beliefs .entry)) (now (goals .entry)) (at .standing) (now (plan .entry))))) r
         (configured (now (beliefs .exit)) (now (goals .exit)) (r .standing) (now (plan .exit))) (now (stack .exit)) ⌝ }
 {
-    let mut cur = at.standing;
+    let mut here = at;
     let mut marks = no_marks();
     let mut known = false;
-    let mut rest = at.top;
     let mut count: u16 = 0;
     while count < budget {
-        if rest == 128 {
-            return ended(cur, count, DeliberationEnding::Finished, rest);
+        if here.top == 128 {
+            return ended(here, count, DeliberationEnding::Finished);
         }
-        if !known {
-            judge_nodes(card, l, beliefs, goals, &mut marks);
-            known = true;
-        } else {
-            let here = Point {
-                standing: cur,
-                top: rest,
-            };
-            let moved = make_move(card, l, beliefs, goals, here, plan, &marks, program, stack);
-            let made = moved.made;
-            cur = moved.standing;
-            let MoveMade::On = made else {
-                return ended(cur, count, stopped(made), rest);
-            };
-            known = moved.known;
-            rest = moved.top;
-            count += 1;
-        }
+        refresh(card, l, beliefs, goals, known, &mut marks);
+        let moved = make_move(card, l, beliefs, goals, here, plan, &marks, program, stack);
+        let made = moved.made;
+        let after = moved.standing;
+        here.standing = after;
+        let MoveMade::On = made else {
+            return ended(here, count, stopped(made));
+        };
+        known = moved.known;
+        here.top = moved.top;
+        count += 1;
     }
-    ended(cur, count, DeliberationEnding::Spent, rest)
+    ended(here, count, DeliberationEnding::Spent)
 }

@@ -59,7 +59,8 @@ pub fn advance_once(
     m: Standing,
     plan: &mut Plan,
 ) -> AdvancedInPlace
-    ensures { λ r. ⌜ r .answer ≡ configurationAnswer (now (card .entry)) (configured (now (beliefs .entry)) (now (goals .entry)) m (now (plan .entry))) ⌝ }
+    ensures { λ r. ⌜ r .answer
+        ≡ configurationAnswer (now (card .entry)) (configured (now (beliefs .entry)) (now (goals .entry)) m (now (plan .entry))) ⌝ }
     ensures { λ r. ⌜ Steps (ownMove (now (card .entry)) (configured (now (beliefs .entry)) (now (goals .entry)) m (now (plan .entry))))
         (configured (now (beliefs .entry)) (now (goals .entry)) m (now (plan .entry))) (r .step .transition)
         (configured (now (beliefs .exit)) (now (goals .exit)) (r .step .standing) (now (plan .exit))) ⌝ }

@@ -85,7 +85,8 @@ fn step_action(
     plan: &mut Plan,
     i: usize,
 ) -> Stepped
-    requires { ⌜ Ready l (now card) (configured (now beliefs) (now goals) m (now plan)) × Enabled l (now card) (configured (now beliefs) (now goals) m (now plan)) (act i) ⌝ }
+    requires { ⌜ Ready l (now card) (configured (now beliefs) (now goals) m (now plan))
+        × Enabled l (now card) (configured (now beliefs) (now goals) m (now plan)) (act i) ⌝ }
     ensures { λ r. ⌜ StepsBy l (now (card .entry)) (configured (now (beliefs .entry)) (now (goals .entry)) m (now (plan .entry))) (act i)
         (r .transition) (configured (now (beliefs .exit)) (now (goals .exit)) (r .standing) (now (plan .exit))) ⌝ }
 {

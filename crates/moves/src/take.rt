@@ -74,7 +74,8 @@ fn take_choice(
 ) -> ReplyInPlace
     requires { ⌜ Ready l (now card) (configured (now beliefs) (now goals) m (now plan)) ⌝ }
     ensures { λ r. ⌜ replyWith r (now (beliefs .exit)) (now (goals .exit)) (now (plan .exit))
-        ≡ takenBy (whyClosed l (now (card .entry)) (stateOf (configured (now (beliefs .entry)) (now (goals .entry)) m (now (plan .entry))) .mental) (choice code))
+        ≡ takenBy (whyClosed l (now (card .entry))
+        (stateOf (configured (now (beliefs .entry)) (now (goals .entry)) m (now (plan .entry))) .mental) (choice code))
         (stepBy (agentFor l (now (card .entry))) (stateOf (configured (now (beliefs .entry)) (now (goals .entry)) m (now (plan .entry)))) (choice code))
         (configured (now (beliefs .entry)) (now (goals .entry)) m (now (plan .entry))) ⌝ }
 {
@@ -88,16 +89,9 @@ fn take_choice(
             standing: m,
         };
     };
-    let s = step(
-        card,
-        l,
-        beliefs,
-        goals,
-        m,
-        plan,
-        (code / 256) as u8,
-        (code % 256) as usize,
-    );
+    let kind = (code / 256) as u8;
+    let number = (code % 256) as usize;
+    let s = step(card, l, beliefs, goals, m, plan, kind, number);
     let transition = s.transition;
     let after = s.standing;
     ReplyInPlace {

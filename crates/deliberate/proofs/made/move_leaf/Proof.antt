@@ -10,7 +10,7 @@ use Rattle.deliberate.specs.Made.{Makes}
 use Rattle.deliberate.proofs.Making.{two-more, leaf-good, leaf-idles, leaf-choice}
 use mathlib.Core.List.{List}
 use mathlib.Core.Option.{Option}
-use mathlib.Core.Path.{sym, ap, _∙_, subst}
+use mathlib.Core.Path.{sym, subst}
 use Prim.Native.Nat.{ℕ, _≤_, _<_}
 use native.Mathlib.Omega.{arith}
 use borrow.Author.Needs.{needs}

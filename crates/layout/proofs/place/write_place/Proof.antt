@@ -1,7 +1,7 @@
 use Rattle.meaning.specs.Place.{placeHeader}
 use Rattle.layout.proofs.Written.{place-written}
 use Rattle.layout.specs.PlaceParts.{configured}
-use mathlib.Core.Path.{_≡_, ap}
+use mathlib.Core.Path.{ap}
 use borrow.Author.Needs.{needs}
 use denote.Ref.{now}
 use lib.ListN.{length}

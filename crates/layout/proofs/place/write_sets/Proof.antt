@@ -1,7 +1,5 @@
-use mathlib.Core.Path.{_≡_, _∙_}
-use native.Mathlib.Omega.{arith}
+use mathlib.Core.Path.{_∙_}
 use borrow.Author.Needs.{needs}
-use lib.ListN.{length}
 use Rattle.layout.proofs.place.write_sets.Statement.{statement}
 use Rattle.layout.proofs.place.write_sets.Tie as tie
 

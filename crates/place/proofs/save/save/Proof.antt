@@ -55,19 +55,26 @@ enum-told-3 c = search needs
 refused-write-requires-2 : tie.Need-refused-write-requires-2
 refused-write-requires-2 c κs = search needs
 
-returns-2 : tie.Need-returns-2
+-- "the lent list or place buffer is too short"
+too-short : (c : tie.After-enum-told3) (w : WrittenInPlace) → w ≡ record { answer = c .before .before .judge-room .result; count = 0 } →
+    let a = c .before .before .before .before .before .before .before .before .before .before .before .before .before .before .before .args in
+    let d = configured (now (a .beliefs)) (now (a .goals)) (a .m) (now (a .plan)) in
+    (writtenWith w d ≡ saves (now (a .card)) d (now (a .out))) × (now (a .out) ≡ saveLeaves (now (a .card)) d (now (a .out)))
 unfolding saves saveLeaves
-returns-2 c =
-    let a = c .before .before .before .before .before .before .before .before .before .before .before .before .before .before .before .before .args in
+too-short c w q =
+    let a = c .before .before .before .before .before .before .before .before .before .before .before .before .before .before .before .args in
     let b = now (a .card) in
     let d = configured (now (a .beliefs)) (now (a .goals)) (a .m) (now (a .plan)) in
     let lb : length (now (a .beliefs)) ≡ 32 = search needs in
     let lg : length (now (a .goals)) ≡ 32 = search needs in
-    let v = c .before .before .before .before .before .before .before .before .before .admit in
-    let g = c .before .before .before .before .before .before .before .admitted .given .1 in
-    let m = c .before .before .before .before .place-size .ensures ∙ place-length _ b d (v .ensures .1 _ g) lb lg in
-    let j = c .before .before .before .judge-room in
-    written-none b d (admitted-good b d _ (v .ensures .0) _ g .0) _ (now (a .out)) _ m (j .result) (j .ensures) _ (c .before .enum-told3 .given .1) _ (c .refused-write2 .ensures)
+    let v = c .before .before .before .before .before .before .before .before .admit in
+    let g = c .before .before .before .before .before .before .admitted .given .1 in
+    let m = c .before .before .before .place-size .ensures ∙ place-length _ b d (v .ensures .1 _ g) lb lg in
+    let j = c .before .before .judge-room in
+    written-none b d (admitted-good b d _ (v .ensures .0) _ g .0) _ (now (a .out)) _ m (j .result) (j .ensures) _ (c .enum-told3 .given .1) w q
+
+returns-2 : tie.Need-returns-2
+returns-2 c = too-short (c .before) _ (c .refused-write2 .ensures)
 
 cast-count : tie.Need-cast-count
 cast-count c =
