@@ -5,15 +5,15 @@ ghost use mathlib.Core.Bool.{true};
 ghost use mathlib.Core.List.{[], _∷_};
 ghost use Prim.Native.Nat.{_-_, _/_, _≤_};
 ghost use lib.ListN.{length, drop};
-ghost use Rattle.door.specs.Words.{𝐁, conditions, agentFor, stateOf, configured, Ready};
+ghost use Rattle.door.specs.Words.{configured};
 ghost use Rattle.meaning.specs.declared.Checked.{Checked};
 ghost use Rattle.meaning.specs.Card.{layout};
 ghost use Rattle.meaning.specs.Calls.{checks};
-ghost use Rattle.deliberation.specs.Entries.{entryCount, entriesOf, numbersGood};
+ghost use Rattle.deliberation.specs.Entries.{entryCount, numbersGood};
 ghost use Rattle.deliberation.specs.Deliberate.{deliberate, remainingOf, deliberated, goesOn, deliberates};
 ghost use Rattle.program.specs.GoodProgram.{GoodProgram};
 ghost use Rattle.deliberate.specs.InPlace.{remains, refusedWith, deliberatedWith, Admits};
-ghost use Rattle.deliberate.specs.Made.{Remains};
+ghost use Rattle.deliberate.specs.Ran.{Starts, outcomeOf};
 use crate::made::Point;
 use crate::run::run_moves;
 use card::check::answer_of;
@@ -120,12 +120,10 @@ fn from_moves(
     budget: u16,
     remaining: &mut [u8; 128],
 ) -> DeliberatedInPlace
-    requires { ⌜ Ready l (now card) (configured (now beliefs) (now goals) (at .standing) (now plan))
-        × GoodProgram l (now card) (now program) × Remains (now program) (now remaining) (at .top) ⌝ }
+    requires { ⌜ Starts l (now card) (now program) (configured (now beliefs) (now goals) (at .standing) (now plan)) (now remaining) (at .top) ⌝ }
     ensures { λ r. ⌜ deliberatedWith r (now (beliefs .exit)) (now (goals .exit)) (now (plan .exit)) (now (remaining .exit))
-        ≡ deliberated (deliberate (agentFor l (now (card .entry))) (conditions 𝐁 l (now (card .entry))) (entriesOf (now (program .entry)))
-        budget (drop (at .top) (now (remaining .entry)))
-        (stateOf (configured (now (beliefs .entry)) (now (goals .entry)) (at .standing) (now (plan .entry))))) ⌝ }
+        ≡ deliberated (outcomeOf l (now (card .entry)) (now (program .entry)) budget
+        (configured (now (beliefs .entry)) (now (goals .entry)) (at .standing) (now (plan .entry))) (drop (at .top) (now (remaining .entry)))) ⌝ }
 {
     let ran = run_moves(
         card,

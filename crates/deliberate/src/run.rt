@@ -1,22 +1,18 @@
 // A deliberation: moves one after the other, at most as many as the budget says.
 ghost use mathlib.Core.Path.{_≡_};
 ghost use lib.ListN.{drop};
-ghost use Rattle.door.specs.Words.{𝐁, conditions, agentFor, stateOf, configured, Ready};
-ghost use Rattle.deliberation.specs.Entries.{entriesOf};
-ghost use Rattle.deliberation.specs.Deliberate.{deliberate};
-ghost use Rattle.program.specs.GoodProgram.{GoodProgram};
-ghost use Rattle.deliberate.specs.Made.{Remains};
-ghost use Rattle.deliberate.specs.Ran.{RanTo, stoppedBy};
+ghost use Rattle.door.specs.Words.{configured};
+ghost use Rattle.deliberate.specs.Ran.{Starts, outcomeOf, RanTo, stoppedBy};
 use crate::made::MoveMade;
 use crate::made::Point;
 use crate::made::make_move;
+use choices::truth::judge_nodes;
 use choices::truth::no_marks;
 use deliberation::DeliberationEnding;
 use meaning::Layout;
 use meaning::Plan;
 use meaning::Set;
 use meaning::Standing;
-use moves::run::refresh;
 
 // What a deliberation comes to beside the sets, the plan and the numbers that remain: where these begin.
 pub struct RanMoves {
@@ -63,12 +59,10 @@ pub fn run_moves(
     budget: u16,
     stack: &mut [u8; 128],
 ) -> RanMoves
-    requires { ⌜ Ready l (now card) (configured (now beliefs) (now goals) (at .standing) (now plan))
-        × GoodProgram l (now card) (now program) × Remains (now program) (now stack) (at .top) ⌝ }
-    ensures { λ r. ⌜ RanTo (deliberate (agentFor l (now (card .entry))) (conditions 𝐁 l (now (card .entry))) (entriesOf (now (program .entry)))
-        budget (drop (at .top) (now (stack .entry)))
-        (stateOf (configured (now (beliefs .entry)) (now (goals .entry)) (at .standing) (now (plan .entry))))) r
-        (configured (now (beliefs .exit)) (now (goals .exit)) (r .standing) (now (plan .exit))) (now (stack .exit)) ⌝ }
+    requires { ⌜ Starts l (now card) (now program) (configured (now beliefs) (now goals) (at .standing) (now plan)) (now stack) (at .top) ⌝ }
+    ensures { λ r. ⌜ RanTo (outcomeOf l (now (card .entry)) (now (program .entry)) budget
+        (configured (now (beliefs .entry)) (now (goals .entry)) (at .standing) (now (plan .entry))) (drop (at .top) (now (stack .entry))))
+        r (configured (now (beliefs .exit)) (now (goals .exit)) (r .standing) (now (plan .exit))) (now (stack .exit)) ⌝ }
 {
     let mut here = at;
     let mut marks = no_marks();
@@ -78,7 +72,9 @@ pub fn run_moves(
         if here.top == 128 {
             return ended(here, count, DeliberationEnding::Finished);
         }
-        refresh(card, l, beliefs, goals, known, &mut marks);
+        if !known {
+            judge_nodes(card, l, beliefs, goals, &mut marks);
+        }
         let moved = make_move(card, l, beliefs, goals, here, plan, &marks, program, stack);
         let made = moved.made;
         let after = moved.standing;

@@ -71,11 +71,12 @@ from-moves-requires c κs =
     let l = c .before .before .before .before .before .before .before .before .before .before .before .before .read-layout in
     let (e, g) = read-again b (s .pre .0) (now (a .program)) (s .pre .1) (l .result) (l .ensures .0) in
     let j = c .before .before .before .before .before .before .before .before .judge-configuration in
-    let (f, r) = c .before .before .before .before .put-numbers .ensures in (
-      is-ready b (configured (now (a .beliefs)) (now (a .goals)) (a .m) (now (a .plan))) (l .result) e (j .result) (j .ensures .0) (c .before .before .before .before .before .before .enum-told .given .1) (j .ensures .1),
-      g,
-      given-remains (now (a .program)) _ (now (a .given)) (128 - length (now (a .given))) f (omega arith) r (s .pre .2),
-    )
+    let (f, r) = c .before .before .before .before .put-numbers .ensures in
+    record {
+      ready = is-ready b (configured (now (a .beliefs)) (now (a .goals)) (a .m) (now (a .plan))) (l .result) e (j .result) (j .ensures .0) (c .before .before .before .before .before .before .enum-told .given .1) (j .ensures .1);
+      good = g;
+      remains = given-remains (now (a .program)) _ (now (a .given)) (128 - length (now (a .given))) f (omega arith) r (s .pre .2);
+    }
 
 returns-2 : tie.Need-returns-2
 returns-2 c =

@@ -1,9 +1,5 @@
-use Rattle.paper.specs.Language.{𝐁}
-use Rattle.meaning.specs.Configurations.{stateOf}
-use Rattle.meaning.specs.Card.{conditions, agentFor}
-use Rattle.deliberation.specs.Entries.{entriesOf}
-use Rattle.deliberation.specs.Deliberate.{deliberate}
 use Rattle.layout.specs.PlaceParts.{configured}
+use Rattle.deliberate.specs.Ran.{outcomeOf}
 use Rattle.deliberate.proofs.Calling.{ran-so}
 use borrow.Author.Needs.{needs}
 use denote.Ref.{now}
@@ -23,7 +19,7 @@ returns c =
     let b = now (a .card) in
     let p = now (a .program) in
     let r = c .before .before .before .run-moves in
-    let all = deliberate (agentFor (a .l) b) (conditions 𝐁 (a .l) b) (entriesOf p) (a .budget) (drop (a .at .top) (now (a .remaining))) (stateOf (configured (now (a .beliefs)) (now (a .goals)) (a .at .standing) (now (a .plan)))) in
+    let all = outcomeOf (a .l) b p (a .budget) (configured (now (a .beliefs)) (now (a .goals)) (a .at .standing) (now (a .plan))) (drop (a .at .top) (now (a .remaining))) in
     ran-so all (r .result) (r .last .1 .1 .0) (r .last .1 .1 .1 .0) (r .last .1 .1 .1 .1 .1 .0) (r .last .1 .1 .1 .1 .1 .1 .1 .1 .0) (c .before .hand-out .last .0) (c .before .hand-out .result) (r .ensures) (c .before .hand-out .ensures)
 
 pub from-moves-spec : {M : Type 1} → statement M
