@@ -1,6 +1,8 @@
 // The board: the guide's fourteen calls for C, as include/rigtemple.h declares them. A configuration is lent in its six parts;
 // the return value is the answer's number.
 ghost use mathlib.Core.Path.{_≡_};
+ghost use Rattle.meaning.specs.Refusals.{answerNumber};
+ghost use Rattle.deliberation.specs.Deliberate.{deliberationEndingNumber};
 ghost use Rattle.names.specs.Naming.{asked};
 ghost use Rattle.board.specs.Header.{whole};
 ghost use Rattle.board.specs.Determined.{Checks, Loads, Grades, Lists, Takes, Runs, Nexts, Deliberates, GoesOn, Saves, Restores};
@@ -17,6 +19,7 @@ use answers::verdict_number;
 use answers::verdict_offender;
 use answers::verdict_rule;
 use card::check::check;
+use deliberate::call::DeliberatedInPlace;
 use meaning::Checked;
 use meaning::Plan;
 use meaning::Set;
@@ -40,6 +43,19 @@ fn put(m: Standing, length: &mut u16, phase: &mut u8, finished: &mut u16)
     *length = m.length;
     *phase = m.phase;
     *finished = m.finished;
+}
+
+// How many moves a deliberation made, why it ended and how many numbers remain, into the lent parts; the answer's number.
+fn tell(made: DeliberatedInPlace, count: &mut u16, ending: &mut u8, length: &mut u8) -> u16
+    ensures { λ r. ⌜ (now (count .exit) ≡ made .count) × (now (ending .exit) ≡ deliberationEndingNumber (made .ending))
+        × (now (length .exit) ≡ made .length) × (r ≡ answerNumber (made .answer)) ⌝ }
+{
+    *count = made.count;
+    *length = made.length;
+    let e = made.ending;
+    *ending = deliberation_ending_number(e);
+    let a = made.answer;
+    answer_number(a)
 }
 
 // Whether a card is good.
@@ -184,10 +200,7 @@ pub extern "C" fn rigtemple_4_deliberate_parts(
         remaining,
     );
     put(made.standing, length, phase, finished);
-    *count = made.count;
-    *remaining_length = made.length;
-    *ending = deliberation_ending_number(made.ending);
-    answer_number(made.answer)
+    tell(made, count, ending, remaining_length)
 }
 
 // The same from given numbers that remain of the program, the next first.
@@ -226,10 +239,7 @@ pub extern "C" fn rigtemple_4_go_on_parts(
         remaining,
     );
     put(made.standing, length, phase, finished);
-    *moves = made.count;
-    *remaining_length = made.length;
-    *ending = deliberation_ending_number(made.ending);
-    answer_number(made.answer)
+    tell(made, moves, ending, remaining_length)
 }
 
 // The configuration that a place holds; the empty one in a refusal.
