@@ -39,7 +39,7 @@ done
 hold ok text "$text"
 
 # The controls: what is too small for any check, and 16 bytes too few for the deepest text.
-hold 'goes over' check 512
+hold 'goes over' check 384
 hold 'goes over' text $((text - 16))
 
 printf '%d passed, %d failed\n' "$passed" "$failed"
