@@ -73,12 +73,12 @@
  * with it twice that; to print takes RIGTEMPLE_MOST_PRINTED_BYTES; a sheet has
  * RIGTEMPLE_MOST_SHEET_BYTES at most; a text to be read has no limit.
  *
- * Bytes of stack, as tests/stack.sh measures them on x86-64: check 584, load 904, grade 1,736,
- * list 1,512, next 1,464, take 1,640, run 1,592, deliberate 2,232, go_on 2,248, save 840,
- * restore 888, text 33,440 (24,928 where nothing nests, 80 more for the first bracket and 272 for
- * each further one), print 1,832, name 728. All but text run on a stack of 2,304. On 64-bit Arm
+ * Bytes of stack, as tests/stack.sh measures them on x86-64: check 512, load 624, grade 1,664,
+ * list 1,280, next 1,200, take 1,200, run 1,232, deliberate 1,416, go_on 1,464, save 624,
+ * restore 816, text 33,440 (24,928 where nothing nests, 80 more for the first bracket and 272 for
+ * each further one), print 1,760, name 656. All but text run on a stack of 2,048. On 64-bit Arm
  * text takes 33,952, and each other call at most 0 more than on x86-64: all but text run on
- * 2,304.
+ * 2,048.
  */
 #ifndef RIGTEMPLE_H
 #define RIGTEMPLE_H

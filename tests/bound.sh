@@ -1,6 +1,6 @@
 #!/bin/sh
 # Makes every call through include/rigtemple.h on a stack of its bound and no more (tests/bound.c):
-# 2,304 bytes, and for reading a text what the header's head states. Two stacks that are known to be
+# 2,048 bytes, and for reading a text what the header's head states. Two stacks that are known to be
 # too small show that going over is seen. The last line is 'N passed, M failed'.
 #
 #   tests/bound.sh
@@ -34,12 +34,12 @@ hold() { # WANTED CALL BYTES
 }
 
 for call in check load grade list next take run save restore deliberate go_on print name; do
-    hold ok "$call" 2304
+    hold ok "$call" 2048
 done
 hold ok text "$text"
 
 # The controls: what is too small for any check, and 16 bytes too few for the deepest text.
-hold 'goes over' check 512
+hold 'goes over' check 384
 hold 'goes over' text $((text - 16))
 
 printf '%d passed, %d failed\n' "$passed" "$failed"

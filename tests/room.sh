@@ -1,6 +1,6 @@
 #!/usr/bin/env bash
 # Measures the room that the guide needs: the deepest stack of each call through the header (tests/stack.sh), what an app lends with
-# the largest card, and the stack of the program. The last line is 'N passed, M failed': each call within 2,304 bytes, reading a text
+# the largest card, and the stack of the program. The last line is 'N passed, M failed': each call within 2,048 bytes, reading a text
 # within 33,792, and all together, and the program, within 65,536.
 #
 #   tests/room.sh
@@ -24,7 +24,7 @@ calls=$("$root/tests/stack.sh" | grep ' bytes of stack') || die "tests/stack.sh 
 deepest=0
 reading=0
 while read -r call bytes _; do
-    bound=2304
+    bound=2048
     [ "$call" != text ] || bound=33792
     within "the stack of $call" "$bytes" $bound
     [ "$call" != text ] || { reading=$bytes; continue; }

@@ -1,5 +1,5 @@
 #!/bin/sh
-# Measures the deepest stack of each call through include/rigtemple.h; fails over 2,304 bytes, for
+# Measures the deepest stack of each call through include/rigtemple.h; fails over 2,048 bytes, for
 # reading a text over 33,792, and where the header's head states another figure. The last line is 'N passed, M failed'.
 #
 #   tests/stack.sh [--engine]
@@ -23,7 +23,7 @@ failed=0
 
 while read -r call bytes; do
     fault=
-    most=2304
+    most=2048
     [ "$call" != text ] || most=33792
     [ "$bytes" -le $most ] || fault=", which is over $most"
     [ $# -gt 0 ] || [ "$bytes" = "$(stated "$call")" ] || fault="$fault, not as the header states"

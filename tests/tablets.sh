@@ -216,7 +216,7 @@ stack_page() {
 # Each call within its bound, and with what is lent within 65,536 bytes.
 within() { # PROCESSOR
     while read -r call bytes; do
-        most=2304 all=$((lent + bytes))
+        most=2048 all=$((lent + bytes))
         case $call in
         text) most=34816 all=$((24128 + bytes)) ;;
         name) all=$((lent + sheets + bytes)) ;;

@@ -1,6 +1,8 @@
 // The board: the guide's fourteen calls for C, as include/rigtemple.h declares them. A configuration is lent in its six parts;
 // the return value is the answer's number.
 ghost use mathlib.Core.Path.{_≡_};
+ghost use Rattle.meaning.specs.Refusals.{answerNumber};
+ghost use Rattle.deliberation.specs.Deliberate.{deliberationEndingNumber};
 ghost use Rattle.names.specs.Naming.{asked};
 ghost use Rattle.board.specs.Header.{whole};
 ghost use Rattle.board.specs.Determined.{Checks, Loads, Grades, Lists, Takes, Runs, Nexts, Deliberates, GoesOn, Saves, Restores};
@@ -17,43 +19,43 @@ use answers::verdict_number;
 use answers::verdict_offender;
 use answers::verdict_rule;
 use card::check::check;
+use deliberate::call::DeliberatedInPlace;
 use meaning::Checked;
-use meaning::Mind;
 use meaning::Plan;
 use meaning::Set;
+use meaning::Standing;
 
-// The mind of a configuration that is lent in its parts.
-fn mind(beliefs: &Set, goals: &Set, length: u16, phase: u8, finished: u16) -> Mind
-    ensures { λ r. ⌜ r ≡ record { beliefs = now (beliefs .entry); goals = now (goals .entry); length = length; phase = phase; finished = finished } ⌝ }
+// All of a configuration that is lent in its parts but its sets and its plan.
+fn standing(length: u16, phase: u8, finished: u16) -> Standing
+    ensures { λ r. ⌜ r ≡ record { length = length; phase = phase; finished = finished } ⌝ }
 {
-    Mind {
-        beliefs: *beliefs,
-        goals: *goals,
+    Standing {
         length: length,
         phase: phase,
         finished: finished,
     }
 }
 
-// A mind into the lent parts.
-fn put(
-    m: Mind,
-    beliefs: &mut Set,
-    goals: &mut Set,
-    length: &mut u16,
-    phase: &mut u8,
-    finished: &mut u16,
-)
-    ensures { λ r. ⌜ (now (beliefs .exit) ≡ m .beliefs) × (now (goals .exit) ≡ m .goals)
-        × (now (length .exit) ≡ m .length) × (now (phase .exit) ≡ m .phase) × (now (finished .exit) ≡ m .finished) ⌝ }
+// The same into the lent parts.
+fn put(m: Standing, length: &mut u16, phase: &mut u8, finished: &mut u16)
+    ensures { λ r. ⌜ (now (length .exit) ≡ m .length) × (now (phase .exit) ≡ m .phase) × (now (finished .exit) ≡ m .finished) ⌝ }
 {
-    let b = m.beliefs;
-    let g = m.goals;
-    *beliefs = b;
-    *goals = g;
     *length = m.length;
     *phase = m.phase;
     *finished = m.finished;
+}
+
+// How many moves a deliberation made, why it ended and how many numbers remain, into the lent parts; the answer's number.
+fn tell(made: DeliberatedInPlace, count: &mut u16, ending: &mut u8, length: &mut u8) -> u16
+    ensures { λ r. ⌜ (now (count .exit) ≡ made .count) × (now (ending .exit) ≡ deliberationEndingNumber (made .ending))
+        × (now (length .exit) ≡ made .length) × (r ≡ answerNumber (made .answer)) ⌝ }
+{
+    *count = made.count;
+    *length = made.length;
+    let e = made.ending;
+    *ending = deliberation_ending_number(e);
+    let a = made.answer;
+    answer_number(a)
 }
 
 // Whether a card is good.
@@ -83,9 +85,9 @@ pub extern "C" fn rigtemple_4_load_parts(
         (whole (now (beliefs .exit)) (now (goals .exit)) (now (plan .exit)) (now (length .exit)) (now (phase .exit))
         (now (finished .exit))) ⌝ }
 {
-    let loaded = place::load::load(card, plan);
-    let m = loaded.mind;
-    put(m, beliefs, goals, length, phase, finished);
+    let loaded = place::load::load(card, beliefs, goals, plan);
+    let m = loaded.standing;
+    put(m, length, phase, finished);
     let a = loaded.answer;
     answer_number(a)
 }
@@ -112,12 +114,14 @@ pub extern "C" fn rigtemple_4_take_parts(
 {
     let taken = moves::take::take(
         card,
-        mind(beliefs, goals, *length, *phase, *finished),
+        beliefs,
+        goals,
+        standing(*length, *phase, *finished),
         plan,
         choice,
     );
-    let m = taken.mind;
-    put(m, beliefs, goals, length, phase, finished);
+    let m = taken.standing;
+    put(m, length, phase, finished);
     let a = taken.answer;
     *node = answer_carried(a) as u16;
     answer_number(a)
@@ -146,12 +150,14 @@ pub extern "C" fn rigtemple_4_run_parts(
 {
     let ran = moves::run::run(
         card,
-        mind(beliefs, goals, *length, *phase, *finished),
+        beliefs,
+        goals,
+        standing(*length, *phase, *finished),
         plan,
         budget,
     );
-    let m = ran.mind;
-    put(m, beliefs, goals, length, phase, finished);
+    let m = ran.standing;
+    put(m, length, phase, finished);
     *count = ran.count;
     let e = ran.ending;
     *ending = ending_number(e);
@@ -178,28 +184,23 @@ pub extern "C" fn rigtemple_4_deliberate_parts(
     remaining_length: &mut u8,
 ) -> u16
     ensures { λ r. ⌜ Deliberates (now (card .entry)) (now (program .entry))
-        (whole (now (beliefs .entry)) (now (goals .entry)) (now (plan .entry)) (now (length .entry)) (now (phase .entry))
-        (now (finished .entry))) budget (now (remaining .entry)) r
-        (whole (now (beliefs .exit)) (now (goals .exit)) (now (plan .exit)) (now (length .exit)) (now (phase .exit))
-        (now (finished .exit)))
+        (whole (now (beliefs .entry)) (now (goals .entry)) (now (plan .entry)) (now (length .entry)) (now (phase .entry)) (now (finished .entry)))
+        budget (now (remaining .entry)) r
+        (whole (now (beliefs .exit)) (now (goals .exit)) (now (plan .exit)) (now (length .exit)) (now (phase .exit)) (now (finished .exit)))
         (now (count .exit)) (now (ending .exit)) (now (remaining .exit)) (now («remaining_length» .exit)) ⌝ }
 {
     let made = deliberate::call::deliberate(
         card,
         program,
-        mind(beliefs, goals, *length, *phase, *finished),
+        beliefs,
+        goals,
+        standing(*length, *phase, *finished),
         plan,
         budget,
         remaining,
     );
-    let m = made.mind;
-    put(m, beliefs, goals, length, phase, finished);
-    *count = made.count;
-    *remaining_length = made.length;
-    let e = made.ending;
-    *ending = deliberation_ending_number(e);
-    let a = made.answer;
-    answer_number(a)
+    put(made.standing, length, phase, finished);
+    tell(made, count, ending, remaining_length)
 }
 
 // The same from given numbers that remain of the program, the next first.
@@ -221,22 +222,24 @@ pub extern "C" fn rigtemple_4_go_on_parts(
     remaining_length: &mut u8,
 ) -> u16
     ensures { λ r. ⌜ GoesOn (now (card .entry)) (now (program .entry)) (now (numbers .entry))
-        (whole (now (beliefs .entry)) (now (goals .entry)) (now (plan .entry)) (now (length .entry)) (now (phase .entry))
-        (now (finished .entry))) budget (now (remaining .entry)) r
-        (whole (now (beliefs .exit)) (now (goals .exit)) (now (plan .exit)) (now (length .exit)) (now (phase .exit))
-        (now (finished .exit)))
+        (whole (now (beliefs .entry)) (now (goals .entry)) (now (plan .entry)) (now (length .entry)) (now (phase .entry)) (now (finished .entry)))
+        budget (now (remaining .entry)) r
+        (whole (now (beliefs .exit)) (now (goals .exit)) (now (plan .exit)) (now (length .exit)) (now (phase .exit)) (now (finished .exit)))
         (now (moves .exit)) (now (ending .exit)) (now (remaining .exit)) (now («remaining_length» .exit)) ⌝ }
 {
-    let before = mind(beliefs, goals, *length, *phase, *finished);
-    let made = deliberate::call::go_on(card, program, numbers, before, plan, budget, remaining);
-    let m = made.mind;
-    put(m, beliefs, goals, length, phase, finished);
-    *moves = made.count;
-    *remaining_length = made.length;
-    let e = made.ending;
-    *ending = deliberation_ending_number(e);
-    let a = made.answer;
-    answer_number(a)
+    let made = deliberate::call::go_on(
+        card,
+        program,
+        numbers,
+        beliefs,
+        goals,
+        standing(*length, *phase, *finished),
+        plan,
+        budget,
+        remaining,
+    );
+    put(made.standing, length, phase, finished);
+    tell(made, moves, ending, remaining_length)
 }
 
 // The configuration that a place holds; the empty one in a refusal.
@@ -255,9 +258,9 @@ pub extern "C" fn rigtemple_4_restore_parts(
         (whole (now (beliefs .exit)) (now (goals .exit)) (now (plan .exit)) (now (length .exit)) (now (phase .exit))
         (now (finished .exit))) ⌝ }
 {
-    let restored = place::restore::restore(card, place, plan);
-    let m = restored.mind;
-    put(m, beliefs, goals, length, phase, finished);
+    let restored = place::restore::restore(card, place, beliefs, goals, plan);
+    let m = restored.standing;
+    put(m, length, phase, finished);
     let a = restored.answer;
     answer_number(a)
 }
@@ -281,7 +284,9 @@ pub extern "C" fn rigtemple_4_list_parts(
 {
     let listed = listing::list::list(
         card,
-        mind(beliefs, goals, length, phase, finished),
+        beliefs,
+        goals,
+        standing(length, phase, finished),
         plan,
         list,
     );
@@ -307,7 +312,13 @@ pub extern "C" fn rigtemple_4_next_parts(
         (whole (now (beliefs .entry)) (now (goals .entry)) (now (plan .entry)) length phase finished) r
         (now (coming .exit)) (now (choice .exit)) ⌝ }
 {
-    let next = moves::next::next(card, mind(beliefs, goals, length, phase, finished), plan);
+    let next = moves::next::next(
+        card,
+        beliefs,
+        goals,
+        standing(length, phase, finished),
+        plan,
+    );
     let k = next.coming;
     *coming = coming_number(k);
     *choice = coming_choice(k);
@@ -334,7 +345,9 @@ pub extern "C" fn rigtemple_4_save_parts(
 {
     let saved = place::save::save(
         card,
-        mind(beliefs, goals, length, phase, finished),
+        beliefs,
+        goals,
+        standing(length, phase, finished),
         plan,
         place,
     );

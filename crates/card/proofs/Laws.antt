@@ -16,9 +16,8 @@ use Rattle.paper.specs.Atoms.{bit, _∈_, _∪_}
 use Rattle.paper.proofs.Sets.{∈-∪}
 use Rattle.meaning.specs.declared.Layout.{Layout}
 use Rattle.meaning.specs.Kinds.{NodeKind, nodeKind}
-use Rattle.meaning.specs.Card.{Bytes, nodeAt, specificationAt}
+use Rattle.meaning.specs.Card.{Bytes, nodeAt}
 use Rattle.meaning.specs.Refusals.{nodesGood, containsOf, containing}
-use Rattle.meaning.proofs.Widening.{length-set-at}
 use Rattle.meaning.proofs.NodeKinds.{is-true, is-belief, is-goal, is-not, is-and, is-or, Known, leaf, inner}
 use Rattle.meaning.proofs.Nodes.{made-from, contains-children}
 use Rattle.card.specs.Marks.{tells, markOf, Marks}
@@ -84,8 +83,3 @@ marked-all kind l b marks m i h = elim (decLt i (l .nodes .count)) [
   | yes k ↦ rw (m .1 i k, lt-ltb i (l .nodes .count) k)
   | no k ↦ rw (m .2 i (omega arith) h, le-ltb i (l .nodes .count) (omega arith))
 ]
-
--- both sets of a specification are 32 bytes
-pub sets-long : (l : Layout) (b : Bytes) (i : ℕ) → (length (specificationAt l b i .add) ≡ 32) × (length (specificationAt l b i .del) ≡ 32)
-unfolding specificationAt
-sets-long l b i = (length-set-at l b _, length-set-at l b _)

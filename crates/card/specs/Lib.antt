@@ -1,4 +1,5 @@
 pub mod Marks
+pub mod AddDel
 pub mod Entries
 pub mod Rows
 pub mod GoodCard

@@ -3,13 +3,16 @@ ghost use mathlib.Core.Path.{_≡_};
 ghost use mathlib.Core.Bool.{true};
 ghost use Prim.Native.Nat.{_+_, _≤_};
 ghost use lib.ListN.{length};
+ghost use Rattle.meaning.specs.Sizes.{edition1Set, edition2Set, setBytes};
 ghost use Rattle.meaning.specs.Card.{part};
 ghost use Rattle.meaning.specs.Refusals.{weightsGood, actionsGood, pool, setGood, setsGood};
 ghost use Rattle.layout.specs.GoodLayout.{GoodLayout};
-use layout::entries::add_both;
+ghost use Rattle.card.specs.AddDel.{allAddDel};
+use layout::bytes::add_bytes;
 use layout::entries::initial_beliefs;
 use layout::entries::initial_goals;
 use layout::entries::read_weight;
+use layout::entries::specification_at;
 use layout::header::in_range;
 use layout::limits::heaviest_action;
 use meaning::Layout;
@@ -63,19 +66,54 @@ pub fn pool_good(card: &[u8], l: Layout) -> bool
     )
 }
 
+// The atoms of every Add and, behind them, those of every Del, of a card of edition 1: both stand beside each other in a
+// specification. The array's length and the number of bytes are written out, so that the compiler keeps it in registers.
+fn all_add_del_1(card: &[u8], l: Layout) -> [u8; 32]
+    requires { ⌜ GoodLayout l (now card) × (setBytes l ≡ edition1Set) ⌝ }
+    ensures { λ r. ⌜ r ≡ allAddDel l (now (card .entry)) ⌝ }
+{
+    let section = l.specifications;
+    let n = section.count as usize;
+    let mut all = [0u8; 32];
+    let mut i: usize = 0;
+    while i < n {
+        add_bytes(&mut all, card, specification_at(l, i) + 4, 32);
+        i += 1;
+    }
+    all
+}
+
+// The same of a card of edition 2.
+fn all_add_del_2(card: &[u8], l: Layout) -> [u8; 64]
+    requires { ⌜ GoodLayout l (now card) × (setBytes l ≡ edition2Set) ⌝ }
+    ensures { λ r. ⌜ r ≡ allAddDel l (now (card .entry)) ⌝ }
+{
+    let section = l.specifications;
+    let n = section.count as usize;
+    let mut all = [0u8; 64];
+    let mut i: usize = 0;
+    while i < n {
+        add_bytes(&mut all, card, specification_at(l, i) + 4, 64);
+        i += 1;
+    }
+    all
+}
+
 // The atoms of all the card's sets: the initial beliefs and goals, and each Add and Del.
 fn all_sets(card: &[u8], l: Layout) -> Set
     requires { ⌜ GoodLayout l (now card) ⌝ }
     ensures { λ r. ⌜ setGood (l .atoms) r ≡ setsGood l (now (card .entry)) ⌝ }
 {
-    let section = l.specifications;
-    let n = section.count as usize;
     let mut all = sets::union(initial_beliefs(card, l), initial_goals(card, l));
-    let mut i: usize = 0;
-    while i < n {
-        add_both(&mut all, card, l, i);
-        i += 1;
+    if l.edition == 2 {
+        let both = all_add_del_2(card, l);
+        add_bytes(&mut all, &both, 0, 32);
+        add_bytes(&mut all, &both, 32, 32);
+        return all;
     }
+    let both = all_add_del_1(card, l);
+    add_bytes(&mut all, &both, 0, 16);
+    add_bytes(&mut all, &both, 16, 16);
     all
 }
 

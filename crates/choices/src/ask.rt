@@ -5,9 +5,9 @@ ghost use Prim.Native.Nat.{_<_};
 ghost use Rattle.paper.specs.Transitions.{select, act, revise};
 ghost use Rattle.paper.specs.Next.{enabled};
 ghost use Rattle.runs.specs.Order.{guide};
-ghost use Rattle.door.specs.Words.{agentFor, stateOf, configured, asked, choiceAt, chosen, firstOfKind};
+ghost use Rattle.door.specs.Words.{agentFor, stateOf, asked, choiceAt, chosen, firstOfKind};
 ghost use Rattle.layout.specs.Entries.{countOf};
-ghost use Rattle.choices.specs.Judged.{ofMark, Judged};
+ghost use Rattle.choices.specs.Judged.{ofMark, SomeSets, AllSets};
 ghost use Rattle.door.specs.Asking.{askedBy};
 use crate::truth::Marks;
 use crate::truth::both_of;
@@ -21,8 +21,8 @@ use layout::entries::read_revision;
 use layout::entries::read_selection;
 use layout::entries::read_specification;
 use meaning::Layout;
-use meaning::Mind;
 use meaning::Plan;
+use meaning::Standing;
 
 // By whether the plan's front fits, and the mark of the conditions: in this order. "Whoever judges a condition passes it on".
 fn asked_by(front: bool, conditions: u16) -> Asked
@@ -40,9 +40,10 @@ fn asked_by(front: bool, conditions: u16) -> Asked
 
 // Selection rule i: "Enabled if the plan is empty and both conditions of the rule hold."; "the belief condition before the goal
 // condition".
-fn ask_selection(card: &[u8], l: Layout, m: Mind, plan: &Plan, marks: &Marks, i: usize) -> Asked
-    requires { ⌜ Judged l (now card) (configured m (now plan)) (now marks) × (i < l .selections .count) ⌝ }
-    ensures { λ r. ⌜ r ≡ asked l (now (card .entry)) (stateOf (configured m (now (plan .entry))) .mental) (select i) ⌝ }
+fn ask_selection(card: &[u8], l: Layout, m: Standing, plan: &Plan, marks: &Marks, i: usize) -> Asked
+    requires { ⌜ SomeSets l (now card) m (now plan) (now marks) × (i < l .selections .count) ⌝ }
+    ensures { λ r. ⌜ AllSets l (now (card .entry)) m (now (plan .entry)) (now (marks .entry))
+        (λ c. r ≡ asked l (now (card .entry)) (stateOf c .mental) (select i)) ⌝ }
 {
     let e = read_selection(card, l, i);
     let belief = marks[e.belief as usize];
@@ -52,9 +53,17 @@ fn ask_selection(card: &[u8], l: Layout, m: Mind, plan: &Plan, marks: &Marks, i:
 
 // Specification i: "Enabled … if the plan is not empty, its first action is that of the specification, and the precondition
 // holds."
-fn ask_specification(card: &[u8], l: Layout, m: Mind, plan: &Plan, marks: &Marks, i: usize) -> Asked
-    requires { ⌜ Judged l (now card) (configured m (now plan)) (now marks) × (i < l .specifications .count) ⌝ }
-    ensures { λ r. ⌜ r ≡ asked l (now (card .entry)) (stateOf (configured m (now (plan .entry))) .mental) (act i) ⌝ }
+fn ask_specification(
+    card: &[u8],
+    l: Layout,
+    m: Standing,
+    plan: &Plan,
+    marks: &Marks,
+    i: usize,
+) -> Asked
+    requires { ⌜ SomeSets l (now card) m (now plan) (now marks) × (i < l .specifications .count) ⌝ }
+    ensures { λ r. ⌜ AllSets l (now (card .entry)) m (now (plan .entry)) (now (marks .entry))
+        (λ c. r ≡ asked l (now (card .entry)) (stateOf c .mental) (act i)) ⌝ }
 {
     let e = read_specification(card, l, i);
     let first = plan[0];
@@ -63,9 +72,10 @@ fn ask_specification(card: &[u8], l: Layout, m: Mind, plan: &Plan, marks: &Marks
 }
 
 // Revision rule i: "Enabled if the head is a prefix of the plan and the condition holds."
-fn ask_revision(card: &[u8], l: Layout, m: Mind, plan: &Plan, marks: &Marks, i: usize) -> Asked
-    requires { ⌜ Judged l (now card) (configured m (now plan)) (now marks) × (i < l .revisions .count) ⌝ }
-    ensures { λ r. ⌜ r ≡ asked l (now (card .entry)) (stateOf (configured m (now (plan .entry))) .mental) (revise i) ⌝ }
+fn ask_revision(card: &[u8], l: Layout, m: Standing, plan: &Plan, marks: &Marks, i: usize) -> Asked
+    requires { ⌜ SomeSets l (now card) m (now plan) (now marks) × (i < l .revisions .count) ⌝ }
+    ensures { λ r. ⌜ AllSets l (now (card .entry)) m (now (plan .entry)) (now (marks .entry))
+        (λ c. r ≡ asked l (now (card .entry)) (stateOf c .mental) (revise i)) ⌝ }
 {
     let e = read_revision(card, l, i);
     let head = e.head;
@@ -79,14 +89,15 @@ fn ask_revision(card: &[u8], l: Layout, m: Mind, plan: &Plan, marks: &Marks, i: 
 fn ask_entry(
     card: &[u8],
     l: Layout,
-    m: Mind,
+    m: Standing,
     plan: &Plan,
     marks: &Marks,
     kind: u8,
     i: usize,
 ) -> Asked
-    requires { ⌜ Judged l (now card) (configured m (now plan)) (now marks) × (kind < 3) × (i < countOf l kind) ⌝ }
-    ensures { λ r. ⌜ r ≡ asked l (now (card .entry)) (stateOf (configured m (now (plan .entry))) .mental) (choiceAt kind i) ⌝ }
+    requires { ⌜ SomeSets l (now card) m (now plan) (now marks) × (kind < 3) × (i < countOf l kind) ⌝ }
+    ensures { λ r. ⌜ AllSets l (now (card .entry)) m (now (plan .entry)) (now (marks .entry))
+        (λ c. r ≡ asked l (now (card .entry)) (stateOf c .mental) (choiceAt kind i)) ⌝ }
 {
     match kind {
         0 => ask_selection(card, l, m, plan, marks, i),
@@ -96,9 +107,18 @@ fn ask_entry(
 }
 
 // A choice of any number.
-pub fn ask(card: &[u8], l: Layout, m: Mind, plan: &Plan, marks: &Marks, kind: u8, i: usize) -> Asked
-    requires { ⌜ Judged l (now card) (configured m (now plan)) (now marks) × (kind < 3) ⌝ }
-    ensures { λ r. ⌜ r ≡ asked l (now (card .entry)) (stateOf (configured m (now (plan .entry))) .mental) (choiceAt kind i) ⌝ }
+pub fn ask(
+    card: &[u8],
+    l: Layout,
+    m: Standing,
+    plan: &Plan,
+    marks: &Marks,
+    kind: u8,
+    i: usize,
+) -> Asked
+    requires { ⌜ SomeSets l (now card) m (now plan) (now marks) × (kind < 3) ⌝ }
+    ensures { λ r. ⌜ AllSets l (now (card .entry)) m (now (plan .entry)) (now (marks .entry))
+        (λ c. r ≡ asked l (now (card .entry)) (stateOf c .mental) (choiceAt kind i)) ⌝ }
 {
     if count_of(l, kind) <= i {
         return Asked::NoRule;
@@ -107,9 +127,17 @@ pub fn ask(card: &[u8], l: Layout, m: Mind, plan: &Plan, marks: &Marks, kind: u8
 }
 
 // Whether selection rule i is enabled: the plan is looked at first.
-fn selection_enabled(card: &[u8], l: Layout, m: Mind, plan: &Plan, marks: &Marks, i: usize) -> bool
-    requires { ⌜ Judged l (now card) (configured m (now plan)) (now marks) × (i < l .selections .count) ⌝ }
-    ensures { λ r. ⌜ r ≡ enabled (agentFor l (now (card .entry))) (stateOf (configured m (now (plan .entry))) .mental) (select i) ⌝ }
+fn selection_enabled(
+    card: &[u8],
+    l: Layout,
+    m: Standing,
+    plan: &Plan,
+    marks: &Marks,
+    i: usize,
+) -> bool
+    requires { ⌜ SomeSets l (now card) m (now plan) (now marks) × (i < l .selections .count) ⌝ }
+    ensures { λ r. ⌜ AllSets l (now (card .entry)) m (now (plan .entry)) (now (marks .entry))
+        (λ c. r ≡ enabled (agentFor l (now (card .entry))) (stateOf c .mental) (select i)) ⌝ }
 {
     if m.length != 0 {
         return false;
@@ -124,13 +152,14 @@ fn selection_enabled(card: &[u8], l: Layout, m: Mind, plan: &Plan, marks: &Marks
 fn specification_enabled(
     card: &[u8],
     l: Layout,
-    m: Mind,
+    m: Standing,
     plan: &Plan,
     marks: &Marks,
     i: usize,
 ) -> bool
-    requires { ⌜ Judged l (now card) (configured m (now plan)) (now marks) × (i < l .specifications .count) ⌝ }
-    ensures { λ r. ⌜ r ≡ enabled (agentFor l (now (card .entry))) (stateOf (configured m (now (plan .entry))) .mental) (act i) ⌝ }
+    requires { ⌜ SomeSets l (now card) m (now plan) (now marks) × (i < l .specifications .count) ⌝ }
+    ensures { λ r. ⌜ AllSets l (now (card .entry)) m (now (plan .entry)) (now (marks .entry))
+        (λ c. r ≡ enabled (agentFor l (now (card .entry))) (stateOf c .mental) (act i)) ⌝ }
 {
     let e = read_specification(card, l, i);
     let first = plan[0];
@@ -142,9 +171,17 @@ fn specification_enabled(
 }
 
 // Whether revision rule i is enabled: its condition is looked at first.
-fn revision_enabled(card: &[u8], l: Layout, m: Mind, plan: &Plan, marks: &Marks, i: usize) -> bool
-    requires { ⌜ Judged l (now card) (configured m (now plan)) (now marks) × (i < l .revisions .count) ⌝ }
-    ensures { λ r. ⌜ r ≡ enabled (agentFor l (now (card .entry))) (stateOf (configured m (now (plan .entry))) .mental) (revise i) ⌝ }
+fn revision_enabled(
+    card: &[u8],
+    l: Layout,
+    m: Standing,
+    plan: &Plan,
+    marks: &Marks,
+    i: usize,
+) -> bool
+    requires { ⌜ SomeSets l (now card) m (now plan) (now marks) × (i < l .revisions .count) ⌝ }
+    ensures { λ r. ⌜ AllSets l (now (card .entry)) m (now (plan .entry)) (now (marks .entry))
+        (λ c. r ≡ enabled (agentFor l (now (card .entry))) (stateOf c .mental) (revise i)) ⌝ }
 {
     let e = read_revision(card, l, i);
     let belief = marks[e.node as usize];
@@ -160,14 +197,15 @@ fn revision_enabled(card: &[u8], l: Layout, m: Mind, plan: &Plan, marks: &Marks,
 pub fn is_enabled(
     card: &[u8],
     l: Layout,
-    m: Mind,
+    m: Standing,
     plan: &Plan,
     marks: &Marks,
     kind: u8,
     i: usize,
 ) -> bool
-    requires { ⌜ Judged l (now card) (configured m (now plan)) (now marks) × (kind < 3) × (i < countOf l kind) ⌝ }
-    ensures { λ r. ⌜ r ≡ enabled (agentFor l (now (card .entry))) (stateOf (configured m (now (plan .entry))) .mental) (choiceAt kind i) ⌝ }
+    requires { ⌜ SomeSets l (now card) m (now plan) (now marks) × (kind < 3) × (i < countOf l kind) ⌝ }
+    ensures { λ r. ⌜ AllSets l (now (card .entry)) m (now (plan .entry)) (now (marks .entry))
+        (λ c. r ≡ enabled (agentFor l (now (card .entry))) (stateOf c .mental) (choiceAt kind i)) ⌝ }
 {
     match kind {
         0 => selection_enabled(card, l, m, plan, marks, i),
@@ -180,13 +218,14 @@ pub fn is_enabled(
 pub fn first_of_kind(
     card: &[u8],
     l: Layout,
-    m: Mind,
+    m: Standing,
     plan: &Plan,
     marks: &Marks,
     kind: u8,
 ) -> Chosen
-    requires { ⌜ Judged l (now card) (configured m (now plan)) (now marks) × (kind < 3) ⌝ }
-    ensures { λ r. ⌜ r ≡ firstOfKind l (now (card .entry)) (configured m (now (plan .entry))) kind ⌝ }
+    requires { ⌜ SomeSets l (now card) m (now plan) (now marks) × (kind < 3) ⌝ }
+    ensures { λ r. ⌜ AllSets l (now (card .entry)) m (now (plan .entry)) (now (marks .entry))
+        (λ c. r ≡ firstOfKind l (now (card .entry)) c kind) ⌝ }
 {
     let n = count_of(l, kind);
     let mut i: usize = 0;
@@ -201,9 +240,10 @@ pub fn first_of_kind(
 
 // "From phase p the kinds p, p+1, p+2 (modulo 3) are tried in turn. In the first kind with an enabled transition, the lowest
 // number is taken."
-pub fn choose(card: &[u8], l: Layout, m: Mind, plan: &Plan, marks: &Marks) -> Chosen
-    requires { ⌜ Judged l (now card) (configured m (now plan)) (now marks) ⌝ }
-    ensures { λ r. ⌜ r ≡ chosen (guide (agentFor l (now (card .entry))) (stateOf (configured m (now (plan .entry))))) ⌝ }
+pub fn choose(card: &[u8], l: Layout, m: Standing, plan: &Plan, marks: &Marks) -> Chosen
+    requires { ⌜ SomeSets l (now card) m (now plan) (now marks) ⌝ }
+    ensures { λ r. ⌜ AllSets l (now (card .entry)) m (now (plan .entry)) (now (marks .entry))
+        (λ c. r ≡ chosen (guide (agentFor l (now (card .entry))) (stateOf c))) ⌝ }
 {
     let p = m.phase;
     let mut t: u8 = 0;

@@ -12,7 +12,6 @@ ghost use Rattle.choices.specs.OnePass.{keptOf};
 ghost use Rattle.choices.specs.Judged.{ofMark, markAt, either, Marked};
 use layout::entries::read_node;
 use meaning::Layout;
-use meaning::Mind;
 use meaning::Node;
 use meaning::Set;
 
@@ -94,17 +93,16 @@ fn judge(i: u8, x: Node, beliefs: &Set, goals: &Set, marks: &Marks) -> u16
 }
 
 // Every node, over marks of whatever was before.
-pub fn judge_nodes(card: &[u8], l: Layout, m: Mind, marks: &mut Marks)
+pub fn judge_nodes(card: &[u8], l: Layout, beliefs: &Set, goals: &Set, marks: &mut Marks)
     requires { ⌜ GoodCard l (now card) × (length (now marks) ≡ 256) ⌝ }
-    ensures { λ r. ⌜ Marked l (now (card .entry)) m (now (marks .exit)) × (length (now (marks .exit)) ≡ 256) ⌝ }
+    ensures { λ r. ⌜ Marked l (now (card .entry)) (now (beliefs .entry)) (now (goals .entry)) (now (marks .exit))
+        × (length (now (marks .exit)) ≡ 256) ⌝ }
 {
     let nodes = l.nodes;
     let n = nodes.count as usize;
-    let beliefs = m.beliefs;
-    let goals = m.goals;
     let mut i: usize = 0;
     while i < n {
-        let mark = judge(i as u8, read_node(card, l, i), &beliefs, &goals, marks);
+        let mark = judge(i as u8, read_node(card, l, i), beliefs, goals, marks);
         marks[i] = mark;
         i += 1;
     }

@@ -15,7 +15,9 @@ use Rattle.meaning.specs.declared.Answer.{Answer}
 use Rattle.meaning.specs.declared.Answer.the-variants.{Done, Refused}
 use Rattle.meaning.specs.declared.Layout.{Layout}
 use Rattle.meaning.specs.declared.Checked.{Checked}
+use Rattle.meaning.specs.declared.Standing.{Standing}
 use Rattle.meaning.specs.declared.Configuration.{Configuration}
+use Rattle.layout.specs.PlaceParts.{configured}
 use Rattle.meaning.specs.Card.{Bytes, layout, conditions, agentFor, agent}
 use Rattle.meaning.specs.Configurations.{stateOf}
 use Rattle.meaning.specs.Refusals.{containing, configurationGood}
@@ -126,9 +128,10 @@ module _ (d d₁ d₂ : Bytes) (top : ℕ) (h : top ≤ 128) (s : length d ≡ 1
       λ i. record { length = sym n i; numbers = q i }
 
 -- what the moves came to, as it is answered
-pub ran-so : (o : Outcome) (r : RanMoves) (plan stack numbers : Bytes) (n : ℕ) → RanTo o r plan stack → remains n numbers ≡ remainingOf (drop (r .top) stack)
-    → deliberatedWith (record { answer = Done; count = r .count; ending = r .ending; mind = r .mind; length = n }) plan numbers ≡ deliberated o
-ran-so o r plan stack numbers n t e =
+pub ran-so : (o : Outcome) (r : RanMoves) (σ γ plan stack numbers : Bytes) (n : ℕ) → RanTo o r (configured σ γ (r .standing) plan) stack
+    → remains n numbers ≡ remainingOf (drop (r .top) stack)
+    → deliberatedWith (record { answer = Done; count = r .count; ending = r .ending; standing = r .standing; length = n }) σ γ plan numbers ≡ deliberated o
+ran-so o r σ γ plan stack numbers n t e =
     let q = e ∙ ap remainingOf (t .numbers) in
     λ i. record { answer = Done; count = t .count i; ending = t .ending i; configuration = t .configuration i; remaining = q i }
 
@@ -211,8 +214,9 @@ module _ (b p : Bytes) where
   }
 
   -- a refusal as it is answered
-  pub refused-so : (ns : List ℕ) (c : Configuration) (budget : ℕ) (lent : Bytes) (q : Refusal) → goOnAnswer b p ns c ≡ Refused q → (a : Answer) → a ≡ Refused q
-      → (r : DeliberatedInPlace) → r ≡ refusedWith a (c .mind) → deliberatedWith r (c .plan) lent ≡ goesOn b p ns c budget lent
-  refused-so ns c budget lent q e a f r g =
-      ap (λ (x : DeliberatedInPlace). deliberatedWith x (c .plan) lent) (g ∙ ap (λ x. refusedWith x (c .mind)) f)
-      ∙ sym (goes-on-refused b p ns c budget lent q e)
+  pub refused-so : (ns : List ℕ) (σ γ : Bytes) (m : Standing) (plan : Bytes) (budget : ℕ) (lent : Bytes) (q : Refusal)
+      → goOnAnswer b p ns (configured σ γ m plan) ≡ Refused q → (a : Answer) → a ≡ Refused q
+      → (r : DeliberatedInPlace) → r ≡ refusedWith a m → deliberatedWith r σ γ plan lent ≡ goesOn b p ns (configured σ γ m plan) budget lent
+  refused-so ns σ γ m plan budget lent q e a f r g =
+      ap (λ (x : DeliberatedInPlace). deliberatedWith x σ γ plan lent) (g ∙ ap (λ x. refusedWith x m) f)
+      ∙ sym (goes-on-refused b p ns (configured σ γ m plan) budget lent q e)

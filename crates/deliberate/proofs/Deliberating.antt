@@ -14,12 +14,12 @@ use Rattle.runs.specs.Order.{State, kind}
 use Rattle.runs.specs.Step.{after, Reached, step}
 use Rattle.runs.proofs.Step.{StepsTo, none-there, too-long, taken, steps-to}
 use Rattle.meaning.specs.declared.Layout.{Layout}
+use Rattle.meaning.specs.declared.Standing.{Standing}
 use Rattle.meaning.specs.declared.Configuration.{Configuration}
 use Rattle.meaning.specs.Card.{Bytes, conditions, agentFor}
 use Rattle.meaning.specs.Refusals.{containing}
 use Rattle.meaning.specs.Configurations.{stateOf, configurationOf}
 use Rattle.meaning.proofs.Configurations.{configuration-laws}
-use Rattle.layout.specs.PlaceParts.{configured}
 use Rattle.door.specs.Ready.{Ready}
 use Rattle.moves.proofs.Running.{ready-back, ready-after}
 use Rattle.deliberation.specs.declared.DeliberationEnding.{DeliberationEnding}
@@ -94,13 +94,13 @@ module _ (l : Layout) (b p : Bytes) where
 
   module _ (budget : ℕ) (all : Outcome) (c : Configuration) (stack : Bytes) (top count : ℕ) (d : Deliberating budget all c stack top count) where
     -- what is answered where it ends here
-    abbrev Answered : DeliberationEnding → Configuration → ℕ → Bytes → Type 0
-    Answered e c′ top′ stack′ = RanTo all (record { mind = c′ .mind; count = count; ending = e; top = top′ }) (c′ .plan) stack′
+    abbrev Answered : DeliberationEnding → Standing → Configuration → ℕ → Bytes → Type 0
+    Answered e m c′ top′ stack′ = RanTo all (record { standing = m; count = count; ending = e; top = top′ }) c′ stack′
 
-    ends : (e : DeliberationEnding) → outcome (budget - count) (drop top stack) (stateOf c) ≡ ended e (drop top stack) (stateOf c)
+    ends : (e : DeliberationEnding) (m : Standing) → outcome (budget - count) (drop top stack) (stateOf c) ≡ ended e (drop top stack) (stateOf c)
         → (c′ : Configuration) (top′ : ℕ) (stack′ : Bytes) → c′ ≡ c → drop top′ stack′ ≡ drop top stack → top′ ≤ 128 → length stack′ ≡ 128
-        → Answered e c′ top′ stack′
-    ends e q c′ top′ stack′ f g w r =
+        → Answered e m c′ top′ stack′
+    ends e m q c′ top′ stack′ f g w r =
         let n : count ≡ count + 0 = omega arith in
         let o : counted count (ended e (drop top stack) (stateOf c)) ≡ all = ap (counted count) (sym q) ∙ d .same in
         record {
@@ -112,25 +112,25 @@ module _ (l : Layout) (b p : Bytes) where
           room = r;
         }
 
-    ends-here : (e : DeliberationEnding) → outcome (budget - count) (drop top stack) (stateOf c) ≡ ended e (drop top stack) (stateOf c)
-        → Answered e c top stack
-    ends-here e q = ends e q c top stack refl refl (d .remains .within) (d .remains .room)
+    ends-here : (e : DeliberationEnding) (m : Standing) → outcome (budget - count) (drop top stack) (stateOf c) ≡ ended e (drop top stack) (stateOf c)
+        → Answered e m c top stack
+    ends-here e m q = ends e m q c top stack refl refl (d .remains .within) (d .remains .room)
 
-    pub is-spent : budget ≤ count → Answered DeliberationEnding.Spent c top stack
+    pub is-spent : (m : Standing) → budget ≤ count → Answered DeliberationEnding.Spent m c top stack
     unfolding deliberate
-    is-spent h = let z : budget - count ≡ 0 = omega arith in ends-here DeliberationEnding.Spent (ap (λ n. outcome n (drop top stack) (stateOf c)) z)
+    is-spent m h = let z : budget - count ≡ 0 = omega arith in ends-here DeliberationEnding.Spent m (ap (λ n. outcome n (drop top stack) (stateOf c)) z)
 
     module _ (left-over : count < budget) where
       one-less : budget - count ≡ suc (budget - (count + 1))
       one-less = omega arith
 
-      pub is-finished : top ≡ 128 → Answered DeliberationEnding.Finished c top stack
+      pub is-finished : (m : Standing) → top ≡ 128 → Answered DeliberationEnding.Finished m c top stack
       unfolding deliberate
-      is-finished h =
+      is-finished m h =
           let n : drop top stack ≡ [] = (let w : length stack ≤ top = (let r = d .remains .room in omega arith) in drop-of-length-le stack w) in
-          ends-here DeliberationEnding.Finished (ap₂ (λ m ns. outcome m ns (stateOf c)) one-less n ∙ ap (λ ns. ended DeliberationEnding.Finished ns (stateOf c)) (sym n))
+          ends-here DeliberationEnding.Finished m (ap₂ (λ n ns. outcome n ns (stateOf c)) one-less n ∙ ap (λ ns. ended DeliberationEnding.Finished ns (stateOf c)) (sym n))
 
-      module _ (h : top < 128) (x : AfterMove) (plan left : Bytes) (k : MakesNext l b p c stack top x plan left) where
+      module _ (h : top < 128) (x : AfterMove) (after-it : Configuration) (left : Bytes) (k : MakesNext l b p c stack top x after-it left) where
         abbrev n : ℕ
         n = getD stack top 0
 
@@ -147,39 +147,39 @@ module _ (l : Layout) (b p : Bytes) where
         from-here : outcome (budget - count) (drop top stack) (stateOf c) ≡ outcome (suc (budget - (count + 1))) (n ∷ ns) (stateOf c)
         from-here = ap₂ (λ m rs. outcome m rs (stateOf c)) one-less first
 
-        made-so : (o : MoveResult) → comes ≡ o → Makes l b c (drop top stack) o x plan left
-        made-so o e = subst (λ z. Makes l b c (drop top stack) z x plan left) e k
+        made-so : (o : MoveResult) → comes ≡ o → Makes l b c (drop top stack) o x after-it left
+        made-so o e = subst (λ z. Makes l b c (drop top stack) z x after-it left) e k
 
-        stopped : (e : DeliberationEnding) (o : MoveResult) → comes ≡ o → numbersAfter o (drop top stack) ≡ drop top stack → configurationAfter o c ≡ c
-            → outcome (suc (budget - (count + 1))) (n ∷ ns) (stateOf c) ≡ ended e (n ∷ ns) (stateOf c) → Answered e (configured (x .mind) plan) (x .top) left
-        stopped e o q f g r =
-            let m = made-so o q in
-            ends e (from-here ∙ r ∙ ap (λ rs. ended e rs (stateOf c)) (sym first)) (configured (x .mind) plan) (x .top) left (m .configuration ∙ g) (m .numbers ∙ f) (m .within) (m .room)
+        stopped : (e : DeliberationEnding) (m : Standing) (o : MoveResult) → comes ≡ o → numbersAfter o (drop top stack) ≡ drop top stack → configurationAfter o c ≡ c
+            → outcome (suc (budget - (count + 1))) (n ∷ ns) (stateOf c) ≡ ended e (n ∷ ns) (stateOf c) → Answered e m after-it (x .top) left
+        stopped e m o q f g r =
+            let y = made-so o q in
+            ends e m (from-here ∙ r ∙ ap (λ rs. ended e rs (stateOf c)) (sym first)) after-it (x .top) left (y .configuration ∙ g) (y .numbers ∙ f) (y .within) (y .room)
 
-        is-stuck : x .made ≡ MoveMade.Stuck → Answered DeliberationEnding.Stuck (configured (x .mind) plan) (x .top) left
-        is-stuck e = by comes refl
+        is-stuck : (m : Standing) → x .made ≡ MoveMade.Stuck → Answered DeliberationEnding.Stuck m after-it (x .top) left
+        is-stuck m e = by comes refl
           where
-            by : (o : MoveResult) → comes ≡ o → Answered DeliberationEnding.Stuck (configured (x .mind) plan) (x .top) left
-            by stuck q = stopped DeliberationEnding.Stuck stuck q refl refl (run-stuck (agentFor l b) (conditions 𝐁 l b) (entriesOf p) (budget - (count + 1)) n ns (stateOf c) q)
+            by : (o : MoveResult) → comes ≡ o → Answered DeliberationEnding.Stuck m after-it (x .top) left
+            by stuck q = stopped DeliberationEnding.Stuck m stuck q refl refl (run-stuck (agentFor l b) (conditions 𝐁 l b) (entriesOf p) (budget - (count + 1)) n ns (stateOf c) q)
             by Deliberate.too-long q = absurd (let u = sym (made-so _ q .made) ∙ e in let z : _≡_ {A = ℕ} 0 1 = cc in omega arith)
             by (on ms t) q = absurd (let u = sym (made-so _ q .made) ∙ e in let z : _≡_ {A = ℕ} 0 1 = cc in omega arith)
 
-        is-full : x .made ≡ MoveMade.Full → Answered DeliberationEnding.Full (configured (x .mind) plan) (x .top) left
-        is-full e = by comes refl
+        is-full : (m : Standing) → x .made ≡ MoveMade.Full → Answered DeliberationEnding.Full m after-it (x .top) left
+        is-full m e = by comes refl
           where
-            by : (o : MoveResult) → comes ≡ o → Answered DeliberationEnding.Full (configured (x .mind) plan) (x .top) left
+            by : (o : MoveResult) → comes ≡ o → Answered DeliberationEnding.Full m after-it (x .top) left
             by stuck q = absurd (let u = sym (made-so _ q .made) ∙ e in let z : _≡_ {A = ℕ} 0 1 = cc in omega arith)
-            by Deliberate.too-long q = stopped DeliberationEnding.Full Deliberate.too-long q refl refl (run-full (agentFor l b) (conditions 𝐁 l b) (entriesOf p) (budget - (count + 1)) n ns (stateOf c) q)
+            by Deliberate.too-long q = stopped DeliberationEnding.Full m Deliberate.too-long q refl refl (run-full (agentFor l b) (conditions 𝐁 l b) (entriesOf p) (budget - (count + 1)) n ns (stateOf c) q)
             by (on ms t) q = absurd (let u = sym (made-so _ q .made) ∙ e in let z : _≡_ {A = ℕ} 0 1 = cc in omega arith)
 
         -- either, by which it is not made
-        pub is-stopped : (x .made ≡ MoveMade.On → ⊥) → Answered (stoppedBy (x .made)) (configured (x .mind) plan) (x .top) left
-        is-stopped off = by (x .made) refl
+        pub is-stopped : (m : Standing) → (x .made ≡ MoveMade.On → ⊥) → Answered (stoppedBy (x .made)) m after-it (x .top) left
+        is-stopped m off = by (x .made) refl
           where
-            by : (t : MoveMade) → x .made ≡ t → Answered (stoppedBy t) (configured (x .mind) plan) (x .top) left
+            by : (t : MoveMade) → x .made ≡ t → Answered (stoppedBy t) m after-it (x .top) left
             by MoveMade.On e = absurd (off e)
-            by MoveMade.Stuck e = is-stuck e
-            by MoveMade.Full e = is-full e
+            by MoveMade.Stuck e = is-stuck m e
+            by MoveMade.Full e = is-full m e
 
         ready-there : {t : State} → Led (agentFor l b) (stateOf c) t → Ready l b (configurationOf t) × (stateOf (configurationOf t) ≡ t)
         unfolding after
@@ -204,10 +204,10 @@ module _ (l : Layout) (b p : Bytes) where
                   w,
                 )
 
-        pub is-on : GoodProgram l b p → x .made ≡ MoveMade.On → Deliberating budget all (configured (x .mind) plan) left (x .top) (count + 1)
+        pub is-on : GoodProgram l b p → x .made ≡ MoveMade.On → Deliberating budget all after-it left (x .top) (count + 1)
         is-on g e = by comes refl
           where
-            by : (o : MoveResult) → comes ≡ o → Deliberating budget all (configured (x .mind) plan) left (x .top) (count + 1)
+            by : (o : MoveResult) → comes ≡ o → Deliberating budget all after-it left (x .top) (count + 1)
             by stuck q = absurd (let u = sym (made-so _ q .made) ∙ e in let z : _≡_ {A = ℕ} 0 1 = cc in omega arith)
             by Deliberate.too-long q = absurd (let u = sym (made-so _ q .made) ∙ e in let z : _≡_ {A = ℕ} 0 1 = cc in omega arith)
             by (on ms t) q =

@@ -16,14 +16,13 @@ use Rattle.runs.specs.Order.{State, kind, number, first, ofKind}
 use Rattle.runs.specs.Step.{after, Reached, nothing, full, step}
 use Rattle.runs.proofs.Order.{kind-lt, first-yes, first-no}
 use Rattle.runs.proofs.Step.{StepsTo, none-there, too-long, taken, steps-to}
-use Rattle.meaning.specs.declared.Mind.{Mind}
+use Rattle.meaning.specs.declared.Standing.{Standing}
 use Rattle.meaning.specs.declared.Layout.{Layout}
 use Rattle.meaning.specs.declared.Node.{Node}
 use Rattle.meaning.specs.declared.Configuration.{Configuration}
 use Rattle.meaning.specs.Card.{Bytes, condition, conditions, agentFor}
 use Rattle.meaning.specs.Refusals.{containing}
 use Rattle.meaning.specs.Configurations.{stateOf, configurationOf}
-use Rattle.layout.specs.PlaceParts.{configured}
 use Rattle.door.specs.declared.asked.Chosen.{Chosen}
 use Rattle.choices.specs.OnePass.{kept}
 use Rattle.door.specs.Ready.{Ready}
@@ -47,7 +46,6 @@ use Rattle.deliberation.proofs.Good.{move-at}
 use Rattle.deliberation.proofs.Run.{leads-nothing, leads-full, leads-to}
 use Rattle.program.specs.GoodProgram.{GoodEntry, GoodProgram}
 use Rattle.deliberate.specs.declared.made.MoveMade.{MoveMade}
-use Rattle.deliberate.specs.declared.made.AfterMove.{AfterMove}
 use Rattle.deliberate.specs.declared.descent.Leaf.{Leaf}
 use Rattle.deliberate.specs.Descent.{AtLeaf}
 use Rattle.deliberate.specs.Made.{madeOf, configurationAfter, numbersAfter, Makes, stayed, movedBy, madeBy, knownAfter, HoldsBy, by-plan, by-mark, again, ifOpen}
@@ -58,7 +56,7 @@ use Rattle.deliberate.specs.Made as Made-specs
 
 -- ---- a transition as a move
 
-module _ (l : Layout) (b : Bytes) (c : Configuration) (k : Choice) (x : Stepped) (p : Bytes) (told : StepsBy l b c k x p) (top : ℕ) (stack : Bytes)
+module _ (l : Layout) (b : Bytes) (c : Configuration) (k : Choice) (x : Stepped) (left : Configuration) (told : StepsBy l b c k (x .transition) left) (top : ℕ) (stack : Bytes)
     (within : top ≤ 128) (room : length stack ≡ 128) where
   abbrev A : Agent
   A = agentFor l b
@@ -72,30 +70,30 @@ module _ (l : Layout) (b : Bytes) (c : Configuration) (k : Choice) (x : Stepped)
   -- what a transition that is not taken leaves is what there was
   not-taken : (o : Reached) → step A s k ≡ o → Steps.configurationAfter o c ≡ c → (y : MoveResult) → leads A s (taking k) ns ≡ y
       → madeBy (transitionOf o) ≡ madeOf y → configurationAfter y c ≡ c → numbersAfter y ns ≡ ns
-      → Makes l b c ns (leads A s (taking k) ns) (movedBy (x .mind) (x .transition) top) p stack
+      → Makes l b c ns (leads A s (taking k) ns) (movedBy (x .standing) (x .transition) top) left stack
   not-taken o e q y f m u v =
-      let same : configured (x .mind) p ≡ c = told .1 ∙ ap (λ z. Steps.configurationAfter z c) e ∙ q in
-      subst (λ z. Makes l b c ns z (movedBy (x .mind) (x .transition) top) p stack) (sym f)
+      let same : left ≡ c = told .1 ∙ ap (λ z. Steps.configurationAfter z c) e ∙ q in
+      subst (λ z. Makes l b c ns z (movedBy (x .standing) (x .transition) top) left stack) (sym f)
       (record {
         made = ap madeBy (told .0 ∙ ap transitionOf e) ∙ m;
         configuration = same ∙ sym u;
         numbers = sym v;
         within = within;
         room = room;
-        keeps = λ z marks w. subst (λ (y : Configuration). Marked l b (y .mind) marks) (sym same) w;
+        keeps = λ z marks w. subst (λ (y : Configuration). Marked l b (y .mind .beliefs) (y .mind .goals) marks) (sym same) w;
       })
 
-  pub takes-so : Makes l b c ns (leads A s (taking k) ns) (movedBy (x .mind) (x .transition) top) p stack
+  pub takes-so : Makes l b c ns (leads A s (taking k) ns) (movedBy (x .standing) (x .transition) top) left stack
   unfolding after configurationOf stateOf
   takes-so = go refl (steps-to A s k)
     where
-      go : {o : Reached} → step A s k ≡ o → StepsTo A s k o → Makes l b c ns (leads A s (taking k) ns) (movedBy (x .mind) (x .transition) top) p stack
+      go : {o : Reached} → step A s k ≡ o → StepsTo A s k o → Makes l b c ns (leads A s (taking k) ns) (movedBy (x .standing) (x .transition) top) left stack
       go e (none-there h) = not-taken nothing e refl stuck (leads-nothing A s k ns e) refl refl refl
       go e (too-long d t h) = not-taken full e refl Deliberate.too-long (leads-full A s k ns e) refl refl refl
       go e (taken d t h) =
-          let at : configured (x .mind) p ≡ configurationOf (after s k d) = told .1 ∙ ap (λ z. Steps.configurationAfter z c) e in
+          let at : left ≡ configurationOf (after s k d) = told .1 ∙ ap (λ z. Steps.configurationAfter z c) e in
           let u : x .transition ≡ Transition.Taken (kind k) (number k) = told .0 ∙ ap transitionOf e in
-          subst (λ z. Makes l b c ns z (movedBy (x .mind) (x .transition) top) p stack) (sym (leads-to A s k ns (after s k d) e))
+          subst (λ z. Makes l b c ns z (movedBy (x .standing) (x .transition) top) left stack) (sym (leads-to A s k ns (after s k d) e))
           (record {
             made = ap madeBy u;
             configuration = at;
@@ -104,15 +102,14 @@ module _ (l : Layout) (b : Bytes) (c : Configuration) (k : Choice) (x : Stepped)
             room = room;
             keeps = λ z marks v.
                 (let y = no-action-keeps t (λ g. eqb-false (kind k) 1 (not-true _ (sym (ap knownAfter u) ∙ z)) g) in
-                let β : x .mind .beliefs ≡ c .mind .beliefs = ap (λ (g : Configuration). g .mind .beliefs) at ∙ y .0 in
-                let γ : x .mind .goals ≡ c .mind .goals = ap (λ (g : Configuration). g .mind .goals) at ∙ y .1 in
+                let β : left .mind .beliefs ≡ c .mind .beliefs = ap (λ (g : Configuration). g .mind .beliefs) at ∙ y .0 in
+                let γ : left .mind .goals ≡ c .mind .goals = ap (λ (g : Configuration). g .mind .goals) at ∙ y .1 in
                 λ j g. v j g ∙ ap₂ (λ x y. getD (kept l b x y) j (false, 0)) (sym β) (sym γ));
           })
 
   -- the same of the choice that is taken
-  pub takes-choice : (o : Option Choice) → o ≡ some k → (r : AfterMove) → r ≡ movedBy (x .mind) (x .transition) top
-      → Makes l b c ns (moveResult A s (byChoice o []) ns) r p stack
-  takes-choice o e r f = subst (λ y. Makes l b c ns (moveResult A s (byChoice y []) ns) r p stack) (sym e) (subst (λ y. Makes l b c ns (leads A s (taking k) ns) y p stack) (sym f) takes-so)
+  pub takes-choice : (o : Option Choice) → o ≡ some k → Makes l b c ns (moveResult A s (byChoice o []) ns) (movedBy (x .standing) (x .transition) top) left stack
+  takes-choice o e = subst (λ y. Makes l b c ns (moveResult A s (byChoice y []) ns) (movedBy (x .standing) (x .transition) top) left stack) (sym e) takes-so
 
 -- ---- which choice is taken
 
@@ -169,16 +166,11 @@ module _ (l : Layout) (b : Bytes) (c : Configuration) where
 
 -- where there is none, all stays as it was
 pub none-taken : (l : Layout) (b : Bytes) (c : Configuration) (o : Option Choice) → chosen o ≡ Chosen.Nothing → (top : ℕ) (stack : Bytes) → top ≤ 128 → length stack ≡ 128
-    → (r : AfterMove) → r ≡ stayed (c .mind) MoveMade.Stuck top → Makes l b c (drop top stack) (moveResult (agentFor l b) (stateOf c) (byChoice o []) (drop top stack)) r (c .plan) stack
-none-taken l b c none e top stack h s r f =
-    subst (λ y. Makes l b c (drop top stack) stuck y (c .plan) stack) (sym f)
-    (record { made = refl; configuration = refl; numbers = refl; within = h; room = s; keeps = λ _ marks v. v })
-none-taken l b c (some k) e top stack h s r f = absurd (let z : _≡_ {A = ℕ} 0 1 = cc in omega arith)
+    → (m : Standing) → Makes l b c (drop top stack) (moveResult (agentFor l b) (stateOf c) (byChoice o []) (drop top stack)) (stayed m MoveMade.Stuck top) c stack
+none-taken l b c none e top stack h s m = record { made = refl; configuration = refl; numbers = refl; within = h; room = s; keeps = λ _ marks v. v }
+none-taken l b c (some k) e top stack h s m = absurd (let z : _≡_ {A = ℕ} 0 1 = cc in omega arith)
 
 -- ---- an idle move
-
-pub stayed-top : (r : AfterMove) (m : Mind) (x : MoveMade) (top : ℕ) → r ≡ stayed m x top → (r .top ≡ top) × (r ≡ stayed m x (r .top))
-stayed-top r m x top e = let f = ap (λ (y : AfterMove). y .top) e in (f, e ∙ ap (stayed m x) (sym f))
 
 pub pushed-twice : (stack : List ℕ) (top i b : ℕ) → 2 ≤ top → top ≤ length stack
     → drop (top - 2) (set (set stack (top - 1) i) (top - 2) b) ≡ b ∷ i ∷ drop top stack
@@ -194,18 +186,10 @@ belief-condition : {n m : ℕ} {C : ℕ → Type 0} {i a b : ℕ} → EntryLaws 
 belief-condition (while-belief h k) = h
 
 module _ (l : Layout) (b : Bytes) (c : Configuration) where
-  pub idles-so : Ready l b c → (ns ns′ : List ℕ) (r : AfterMove) (stack : Bytes) → r ≡ stayed (c .mind) MoveMade.On (r .top)
-      → drop (r .top) stack ≡ ns′ → r .top ≤ 128 → length stack ≡ 128 → Makes l b c ns (on ns′ (stateOf c)) r (c .plan) stack
-  idles-so ready ns ns′ r stack e f h s =
-      let m : r .mind ≡ c .mind = ap (λ (y : AfterMove). y .mind) e in
-      record {
-        made = ap (λ (y : AfterMove). y .made) e;
-        configuration = ap (λ y. configured y (c .plan)) m ∙ sym (ready-back l b c ready);
-        numbers = f;
-        within = h;
-        room = s;
-        keeps = λ z marks w. subst (λ y. Marked l b y marks) (sym m) w;
-      }
+  idles-so : Ready l b c → (ns ns′ : List ℕ) (m : Standing) (top : ℕ) (stack : Bytes) → drop top stack ≡ ns′ → top ≤ 128 → length stack ≡ 128
+      → Makes l b c ns (on ns′ (stateOf c)) (stayed m MoveMade.On top) c stack
+  idles-so ready ns ns′ m top stack f h s =
+      record { made = refl; configuration = sym (ready-back l b c ready); numbers = f; within = h; room = s; keeps = λ z marks w. w }
 
   -- what the idle move of a while comes to, by the plan's length and the marks
   module _ (marks : List ℕ) (j : Judged l b c marks) where
@@ -271,13 +255,13 @@ module _ (l : Layout) (b p : Bytes) (c : Configuration) (good : GoodProgram l b 
       let n = length-drop (leaf .top) stack in
       (omega arith, omega arith)
 
-  pub leaf-idles : (marks : List ℕ) → Judged l b c marks → (r : AfterMove) (stack′ : Bytes) → r ≡ stayed (c .mind) MoveMade.On (r .top) → r .top ≤ 128
-      → length stack′ ≡ 128 → (t : Bool) → HoldsBy x (c .mind .length) (markAt marks (x .a) .0) t → drop (r .top) stack′ ≡ again t (x .b) (leaf .at) ns′
-      → Makes l b c ns′ (moveResult (agentFor l b) (stateOf c) (moveAt l b p (stateOf c .mental) (leaf .at)) ns′) r (c .plan) stack′
-  leaf-idles marks j r stack′ e w n t k f =
+  pub leaf-idles : (marks : List ℕ) → Judged l b c marks → (m : Standing) (top : ℕ) (stack′ : Bytes) → top ≤ 128 → length stack′ ≡ 128
+      → (t : Bool) → HoldsBy x (c .mind .length) (markAt marks (x .a) .0) t → drop top stack′ ≡ again t (x .b) (leaf .at) ns′
+      → Makes l b c ns′ (moveResult (agentFor l b) (stateOf c) (moveAt l b p (stateOf c .mental) (leaf .at)) ns′) (stayed m MoveMade.On top) c stack′
+  leaf-idles marks j m top stack′ w n t k f =
       let g = while-on l b c marks j (leaf .at) x (moveAt l b p (stateOf c .mental)) ns′ t leaf-good k in
-      subst (λ o. Makes l b c ns′ o r (c .plan) stack′) (sym (ap (λ o. moveResult (agentFor l b) (stateOf c) o ns′) at-leaf ∙ g))
-      (idles-so l b c (j .ready) ns′ _ r stack′ e f w n)
+      subst (λ o. Makes l b c ns′ o (stayed m MoveMade.On top) c stack′) (sym (ap (λ o. moveResult (agentFor l b) (stateOf c) o ns′) at-leaf ∙ g))
+      (idles-so l b c (j .ready) ns′ _ m top stack′ f w n)
 
   pub leaf-choice : x .kind < 3 → moveAt l b p (stateOf c .mental) (leaf .at) ≡ byChoice (Made-specs.taken (agentFor l b) (stateOf c .mental) (entryKind (x .kind)) (x .a)) []
   leaf-choice h =

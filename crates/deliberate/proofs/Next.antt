@@ -1,6 +1,6 @@
 -- The next of the numbers that remain, and what is left of them where its move is not made.
 use mathlib.Core.Path.{_≡_, refl, ap, _∙_, sym, subst}
-use mathlib.Core.List.{List, _∷_}
+use mathlib.Core.List.{_∷_}
 use mathlib.Core.Option.{some}
 use Prim.Native.Nat.{ℕ, _+_, _≤_, _<_}
 use native.Mathlib.Numerals.{add-one}
@@ -41,9 +41,9 @@ module _ (l : Layout) (b p : Bytes) (c : Configuration) (stack : Bytes) (top : �
 
   -- the stack and the top after a descent, the move that is made then, and what it leaves
   module _ (down : Bytes) (rest : ℕ) (room : length down ≡ 128) (rising : rest ≤ top + 1) (behind : drop (top + 1) down ≡ drop (top + 1) stack)
-      (x : AfterMove) (plan left : Bytes) where
-    not-made : (m : MoveMade) (o : MoveResult) → Makes l b c (drop rest down) o x plan left → m ≡ madeOf o → numbersAfter o (drop rest down) ≡ drop rest down
-        → numbersAfter o (drop top stack) ≡ drop top stack → configurationAfter o c ≡ c → Makes l b c (drop top stack) o (stayed (x .mind) m top) plan (set left top next)
+      (x : AfterMove) (after : Configuration) (left : Bytes) where
+    not-made : (m : MoveMade) (o : MoveResult) → Makes l b c (drop rest down) o x after left → m ≡ madeOf o → numbersAfter o (drop rest down) ≡ drop rest down
+        → numbersAfter o (drop top stack) ≡ drop top stack → configurationAfter o c ≡ c → Makes l b c (drop top stack) o (stayed (x .standing) m top) after (set left top next)
     not-made m o k e f g u =
         let s = k .room in
         let w = k .within in
@@ -57,37 +57,30 @@ module _ (l : Layout) (b p : Bytes) (c : Configuration) (stack : Bytes) (top : �
           numbers = pushed left top next (omega arith) ∙ ap (λ ns. next ∷ ns) z ∙ sym (next-first p stack top r h) ∙ sym g;
           within = omega arith;
           room = simp length-set s;
-          keeps = λ _ marks v. subst (λ (y : Configuration). Marked l b (y .mind) marks) (sym (k .configuration ∙ u)) v;
+          keeps = λ _ marks v. subst (λ (y : Configuration). Marked l b (y .mind .beliefs) (y .mind .goals) marks) (sym (k .configuration ∙ u)) v;
         }
 
-    by-made : (o : MoveResult) → Makes l b c (drop rest down) o x plan left
-        → Makes l b c (drop top stack) o (keptAs (x .made) x top) plan (keptIn (x .made) left top next)
-    by-made stuck k = subst (λ m. Makes l b c (drop top stack) stuck (keptAs m x top) plan (keptIn m left top next)) (sym (k .made)) (not-made MoveMade.Stuck stuck k refl refl refl refl)
-    by-made too-long k = subst (λ m. Makes l b c (drop top stack) too-long (keptAs m x top) plan (keptIn m left top next)) (sym (k .made)) (not-made MoveMade.Full too-long k refl refl refl refl)
+    by-made : (o : MoveResult) → Makes l b c (drop rest down) o x after left
+        → Makes l b c (drop top stack) o (keptAs (x .made) x top) after (keptIn (x .made) left top next)
+    by-made stuck k = subst (λ m. Makes l b c (drop top stack) stuck (keptAs m x top) after (keptIn m left top next)) (sym (k .made)) (not-made MoveMade.Stuck stuck k refl refl refl refl)
+    by-made too-long k = subst (λ m. Makes l b c (drop top stack) too-long (keptAs m x top) after (keptIn m left top next)) (sym (k .made)) (not-made MoveMade.Full too-long k refl refl refl refl)
     by-made (on ns s) k =
-        subst (λ m. Makes l b c (drop top stack) (on ns s) (keptAs m x top) plan (keptIn m left top next)) (sym (k .made))
+        subst (λ m. Makes l b c (drop top stack) (on ns s) (keptAs m x top) after (keptIn m left top next)) (sym (k .made))
         (record { made = k .made; configuration = k .configuration; numbers = k .numbers; within = k .within; room = k .room; keeps = k .keeps })
 
-    pub kept-so : (o : MoveResult) → Makes l b c (drop rest down) o x plan left → (end : Bytes) → end ≡ keptIn (x .made) left top next
-        → Makes l b c (drop top stack) o (keptAs (x .made) x top) plan end
-    kept-so o k end e = subst (λ z. Makes l b c (drop top stack) o (keptAs (x .made) x top) plan z) (sym e) (by-made o k)
-
--- a move that is not made leaves the mind
-pub unmoved : {l : Layout} {b : Bytes} {c : Configuration} {ns : List ℕ} {x : AfterMove} {plan left : Bytes} (o : MoveResult) → Makes l b c ns o x plan left
-    → (x .made ≡ MoveMade.On → ⊥) → x .mind ≡ c .mind
-unmoved stuck k off = ap (λ (y : Configuration). y .mind) (k .configuration)
-unmoved too-long k off = ap (λ (y : Configuration). y .mind) (k .configuration)
-unmoved (on ns s) k off = absurd (off (k .made))
+    pub kept-so : (o : MoveResult) → Makes l b c (drop rest down) o x after left → (end : Bytes) → end ≡ keptIn (x .made) left top next
+        → Makes l b c (drop top stack) o (keptAs (x .made) x top) after end
+    kept-so o k end e = subst (λ z. Makes l b c (drop top stack) o (keptAs (x .made) x top) after z) (sym e) (by-made o k)
 
 -- what a move that is made comes to, and one that is not
 module _ (r : AfterMove) (top : ℕ) where
   pub kept-on : r .made ≡ MoveMade.On → keptAs (r .made) r top ≡ r
   kept-on e = ap (λ m. keptAs m r top) e
 
-  pub kept-off : (r .made ≡ MoveMade.On → ⊥) → keptAs (r .made) r top ≡ stayed (r .mind) (r .made) top
+  pub kept-off : (r .made ≡ MoveMade.On → ⊥) → keptAs (r .made) r top ≡ stayed (r .standing) (r .made) top
   kept-off off = by (r .made) refl
     where
-      by : (m : MoveMade) → r .made ≡ m → keptAs m r top ≡ stayed (r .mind) m top
+      by : (m : MoveMade) → r .made ≡ m → keptAs m r top ≡ stayed (r .standing) m top
       by MoveMade.On e = absurd (off e)
       by MoveMade.Stuck e = refl
       by MoveMade.Full e = refl

@@ -1,4 +1,4 @@
--- What the calls answer where the plan and the numbers are lent, together with what these hold, as one answer.
+-- What the calls answer where sets, plan and numbers are lent, together with what these hold, as one answer.
 use mathlib.Core.Path.{_≡_}
 use mathlib.Core.List.{List}
 use Prim.Native.Nat.{ℕ}
@@ -7,7 +7,7 @@ use Rattle.meaning.specs.declared.Answer.{Answer}
 use Rattle.meaning.specs.declared.Answer.the-variants.{Done, Refused}
 use Rattle.meaning.specs.declared.Checked.{Checked}
 use Rattle.meaning.specs.declared.Configuration.{Configuration}
-use Rattle.meaning.specs.declared.Mind.{Mind}
+use Rattle.meaning.specs.declared.Standing.{Standing}
 use Rattle.meaning.specs.Card.{Bytes, layout}
 use Rattle.meaning.specs.Calls.{checks}
 use Rattle.deliberation.specs.Entries.{goOnAnswer}
@@ -22,19 +22,19 @@ use Rattle.deliberate.specs.declared.call.DeliberatedInPlace.{Deliberate
 abbrev pub remains : ℕ → Bytes → Remaining
 remains n numbers = record { length = n; numbers = numbers }
 
--- with the plan and the numbers afterwards
-abbrev pub deliberatedWith : DeliberatedInPlace → Bytes → Bytes → Deliberated
-deliberatedWith r plan numbers = record {
+-- with the beliefs, the goals, the plan and the numbers afterwards
+abbrev pub deliberatedWith : DeliberatedInPlace → Bytes → Bytes → Bytes → Bytes → Deliberated
+deliberatedWith r σ γ plan numbers = record {
   answer = r .answer;
   count = r .count;
   ending = r .ending;
-  configuration = configured (r .mind) plan;
+  configuration = configured σ γ (r .standing) plan;
   remaining = remains (r .length) numbers;
 }
 
 -- of a refusal: 01, "Numbers the guide may answer": "Any count in a refusal is 0."; 02, Wish 6: "none when refused"
-abbrev pub refusedWith : Answer → Mind → DeliberatedInPlace
-refusedWith a m = record { answer = a; count = 0; ending = DeliberationEnding.Spent; mind = m; length = 0 }
+abbrev pub refusedWith : Answer → Standing → DeliberatedInPlace
+refusedWith a m = record { answer = a; count = 0; ending = DeliberationEnding.Spent; standing = m; length = 0 }
 
 -- what is found of a card and a program: both are good; or one is not, and the call is refused with its number, whatever the
 -- numbers and the configuration

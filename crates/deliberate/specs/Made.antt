@@ -1,4 +1,4 @@
--- What a move comes to, as the code tells it and as it leaves the lent plan and the numbers that remain.
+-- What a move comes to, as the code tells it and as it leaves the lent sets, the lent plan and the numbers that remain.
 use mathlib.Core.Path.{_≡_}
 use mathlib.Core.Bool.{Bool, true, false, not}
 use mathlib.Core.List.{List, _∷_}
@@ -8,13 +8,12 @@ use lib.Dec.{eqb}
 use lib.ListN.{length, drop, set, getD}
 use Rattle.paper.specs.Language.{Agent, Config}
 use Rattle.paper.specs.Transitions.{Choice}
-use Rattle.meaning.specs.declared.Mind.{Mind}
+use Rattle.meaning.specs.declared.Standing.{Standing}
 use Rattle.meaning.specs.declared.Layout.{Layout}
 use Rattle.meaning.specs.declared.Node.{Node}
 use Rattle.meaning.specs.declared.Configuration.{Configuration}
 use Rattle.meaning.specs.Card.{Bytes, agentFor}
 use Rattle.meaning.specs.Configurations.{stateOf, configurationOf}
-use Rattle.layout.specs.PlaceParts.{configured}
 use Rattle.choices.specs.Judged.{Marked}
 use Rattle.moves.specs.declared.step.Transition.{Transition}
 use Rattle.deliberation.specs.Kinds.{EntryKind, Execute, Apply, Select, WhilePlan, WhileBelief, Then, Or, entryKind}
@@ -49,14 +48,17 @@ numbersAfter stuck ns = ns
 numbersAfter too-long ns = ns
 numbersAfter (on ns′ s) ns = ns′
 
--- all of it, of what the code answers and leaves in the plan and the stack; marks of nodes that are said to be known stay true
-pub record Makes (l : Layout) (b : Bytes) (c : Configuration) (ns : List ℕ) (o : MoveResult) (r : AfterMove) (p stack : Bytes) : Type 0 where
+-- all of it, of what the code answers, the configuration d that it leaves, and the stack; marks of nodes that are said to be known
+-- stay true
+pub record Makes (l : Layout) (b : Bytes) (c : Configuration) (ns : List ℕ) (o : MoveResult) (r : AfterMove) (d : Configuration)
+    (stack : Bytes) : Type 0 where
   pub made : r .made ≡ madeOf o
-  pub configuration : configured (r .mind) p ≡ configurationAfter o c
+  pub configuration : d ≡ configurationAfter o c
   pub numbers : drop (r .top) stack ≡ numbersAfter o ns
   pub within : r .top ≤ 128
   pub room : length stack ≡ 128
-  pub keeps : r .known ≡ true → (marks : List ℕ) → Marked l b (c .mind) marks → Marked l b (r .mind) marks
+  pub keeps : r .known ≡ true → (marks : List ℕ) → Marked l b (c .mind .beliefs) (c .mind .goals) marks
+      → Marked l b (d .mind .beliefs) (d .mind .goals) marks
 
 -- 128 bytes of which those from top on are the numbers that remain, stacked
 pub record Remains (p stack : Bytes) (top : ℕ) : Type 0 where
@@ -65,15 +67,15 @@ pub record Remains (p stack : Bytes) (top : ℕ) : Type 0 where
   pub stacked : Stacked (entryCount p) (drop top stack)
 
 -- the first move of the number at top, and those behind it
-abbrev pub MakesNext : Layout → Bytes → Bytes → Configuration → Bytes → ℕ → AfterMove → Bytes → Bytes → Type 0
-MakesNext l b p c stack top r plan left =
-    Makes l b c (drop top stack) (moveResult (agentFor l b) (stateOf c) (moveAt l b p (stateOf c .mental) (getD stack top 0)) (drop (top + 1) stack)) r plan left
+abbrev pub MakesNext : Layout → Bytes → Bytes → Configuration → Bytes → ℕ → AfterMove → Configuration → Bytes → Type 0
+MakesNext l b p c stack top r d left =
+    Makes l b c (drop top stack) (moveResult (agentFor l b) (stateOf c) (moveAt l b p (stateOf c .mental) (getD stack top 0)) (drop (top + 1) stack)) r d left
 
 -- ---- a move, by its parts
 
--- a move or none after which the mind is m; where it is idle or none the marks of the nodes stay true
-abbrev pub stayed : Mind → MoveMade → ℕ → AfterMove
-stayed m x top = record { mind = m; made = x; known = true; top = top }
+-- a move or none that leaves all but the numbers; the marks of the nodes stay true
+abbrev pub stayed : Standing → MoveMade → ℕ → AfterMove
+stayed m x top = record { standing = m; made = x; known = true; top = top }
 
 -- the choice that an execute, an apply or a select takes, if it takes one (moveOf); no other kind takes one by itself
 abbrev pub taken : Agent → Config → EntryKind → ℕ → Option Choice
@@ -111,8 +113,8 @@ knownAfter Transition.Nothing = true
 knownAfter Transition.Full = true
 
 -- both, of what a transition answers
-abbrev pub movedBy : Mind → Transition → ℕ → AfterMove
-movedBy m x top = record { mind = m; made = madeBy x; known = knownAfter x; top = top }
+abbrev pub movedBy : Standing → Transition → ℕ → AfterMove
+movedBy m x top = record { standing = m; made = madeBy x; known = knownAfter x; top = top }
 
 -- whether a while's condition holds, by the plan's length or the mark of its node
 pub data HoldsBy (e : Node) (n : ℕ) (mark : Bool) : Bool → Type 0 where
@@ -127,8 +129,8 @@ again false b i ns = ns
 -- a move that is not made leaves the top as it was
 abbrev pub keptAs : MoveMade → AfterMove → ℕ → AfterMove
 keptAs MoveMade.On r top = r
-keptAs MoveMade.Stuck r top = stayed (r .mind) MoveMade.Stuck top
-keptAs MoveMade.Full r top = stayed (r .mind) MoveMade.Full top
+keptAs MoveMade.Stuck r top = stayed (r .standing) MoveMade.Stuck top
+keptAs MoveMade.Full r top = stayed (r .standing) MoveMade.Full top
 
 -- and the number that stood there
 abbrev pub keptIn : MoveMade → Bytes → ℕ → ℕ → Bytes

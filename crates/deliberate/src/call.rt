@@ -1,18 +1,20 @@
-// The calls `deliberate` and `go on` (02, Wish 6), where the plan and the numbers that remain are lent: the card, the program, the
-// given numbers and the configuration are checked in this order. A refusal writes to no lent buffer.
+// The calls `deliberate` and `go on` (02, Wish 6), where sets, plan and the numbers that remain are lent: the card, the program,
+// the given numbers and the configuration are checked in this order. A refusal writes to no lent buffer.
 ghost use mathlib.Core.Path.{_≡_};
 ghost use mathlib.Core.Bool.{true};
 ghost use mathlib.Core.List.{[], _∷_};
 ghost use Prim.Native.Nat.{_-_, _/_, _≤_};
 ghost use lib.ListN.{length, drop};
-ghost use Rattle.door.specs.Words.{𝐁, conditions, agentFor, stateOf, configured, Ready};
+ghost use Rattle.door.specs.Words.{configured};
 ghost use Rattle.meaning.specs.declared.Checked.{Checked};
 ghost use Rattle.meaning.specs.Card.{layout};
 ghost use Rattle.meaning.specs.Calls.{checks};
-ghost use Rattle.deliberation.specs.Entries.{entryCount, entriesOf, numbersGood};
+ghost use Rattle.deliberation.specs.Entries.{entryCount, numbersGood};
 ghost use Rattle.deliberation.specs.Deliberate.{deliberate, remainingOf, deliberated, goesOn, deliberates};
 ghost use Rattle.program.specs.GoodProgram.{GoodProgram};
 ghost use Rattle.deliberate.specs.InPlace.{remains, refusedWith, deliberatedWith, Admits};
+ghost use Rattle.deliberate.specs.Ran.{Starts, outcomeOf};
+use crate::made::Point;
 use crate::run::run_moves;
 use card::check::answer_of;
 use card::check::check;
@@ -26,31 +28,31 @@ use layout::header::read_layout;
 use meaning::Answer;
 use meaning::Checked;
 use meaning::Layout;
-use meaning::Mind;
 use meaning::Plan;
 use meaning::Refusal;
+use meaning::Set;
+use meaning::Standing;
 use plans::clear;
 use program::judge_program;
 
-// Of `Deliberated`, all but what the lent plan and the lent numbers hold: how many of these remain. The mind stands first, so that
-// it is copied in whole words.
+// Of `Deliberated`, all but what the lent sets, the lent plan and the lent numbers hold: how many of these remain.
 pub struct DeliberatedInPlace {
-    pub mind: Mind,
+    pub standing: Standing,
     pub answer: Answer,
     pub count: u16,
     pub ending: DeliberationEnding,
     pub length: u8,
 }
 
-// A refusal: count 0, none remains, the mind as it came in.
-fn refused(answer: Answer, m: Mind) -> DeliberatedInPlace
+// A refusal: count 0, none remains, all else as it came in.
+fn refused(answer: Answer, m: Standing) -> DeliberatedInPlace
     ensures { λ r. ⌜ r ≡ refusedWith answer m ⌝ }
 {
     DeliberatedInPlace {
         answer: answer,
         count: 0,
         ending: DeliberationEnding::Spent,
-        mind: m,
+        standing: m,
         length: 0,
     }
 }
@@ -110,38 +112,38 @@ fn hand_out(remaining: &mut [u8; 128], top: usize) -> u8
 fn from_moves(
     card: &[u8],
     l: Layout,
-    m: Mind,
+    beliefs: &mut Set,
+    goals: &mut Set,
+    at: Point,
     plan: &mut Plan,
     program: &[u8],
-    given: &[u8],
     budget: u16,
     remaining: &mut [u8; 128],
 ) -> DeliberatedInPlace
-    requires { ⌜ Ready l (now card) (configured m (now plan)) × GoodProgram l (now card) (now program)
-        × (numbersGood (entryCount (now program)) (now given) ≡ true) ⌝ }
-    ensures { λ r. ⌜ deliberatedWith r (now (plan .exit)) (now (remaining .exit))
-        ≡ deliberated (deliberate (agentFor l (now (card .entry))) (conditions 𝐁 l (now (card .entry))) (entriesOf (now (program .entry)))
-        budget (now (given .entry)) (stateOf (configured m (now (plan .entry))))) ⌝ }
+    requires { ⌜ Starts l (now card) (now program) (configured (now beliefs) (now goals) (at .standing) (now plan)) (now remaining) (at .top) ⌝ }
+    ensures { λ r. ⌜ deliberatedWith r (now (beliefs .exit)) (now (goals .exit)) (now (plan .exit)) (now (remaining .exit))
+        ≡ deliberated (outcomeOf l (now (card .entry)) (now (program .entry)) budget
+        (configured (now (beliefs .entry)) (now (goals .entry)) (at .standing) (now (plan .entry))) (drop (at .top) (now (remaining .entry)))) ⌝ }
 {
-    put_numbers(remaining, given);
     let ran = run_moves(
         card,
         l,
-        m,
+        beliefs,
+        goals,
+        at,
         plan,
         program,
         budget,
         remaining,
-        128 - given.len(),
     );
     let n = hand_out(remaining, ran.top);
-    let after = ran.mind;
+    let after = ran.standing;
     let ending = ran.ending;
     DeliberatedInPlace {
         answer: Answer::Done,
         count: ran.count,
         ending: ending,
-        mind: after,
+        standing: after,
         length: n,
     }
 }
@@ -149,7 +151,9 @@ fn from_moves(
 // Row 13, then the moves. The layout of the card, which was checked, is read again: it stands in no frame above this one.
 fn from_configuration(
     card: &[u8],
-    m: Mind,
+    beliefs: &mut Set,
+    goals: &mut Set,
+    m: Standing,
     plan: &mut Plan,
     program: &[u8],
     given: &[u8],
@@ -158,16 +162,31 @@ fn from_configuration(
 ) -> DeliberatedInPlace
     requires { ⌜ (checks (now card) ≡ Checked.Good (layout (now card))) × GoodProgram (layout (now card)) (now card) (now program)
         × (numbersGood (entryCount (now program)) (now given) ≡ true) ⌝ }
-    ensures { λ r. ⌜ deliberatedWith r (now (plan .exit)) (now (remaining .exit))
-        ≡ goesOn (now (card .entry)) (now (program .entry)) (now (given .entry)) (configured m (now (plan .entry))) budget
-        (now (remaining .entry)) ⌝ }
+    ensures { λ r. ⌜ deliberatedWith r (now (beliefs .exit)) (now (goals .exit)) (now (plan .exit)) (now (remaining .exit))
+        ≡ goesOn (now (card .entry)) (now (program .entry)) (now (given .entry))
+        (configured (now (beliefs .entry)) (now (goals .entry)) m (now (plan .entry))) budget (now (remaining .entry)) ⌝ }
 {
     let l = read_layout(card);
-    let judged = judge_configuration(l, m, plan);
+    let judged = judge_configuration(l, beliefs, goals, m, plan);
     let Answer::Done = judged else {
         return refused(judged, m);
     };
-    from_moves(card, l, m, plan, program, given, budget, remaining)
+    put_numbers(remaining, given);
+    let first = Point {
+        standing: m,
+        top: 128 - given.len(),
+    };
+    from_moves(
+        card,
+        l,
+        beliefs,
+        goals,
+        first,
+        plan,
+        program,
+        budget,
+        remaining,
+    )
 }
 
 // The whole program, as the numbers that remain before the first move.
@@ -178,25 +197,38 @@ fn whole_program(entries: usize) -> [u8; 1]
     [(entries - 1) as u8]
 }
 
-// The mind reached, how many moves were made, why it ended, and how many numbers remain; the plan is changed in place, and all of
-// the lent numbers are written, unless it is refused.
+// What is reached, how many moves were made, why it ended, and how many numbers remain; sets and plan are changed in place, and all
+// of the lent numbers are written, unless it is refused.
 pub fn deliberate(
     card: &[u8],
     program: &[u8],
-    m: Mind,
+    beliefs: &mut Set,
+    goals: &mut Set,
+    m: Standing,
     plan: &mut Plan,
     budget: u16,
     remaining: &mut [u8; 128],
 ) -> DeliberatedInPlace
-    ensures { λ r. ⌜ deliberatedWith r (now (plan .exit)) (now (remaining .exit))
-        ≡ deliberates (now (card .entry)) (now (program .entry)) (configured m (now (plan .entry))) budget (now (remaining .entry)) ⌝ }
+    ensures { λ r. ⌜ deliberatedWith r (now (beliefs .exit)) (now (goals .exit)) (now (plan .exit)) (now (remaining .exit))
+        ≡ deliberates (now (card .entry)) (now (program .entry))
+        (configured (now (beliefs .entry)) (now (goals .entry)) m (now (plan .entry))) budget (now (remaining .entry)) ⌝ }
 {
     let checked = check_program(card, program);
     let Answer::Done = checked else {
         return refused(checked, m);
     };
     let given = whole_program(program.len() / 4);
-    from_configuration(card, m, plan, program, &given, budget, remaining)
+    from_configuration(
+        card,
+        beliefs,
+        goals,
+        m,
+        plan,
+        program,
+        &given,
+        budget,
+        remaining,
+    )
 }
 
 // The same from given numbers that remain: 19 for those that cannot, in its place.
@@ -204,14 +236,16 @@ pub fn go_on(
     card: &[u8],
     program: &[u8],
     given: &[u8],
-    m: Mind,
+    beliefs: &mut Set,
+    goals: &mut Set,
+    m: Standing,
     plan: &mut Plan,
     budget: u16,
     remaining: &mut [u8; 128],
 ) -> DeliberatedInPlace
-    ensures { λ r. ⌜ deliberatedWith r (now (plan .exit)) (now (remaining .exit))
-        ≡ goesOn (now (card .entry)) (now (program .entry)) (now (given .entry)) (configured m (now (plan .entry))) budget
-        (now (remaining .entry)) ⌝ }
+    ensures { λ r. ⌜ deliberatedWith r (now (beliefs .exit)) (now (goals .exit)) (now (plan .exit)) (now (remaining .exit))
+        ≡ goesOn (now (card .entry)) (now (program .entry)) (now (given .entry))
+        (configured (now (beliefs .entry)) (now (goals .entry)) m (now (plan .entry))) budget (now (remaining .entry)) ⌝ }
 {
     let checked = check_program(card, program);
     let Answer::Done = checked else {
@@ -220,5 +254,15 @@ pub fn go_on(
     if !numbers_good(given, program.len() / 4) {
         return refused(Answer::Refused(Refusal::Program), m);
     }
-    from_configuration(card, m, plan, program, given, budget, remaining)
+    from_configuration(
+        card,
+        beliefs,
+        goals,
+        m,
+        plan,
+        program,
+        given,
+        budget,
+        remaining,
+    )
 }

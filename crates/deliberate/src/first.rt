@@ -4,8 +4,8 @@ ghost use Prim.Native.Nat.{ℕ, _≤_, _<_};
 ghost use lib.ListN.{replicate};
 ghost use Rattle.paper.specs.Atoms.{_∈_};
 ghost use Rattle.paper.specs.Next.{isSome};
-ghost use Rattle.door.specs.Words.{agentFor, stateOf, configured, firstOfKind};
-ghost use Rattle.choices.specs.Judged.{Judged};
+ghost use Rattle.door.specs.Words.{agentFor, stateOf, firstOfKind};
+ghost use Rattle.choices.specs.Judged.{SomeSets, AllSets};
 ghost use Rattle.deliberation.specs.Kinds.{entryKind};
 ghost use Rattle.deliberation.specs.FirstMove.{lowestAction};
 ghost use Rattle.deliberation.specs.Entries.{entryCount};
@@ -15,9 +15,9 @@ use choices::ask::is_enabled;
 use choices::truth::Marks;
 use door::asked::Chosen;
 use meaning::Layout;
-use meaning::Mind;
 use meaning::Node;
 use meaning::Plan;
+use meaning::Standing;
 use program::read_entry;
 use sets::add_member;
 use sets::has_member;
@@ -44,17 +44,17 @@ fn no_moves() -> [u8; 16]
 fn has_move(
     card: &[u8],
     l: Layout,
-    m: Mind,
+    m: Standing,
     plan: &Plan,
     marks: &Marks,
     acts: bool,
     e: Node,
     movable: &[u8; 16],
 ) -> bool
-    requires { ⌜ Judged l (now card) (configured m (now plan)) (now marks) × ((i : ℕ) × ((i < 128) × GoodEntry l (now card) i e)) ⌝ }
-    requires { ⌜ acts ≡ isSome (lowestAction (agentFor l (now card)) (stateOf (configured m (now plan)) .mental)) ⌝ }
-    ensures { λ r. ⌜ r ≡ movableOf (agentFor l (now (card .entry))) (stateOf (configured m (now (plan .entry))) .mental)
-        (entryKind (e .kind)) (e .a) (e .b) (λ j. j ∈ now (movable .entry)) ⌝ }
+    requires { ⌜ SomeSets l (now card) m (now plan) (now marks) × ((i : ℕ) × ((i < 128) × GoodEntry l (now card) i e)) ⌝ }
+    ensures { λ r. ⌜ AllSets l (now (card .entry)) m (now (plan .entry)) (now (marks .entry))
+        (λ c. acts ≡ isSome (lowestAction (agentFor l (now (card .entry))) (stateOf c .mental))
+        → r ≡ movableOf (agentFor l (now (card .entry))) (stateOf c .mental) (entryKind (e .kind)) (e .a) (e .b) (λ j. j ∈ now (movable .entry))) ⌝ }
 {
     let kind = e.kind;
     let a = e.a;
@@ -73,16 +73,16 @@ fn has_move(
 pub fn mark_moves(
     card: &[u8],
     l: Layout,
-    m: Mind,
+    m: Standing,
     plan: &Plan,
     marks: &Marks,
     program: &[u8],
     action: Chosen,
     n: usize,
 ) -> [u8; 16]
-    requires { ⌜ Judged l (now card) (configured m (now plan)) (now marks) × GoodProgram l (now card) (now program) ⌝ }
-    requires { ⌜ (action ≡ firstOfKind l (now card) (configured m (now plan)) 1) × (n ≤ entryCount (now program)) ⌝ }
-    ensures { λ r. ⌜ Movable l (now (card .entry)) (now (program .entry)) (configured m (now (plan .entry))) n r ⌝ }
+    requires { ⌜ SomeSets l (now card) m (now plan) (now marks) × GoodProgram l (now card) (now program) × (n ≤ entryCount (now program)) ⌝ }
+    ensures { λ r. ⌜ AllSets l (now (card .entry)) m (now (plan .entry)) (now (marks .entry))
+        (λ c. action ≡ firstOfKind l (now (card .entry)) c 1 → Movable l (now (card .entry)) (now (program .entry)) c n r) ⌝ }
 {
     let acts = is_at(action);
     let mut movable = no_moves();

@@ -6,7 +6,7 @@ ghost use mathlib.Core.List.{[]};
 ghost use Prim.Native.Nat.{ℕ, _≤_, _<_};
 ghost use lib.ListN.{length, drop};
 ghost use Rattle.door.specs.Words.{Bytes, agentFor, stateOf, configured, Ready, chosen, firstOfKind};
-ghost use Rattle.choices.specs.Judged.{markAt, Judged};
+ghost use Rattle.choices.specs.Judged.{markAt, Judged, SomeSets, AllSets};
 ghost use Rattle.deliberation.specs.Kinds.{EntryKind, entryKind};
 ghost use Rattle.deliberation.specs.FirstMove.{byChoice};
 ghost use Rattle.deliberation.specs.Entries.{moveAt};
@@ -24,9 +24,10 @@ use choices::truth::Marks;
 use choices::truth::is_true;
 use door::asked::Chosen;
 use meaning::Layout;
-use meaning::Mind;
 use meaning::Node;
 use meaning::Plan;
+use meaning::Set;
+use meaning::Standing;
 use moves::step::Stepped;
 use moves::step::Transition;
 use moves::step::step;
@@ -38,20 +39,27 @@ pub enum MoveMade {
     Full,
 }
 
-// What a move comes to, the mind after it, whether the marks of the nodes are still true, and where the numbers that remain begin.
+// Where a deliberation stands beside the sets, the plan and the numbers that remain: where these begin.
+pub struct Point {
+    pub standing: Standing,
+    pub top: usize,
+}
+
+// What a move comes to, where it leaves the deliberation, and whether the marks of the nodes are still true.
 pub struct AfterMove {
-    pub mind: Mind,
+    pub standing: Standing,
     pub made: MoveMade,
     pub known: bool,
     pub top: usize,
 }
 
-// A move that leaves the mind, or none: "idle moves, which leave the whole configuration as it is, phase and finished count too".
-fn stays(m: Mind, made: MoveMade, top: usize) -> AfterMove
+// A move that leaves the configuration, or none: "idle moves, which leave the whole configuration as it is, phase and finished
+// count too".
+fn stays(m: Standing, made: MoveMade, top: usize) -> AfterMove
     ensures { λ r. ⌜ r ≡ stayed m made top ⌝ }
 {
     AfterMove {
-        mind: m,
+        standing: m,
         made: made,
         known: true,
         top: top,
@@ -72,16 +80,16 @@ fn if_open(enabled: bool, kind: u8, i: usize) -> Chosen
 fn choice_of(
     card: &[u8],
     l: Layout,
-    m: Mind,
+    m: Standing,
     plan: &Plan,
     marks: &Marks,
     e: Node,
     action: Chosen,
 ) -> Chosen
-    requires { ⌜ Judged l (now card) (configured m (now plan)) (now marks) × (e .kind < 3) × ((i : ℕ) × GoodEntry l (now card) i e) ⌝ }
-    requires { ⌜ (e .kind ≡ 0 → action ≡ firstOfKind l (now card) (configured m (now plan)) 1) ⌝ }
-    ensures { λ r. ⌜ r ≡ chosen (taken (agentFor l (now (card .entry))) (stateOf (configured m (now (plan .entry))) .mental)
-        (entryKind (e .kind)) (e .a)) ⌝ }
+    requires { ⌜ SomeSets l (now card) m (now plan) (now marks) × (e .kind < 3) × ((i : ℕ) × GoodEntry l (now card) i e) ⌝ }
+    ensures { λ r. ⌜ AllSets l (now (card .entry)) m (now (plan .entry)) (now (marks .entry))
+        (λ c. (e .kind ≡ 0 → action ≡ firstOfKind l (now (card .entry)) c 1)
+        → r ≡ chosen (taken (agentFor l (now (card .entry))) (stateOf c .mental) (entryKind (e .kind)) (e .a))) ⌝ }
 {
     let kind = e.kind;
     let a = e.a as usize;
@@ -94,13 +102,13 @@ fn choice_of(
 
 // What a transition comes to, as a move.
 fn moved_by(s: Stepped, top: usize) -> AfterMove
-    ensures { λ r. ⌜ r ≡ movedBy (s .mind) (s .transition) top ⌝ }
+    ensures { λ r. ⌜ r ≡ movedBy (s .standing) (s .transition) top ⌝ }
 {
-    let m = s.mind;
+    let m = s.standing;
     let transition = s.transition;
     match transition {
         Transition::Taken(kind, _) => AfterMove {
-            mind: m,
+            standing: m,
             made: MoveMade::On,
             known: kind != 1,
             top: top,
@@ -114,30 +122,34 @@ fn moved_by(s: Stepped, top: usize) -> AfterMove
 fn make_choice(
     card: &[u8],
     l: Layout,
-    m: Mind,
+    beliefs: &mut Set,
+    goals: &mut Set,
+    m: Standing,
     plan: &mut Plan,
     choice: Chosen,
     top: usize,
 ) -> AfterMove
-    requires { ⌜ Ready l (now card) (configured m (now plan))
-        × ((κ : EntryKind) × ((a : ℕ) × (choice ≡ chosen (taken (agentFor l (now card)) (stateOf (configured m (now plan)) .mental) κ a)))) ⌝ }
+    requires { ⌜ Ready l (now card) (configured (now beliefs) (now goals) m (now plan)) × ((κ : EntryKind) × ((a : ℕ)
+        × (choice ≡ chosen (taken (agentFor l (now card)) (stateOf (configured (now beliefs) (now goals) m (now plan)) .mental) κ a)))) ⌝ }
     ensures { λ r. ⌜ ((κ : EntryKind) (a : ℕ)
-        → choice ≡ chosen (taken (agentFor l (now (card .entry))) (stateOf (configured m (now (plan .entry))) .mental) κ a)
+        → choice ≡ chosen (taken (agentFor l (now (card .entry)))
+        (stateOf (configured (now (beliefs .entry)) (now (goals .entry)) m (now (plan .entry))) .mental) κ a)
         → (stack : Bytes) → top ≤ 128 → length stack ≡ 128
-        → Makes l (now (card .entry)) (configured m (now (plan .entry))) (drop top stack)
-        (moveResult (agentFor l (now (card .entry))) (stateOf (configured m (now (plan .entry))))
-        (byChoice (taken (agentFor l (now (card .entry))) (stateOf (configured m (now (plan .entry))) .mental) κ a) []) (drop top stack))
-        r (now (plan .exit)) stack) ⌝ }
+        → Makes l (now (card .entry)) (configured (now (beliefs .entry)) (now (goals .entry)) m (now (plan .entry))) (drop top stack)
+        (moveResult (agentFor l (now (card .entry))) (stateOf (configured (now (beliefs .entry)) (now (goals .entry)) m (now (plan .entry))))
+        (byChoice (taken (agentFor l (now (card .entry)))
+        (stateOf (configured (now (beliefs .entry)) (now (goals .entry)) m (now (plan .entry))) .mental) κ a) [])
+        (drop top stack)) r (configured (now (beliefs .exit)) (now (goals .exit)) (r .standing) (now (plan .exit))) stack) ⌝ }
 {
     let Chosen::At(kind, i) = choice else {
         return stays(m, MoveMade::Stuck, top);
     };
-    let s = step(card, l, m, plan, kind, i);
+    let s = step(card, l, beliefs, goals, m, plan, kind, i);
     moved_by(s, top)
 }
 
 // Whether a while's condition holds: "3 while the plan is not empty do b, 4 while belief condition a holds do b".
-fn holds(e: Node, m: Mind, marks: &Marks) -> bool
+fn holds(e: Node, m: Standing, marks: &Marks) -> bool
     requires { ⌜ (3 ≤ e .kind) × (e .kind < 5) ⌝ }
     ensures { λ r. ⌜ HoldsBy e (m .length) (markAt (now (marks .entry)) (e .a) .0) r ⌝ }
 {
@@ -151,7 +163,7 @@ fn holds(e: Node, m: Mind, marks: &Marks) -> bool
 
 // The idle move of a while with number i: if its condition holds, its body and itself go before the numbers. Answers where these
 // then begin.
-fn turn(e: Node, i: usize, m: Mind, marks: &Marks, stack: &mut [u8; 128], top: usize) -> usize
+fn turn(e: Node, i: usize, m: Standing, marks: &Marks, stack: &mut [u8; 128], top: usize) -> usize
     requires { ⌜ (3 ≤ e .kind) × (e .kind < 5) × (i < 128) × (2 ≤ top) × (top ≤ 128) × (length (now stack) ≡ 128) ⌝ }
     ensures { λ r. ⌜ (r ≤ 128) × (length (now (stack .exit)) ≡ 128) ⌝ }
     ensures { λ r. ⌜ ((t : Bool) × (HoldsBy e (m .length) (markAt (now (marks .entry)) (e .a) .0) t
@@ -165,33 +177,44 @@ fn turn(e: Node, i: usize, m: Mind, marks: &Marks, stack: &mut [u8; 128], top: u
     top - 2
 }
 
+// The entry in which a first move is made, and the lowest enabled action where that is an execute.
+pub struct Reached {
+    pub leaf: Leaf,
+    pub action: Chosen,
+}
+
 // The move of an entry without parts, or of a while: where a descent ends.
 fn move_leaf(
     card: &[u8],
     l: Layout,
-    m: Mind,
+    beliefs: &mut Set,
+    goals: &mut Set,
+    m: Standing,
     plan: &mut Plan,
     marks: &Marks,
-    action: Chosen,
-    leaf: Leaf,
+    reached: Reached,
     stack: &mut [u8; 128],
 ) -> AfterMove
-    requires { ⌜ Judged l (now card) (configured m (now plan)) (now marks)
-        × (leaf .entry .kind ≡ 0 → action ≡ firstOfKind l (now card) (configured m (now plan)) 1) ⌝ }
-    requires { ⌜ ((p : Bytes) × (GoodProgram l (now card) p × AtLeaf p (now stack) leaf)) ⌝ }
-    ensures { λ r. ⌜ ((p : Bytes) → GoodProgram l (now (card .entry)) p → AtLeaf p (now (stack .entry)) leaf
-        → Makes l (now (card .entry)) (configured m (now (plan .entry))) (drop (leaf .top) (now (stack .entry)))
-        (moveResult (agentFor l (now (card .entry))) (stateOf (configured m (now (plan .entry))))
-        (moveAt l (now (card .entry)) p (stateOf (configured m (now (plan .entry))) .mental) (leaf .at)) (drop (leaf .top) (now (stack .entry))))
-        r (now (plan .exit)) (now (stack .exit))) ⌝ }
+    requires { ⌜ Judged l (now card) (configured (now beliefs) (now goals) m (now plan)) (now marks)
+        × (reached .leaf .entry .kind ≡ 0 → reached .action ≡ firstOfKind l (now card) (configured (now beliefs) (now goals) m (now plan)) 1) ⌝ }
+    requires { ⌜ ((p : Bytes) × (GoodProgram l (now card) p × AtLeaf p (now stack) (reached .leaf))) ⌝ }
+    ensures { λ r. ⌜ ((p : Bytes) → GoodProgram l (now (card .entry)) p → AtLeaf p (now (stack .entry)) (reached .leaf)
+        → Makes l (now (card .entry)) (configured (now (beliefs .entry)) (now (goals .entry)) m (now (plan .entry)))
+        (drop (reached .leaf .top) (now (stack .entry)))
+        (moveResult (agentFor l (now (card .entry))) (stateOf (configured (now (beliefs .entry)) (now (goals .entry)) m (now (plan .entry))))
+        (moveAt l (now (card .entry)) p (stateOf (configured (now (beliefs .entry)) (now (goals .entry)) m (now (plan .entry))) .mental) (reached .leaf .at))
+        (drop (reached .leaf .top) (now (stack .entry)))) r
+        (configured (now (beliefs .exit)) (now (goals .exit)) (r .standing) (now (plan .exit))) (now (stack .exit))) ⌝ }
 {
+    let leaf = reached.leaf;
     let e = leaf.entry;
     if 3 <= e.kind {
         let rest = turn(e, leaf.at, m, marks, stack, leaf.top);
         return stays(m, MoveMade::On, rest);
     }
+    let action = reached.action;
     let choice = choice_of(card, l, m, plan, marks, e, action);
-    make_choice(card, l, m, plan, choice, leaf.top)
+    make_choice(card, l, beliefs, goals, m, plan, choice, leaf.top)
 }
 
 // A move that is not made leaves the numbers as they were: `next` stands at top again.
@@ -210,16 +233,11 @@ fn put_back(made: MoveMade, stack: &mut [u8; 128], top: usize, next: u8)
     }
 }
 
-// The entry in which a first move is made, and the lowest enabled action where that is an execute.
-pub struct Reached {
-    pub leaf: Leaf,
-    pub action: Chosen,
-}
-
 // The lowest enabled action, where an entry of this kind is an execute.
-fn action_for(card: &[u8], l: Layout, m: Mind, plan: &Plan, marks: &Marks, kind: u8) -> Chosen
-    requires { ⌜ Judged l (now card) (configured m (now plan)) (now marks) ⌝ }
-    ensures { λ r. ⌜ (kind ≡ 0 → r ≡ firstOfKind l (now (card .entry)) (configured m (now (plan .entry))) 1) ⌝ }
+fn action_for(card: &[u8], l: Layout, m: Standing, plan: &Plan, marks: &Marks, kind: u8) -> Chosen
+    requires { ⌜ SomeSets l (now card) m (now plan) (now marks) ⌝ }
+    ensures { λ r. ⌜ AllSets l (now (card .entry)) m (now (plan .entry)) (now (marks .entry))
+        (λ c. kind ≡ 0 → r ≡ firstOfKind l (now (card .entry)) c 1) ⌝ }
 {
     if kind == 0 {
         return first_of_kind(card, l, m, plan, marks, 1);
@@ -232,7 +250,7 @@ fn action_for(card: &[u8], l: Layout, m: Mind, plan: &Plan, marks: &Marks, kind:
 fn reach(
     card: &[u8],
     l: Layout,
-    m: Mind,
+    m: Standing,
     plan: &Plan,
     marks: &Marks,
     program: &[u8],
@@ -240,10 +258,10 @@ fn reach(
     from: usize,
     top: usize,
 ) -> Reached
-    requires { ⌜ Judged l (now card) (configured m (now plan)) (now marks) × GoodProgram l (now card) (now program)
-        × Stack (now program) (now stack) from top ⌝ }
-    ensures { λ r. ⌜ Found l (now (card .entry)) (now (program .entry)) (configured m (now (plan .entry))) from (drop top (now (stack .entry)))
-        r (now (stack .exit)) × (r .leaf .top ≤ top) × (drop top (now (stack .exit)) ≡ drop top (now (stack .entry))) ⌝ }
+    requires { ⌜ SomeSets l (now card) m (now plan) (now marks) × GoodProgram l (now card) (now program) × Stack (now program) (now stack) from top ⌝ }
+    ensures { λ r. ⌜ AllSets l (now (card .entry)) m (now (plan .entry)) (now (marks .entry))
+        (λ c. Found l (now (card .entry)) (now (program .entry)) c from (drop top (now (stack .entry))) r (now (stack .exit))) ⌝ }
+    ensures { λ r. ⌜ (r .leaf .top ≤ top) × (drop top (now (stack .exit)) ≡ drop top (now (stack .entry))) ⌝ }
 {
     let first = lead(program, stack, from, top);
     let kind = first.entry.kind;
@@ -267,18 +285,23 @@ fn reach(
 pub fn make_move(
     card: &[u8],
     l: Layout,
-    m: Mind,
+    beliefs: &mut Set,
+    goals: &mut Set,
+    at: Point,
     plan: &mut Plan,
     marks: &Marks,
     program: &[u8],
     stack: &mut [u8; 128],
-    top: usize,
 ) -> AfterMove
-    requires { ⌜ Judged l (now card) (configured m (now plan)) (now marks) × GoodProgram l (now card) (now program) ⌝ }
-    requires { ⌜ Remains (now program) (now stack) top × (top < 128) ⌝ }
-    ensures { λ r. ⌜ MakesNext l (now (card .entry)) (now (program .entry)) (configured m (now (plan .entry))) (now (stack .entry)) top
-        (keptAs (r .made) r top) (now (plan .exit)) (now (stack .exit)) ⌝ }
+    requires { ⌜ Judged l (now card) (configured (now beliefs) (now goals) (at .standing) (now plan)) (now marks)
+        × GoodProgram l (now card) (now program) ⌝ }
+    requires { ⌜ Remains (now program) (now stack) (at .top) × (at .top < 128) ⌝ }
+    ensures { λ r. ⌜ MakesNext l (now (card .entry)) (now (program .entry))
+        (configured (now (beliefs .entry)) (now (goals .entry)) (at .standing) (now (plan .entry))) (now (stack .entry)) (at .top)
+        (keptAs (r .made) r (at .top)) (configured (now (beliefs .exit)) (now (goals .exit)) (r .standing) (now (plan .exit))) (now (stack .exit)) ⌝ }
 {
+    let m = at.standing;
+    let top = at.top;
     let next = stack[top];
     let reached = reach(
         card,
@@ -291,9 +314,7 @@ pub fn make_move(
         next as usize,
         top + 1,
     );
-    let leaf = reached.leaf;
-    let action = reached.action;
-    let moved = move_leaf(card, l, m, plan, marks, action, leaf, stack);
+    let moved = move_leaf(card, l, beliefs, goals, m, plan, marks, reached, stack);
     let made = moved.made;
     put_back(made, stack, top, next);
     moved

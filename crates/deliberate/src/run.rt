@@ -1,38 +1,37 @@
 // A deliberation: moves one after the other, at most as many as the budget says.
 ghost use mathlib.Core.Path.{_≡_};
 ghost use lib.ListN.{drop};
-ghost use Rattle.door.specs.Words.{𝐁, conditions, agentFor, stateOf, configured, Ready};
-ghost use Rattle.deliberation.specs.Entries.{entriesOf};
-ghost use Rattle.deliberation.specs.Deliberate.{deliberate};
-ghost use Rattle.program.specs.GoodProgram.{GoodProgram};
-ghost use Rattle.deliberate.specs.Made.{Remains};
-ghost use Rattle.deliberate.specs.Ran.{RanTo, stoppedBy};
+ghost use Rattle.door.specs.Words.{configured};
+ghost use Rattle.deliberate.specs.Ran.{Starts, outcomeOf, RanTo, stoppedBy};
 use crate::made::MoveMade;
+use crate::made::Point;
 use crate::made::make_move;
 use choices::truth::judge_nodes;
 use choices::truth::no_marks;
 use deliberation::DeliberationEnding;
 use meaning::Layout;
-use meaning::Mind;
 use meaning::Plan;
+use meaning::Set;
+use meaning::Standing;
 
-// What a deliberation comes to beside the plan and the numbers that remain: where these begin.
+// What a deliberation comes to beside the sets, the plan and the numbers that remain: where these begin.
 pub struct RanMoves {
-    pub mind: Mind,
+    pub standing: Standing,
     pub count: u16,
     pub ending: DeliberationEnding,
     pub top: usize,
 }
 
 // Where a deliberation ends.
-fn ended(m: Mind, count: u16, ending: DeliberationEnding, top: usize) -> RanMoves
-    ensures { λ r. ⌜ r ≡ record { mind = m; count = count; ending = ending; top = top } ⌝ }
+fn ended(at: Point, count: u16, ending: DeliberationEnding) -> RanMoves
+    ensures { λ r. ⌜ r ≡ record { standing = at .standing; count = count; ending = ending; top = at .top } ⌝ }
 {
+    let m = at.standing;
     RanMoves {
-        mind: m,
+        standing: m,
         count: count,
         ending: ending,
-        top: top,
+        top: at.top,
     }
 }
 
@@ -52,40 +51,40 @@ fn stopped(made: MoveMade) -> DeliberationEnding
 pub fn run_moves(
     card: &[u8],
     l: Layout,
-    m: Mind,
+    beliefs: &mut Set,
+    goals: &mut Set,
+    at: Point,
     plan: &mut Plan,
     program: &[u8],
     budget: u16,
     stack: &mut [u8; 128],
-    top: usize,
 ) -> RanMoves
-    requires { ⌜ Ready l (now card) (configured m (now plan)) × GoodProgram l (now card) (now program) × Remains (now program) (now stack) top ⌝ }
-    ensures { λ r. ⌜ RanTo (deliberate (agentFor l (now (card .entry))) (conditions 𝐁 l (now (card .entry))) (entriesOf (now (program .entry)))
-        budget (drop top (now (stack .entry))) (stateOf (configured m (now (plan .entry))))) r (now (plan .exit)) (now (stack .exit)) ⌝ }
+    requires { ⌜ Starts l (now card) (now program) (configured (now beliefs) (now goals) (at .standing) (now plan)) (now stack) (at .top) ⌝ }
+    ensures { λ r. ⌜ RanTo (outcomeOf l (now (card .entry)) (now (program .entry)) budget
+        (configured (now (beliefs .entry)) (now (goals .entry)) (at .standing) (now (plan .entry))) (drop (at .top) (now (stack .entry))))
+        r (configured (now (beliefs .exit)) (now (goals .exit)) (r .standing) (now (plan .exit))) (now (stack .exit)) ⌝ }
 {
-    let mut cur = m;
+    let mut here = at;
     let mut marks = no_marks();
     let mut known = false;
-    let mut rest = top;
     let mut count: u16 = 0;
     while count < budget {
-        if rest == 128 {
-            return ended(cur, count, DeliberationEnding::Finished, rest);
+        if here.top == 128 {
+            return ended(here, count, DeliberationEnding::Finished);
         }
         if !known {
-            judge_nodes(card, l, cur, &mut marks);
-            known = true;
-        } else {
-            let moved = make_move(card, l, cur, plan, &marks, program, stack, rest);
-            let made = moved.made;
-            let MoveMade::On = made else {
-                return ended(cur, count, stopped(made), rest);
-            };
-            known = moved.known;
-            cur = moved.mind;
-            rest = moved.top;
-            count += 1;
+            judge_nodes(card, l, beliefs, goals, &mut marks);
         }
+        let moved = make_move(card, l, beliefs, goals, here, plan, &marks, program, stack);
+        let made = moved.made;
+        let after = moved.standing;
+        here.standing = after;
+        let MoveMade::On = made else {
+            return ended(here, count, stopped(made));
+        };
+        known = moved.known;
+        here.top = moved.top;
+        count += 1;
     }
-    ended(cur, count, DeliberationEnding::Spent, rest)
+    ended(here, count, DeliberationEnding::Spent)
 }

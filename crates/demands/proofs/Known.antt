@@ -1,14 +1,14 @@
 -- The states that a card knows: its atoms, its actions, a plan that fits and a phase. A card that is accepted starts in one, and
 -- every transition of its agent leads from one to another.
 use mathlib.Core.Path.{_≡_, refl, ap, _∙_, sym, subst}
-use mathlib.Core.Bool.{Bool, true, false, not, _&&_, _||_}
+use mathlib.Core.Bool.{Bool, true, false, not, _&&_}
 use mathlib.Core.List.{List, [], _∷_, _++_}
 use mathlib.Core.Option.{some}
 use Prim.Native.Nat.{ℕ, zero, suc, _+_, _-_, _*_, _/_, _%_, _≤_, _<_}
 use native.Mathlib.Nat.{zero-add, mod-lt}
 use native.Mathlib.Decide.{decLt}
 use native.Mathlib.Omega.{arith}
-use borrow.Author.Tests.{not-true, leb-true, le-leb}
+use borrow.Author.Tests.{leb-true, le-leb}
 use lib.Dec.{eqb, ltb}
 use lib.ListN.{length, length-take, take, drop, replicate, getD}
 use lib.Seq.{drop-append-seam}
@@ -16,7 +16,7 @@ use Rattle.paper.specs.Atoms.{Atoms, bit, _∈_, _∪_, _∖_}
 use Rattle.paper.specs.Language.{𝐁, 𝐆, Agent, Config, ⟨_/_/_⟩, Selection, Revision, Specification}
 use Rattle.paper.specs.Transitions.{Choice, Entry, Step, execute, apply-PS, apply-PR, σ′, γ′}
 use Rattle.paper.specs.Theorems.{AreBytes}
-use Rattle.paper.proofs.Sets.{past, none-in, ∈-∪, ∈-∖, by-bits}
+use Rattle.paper.proofs.Sets.{past, none-in, ∈-∖, by-bits}
 use Rattle.paper.proofs.Relation.{both, none≢some, some-inj}
 use Rattle.runs.specs.Order.{State, kind}
 use Rattle.runs.specs.Step.{after}
@@ -32,12 +32,13 @@ use Rattle.meaning.specs.Card.{Bytes, layout, part, byte, plan, entryAt, entrie
 use Rattle.meaning.specs.Configurations.{padded, stateOf, configurationOf}
 use Rattle.meaning.specs.Refusals.{all, every, within, cardAnswer, containing, conditionGood, spanGood, selectionGood, revisionGood, actionsGood, setGood, bothGood, setsGood, pool, configurationGood}
 use Rattle.meaning.proofs.Entries.{GoodEntries, good-entries}
-use Rattle.meaning.proofs.Every.{both-true, all-at, all-of, numbers-at, numbers-of, every-at}
+use Rattle.meaning.proofs.Every.{both-true, all-at, all-of, every-at}
 use Rattle.meaning.proofs.Parts.{length-part, part-at}
 use Rattle.meaning.proofs.Accepted.{Accepted, accepted, within-high, offsets}
 use Rattle.meaning.specs.Theorems.{Holds}
 use Rattle.meaning.proofs.Configurations.{take-padded, good}
 use Rattle.meaning.proofs.Widening.{held, held-at}
+use Rattle.meaning.proofs.KnownSets.{unknown, all-unknown, good-∪}
 
 pub record Known (l : Layout) (s : State) : Type 0 where
   pub beliefs : setGood (l .atoms) (s .mental .σ) ≡ true
@@ -77,13 +78,6 @@ known-of l c e =
 
 -- ---- sets
 
-unknown : (n : ℕ) (s : Atoms) → setGood n s ≡ true → (k : ℕ) → n ≤ k → k ∈ s ≡ false
-unfolding setGood
-unknown n s e k h = elim (decLt k (8 * length s)) [
-  | yes l ↦ (let z : n + (k - n) ≡ k = omega arith in not-true (k ∈ s) (rw z at (numbers-at (λ k. not (k ∈ s)) n (8 * length s - n) (k - n) e (omega arith))))
-  | no l ↦ past s k (omega arith)
-]
-
 -- a set of 32 bytes that a card knows is held: no byte above those of its edition has a bit
 pub known-held : (l : Layout) (s : Atoms) → l .atoms ≤ mostAtoms (setBytes l) → length s ≡ 32 → AreBytes s → setGood (l .atoms) s ≡ true → Holds l s
 unfolding _∈_
@@ -98,12 +92,8 @@ known-held l s most e bytes h = held l s e (λ i a. by-bits (getD s i 0) 0 (byte
         let r : (8 * i + j) % 8 ≡ j = omega arith in
         rw (q, r) at (unknown (l .atoms) s h (8 * i + j) (omega arith))
 
-all-unknown : (n : ℕ) (s : Atoms) → ((k : ℕ) → n ≤ k → k ∈ s ≡ false) → setGood n s ≡ true
-unfolding setGood
-all-unknown n s h = numbers-of (λ k. not (k ∈ s)) n (8 * length s - n) (λ i l. ap not (h (n + i) (omega arith)))
-
 known-∪ : (n : ℕ) (s t : Atoms) → setGood n s ≡ true → setGood n t ≡ true → setGood n (s ∪ t) ≡ true
-known-∪ n s t e f = all-unknown n (s ∪ t) (λ k h. ∈-∪ k s t ∙ (λ i. unknown n s e k h i || unknown n t f k h i))
+known-∪ n s t e f = good-∪ n s t ∙ both-true (setGood n s) (setGood n t) e f
 
 known-∖ : (n : ℕ) (s t : Atoms) → setGood n s ≡ true → setGood n (s ∖ t) ≡ true
 known-∖ n s t e = all-unknown n (s ∖ t) (λ k h. ∈-∖ k s t ∙ ap (λ x. x && not (k ∈ t)) (unknown n s e k h))

@@ -8,18 +8,20 @@ ghost use Rattle.door.specs.Ready.{Ready};
 use crate::configuration::configuration_good;
 use card::check::check;
 use meaning::Checked;
-use meaning::Mind;
 use meaning::Plan;
 use meaning::Refusal;
+use meaning::Set;
+use meaning::Standing;
 
 // The layout of an accepted card, where the configuration is accepted too, or the refusal: rows 1 to 9, then row 13.
-pub fn admit(card: &[u8], m: Mind, plan: &Plan) -> Checked
-    ensures { λ r. ⌜ r ≡ admitted (now (card .entry)) (configured m (now (plan .entry))) ⌝ }
-    ensures { λ r. ⌜ ((l : Layout) → r ≡ Checked.Good l → Ready l (now (card .entry)) (configured m (now (plan .entry)))) ⌝ }
+pub fn admit(card: &[u8], beliefs: &Set, goals: &Set, m: Standing, plan: &Plan) -> Checked
+    ensures { λ r. ⌜ r ≡ admitted (now (card .entry)) (configured (now (beliefs .entry)) (now (goals .entry)) m (now (plan .entry))) ⌝ }
+    ensures { λ r. ⌜ ((l : Layout) → r ≡ Checked.Good l
+        → Ready l (now (card .entry)) (configured (now (beliefs .entry)) (now (goals .entry)) m (now (plan .entry)))) ⌝ }
 {
     let checked = check(card);
     if let Checked::Good(l) = checked {
-        if !configuration_good(l, m, plan) {
+        if !configuration_good(l, beliefs, goals, m, plan) {
             return Checked::Refused(Refusal::Configuration);
         }
     }

@@ -1,13 +1,13 @@
-// What a call answers where the plan is lent: all of `Reply`, `Written` and `Ran` but what the lent plan holds.
+// What a call answers where sets and plan are lent: all of `Reply`, `Written` and `Ran` but what these hold.
 ghost use mathlib.Core.Path.{_≡_};
 use meaning::Answer;
-use meaning::Mind;
+use meaning::Standing;
 use runs::Ending;
 
 // Of `Reply`.
 pub struct ReplyInPlace {
     pub answer: Answer,
-    pub mind: Mind,
+    pub standing: Standing,
 }
 
 // Of `Written`.
@@ -31,5 +31,5 @@ pub struct RanInPlace {
     pub answer: Answer,
     pub count: u16,
     pub ending: Ending,
-    pub mind: Mind,
+    pub standing: Standing,
 }

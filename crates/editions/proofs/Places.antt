@@ -22,7 +22,7 @@ use Rattle.meaning.specs.Refusals.{firstGiven, marked, hasEdition, placeMarkGoo
 use Rattle.meaning.proofs.Parts.{length-part}
 use Rattle.meaning.proofs.Tables.{done≢refused, row-passed}
 use Rattle.meaning.proofs.Widening.{take-widened}
-use Rattle.editions.proofs.Widening.{good-widened}
+use Rattle.meaning.proofs.KnownSets.{good-widened}
 use Rattle.meaning.proofs.Places.{place-laws}
 use Rattle.editions.specs.Edition1.{edition1SetAt, edition1Place, edition1Placed, edition1PlaceTable, edition1PlaceAnswer}
 use Rattle.editions.specs.Moves.{OfSixteen, widenedConfig, widenedState}
@@ -120,9 +120,9 @@ module _ (l : Layout) (e : l .edition ≡ 1) where
 
   configurations : (s : State) → OfSixteen s → configurationGood l (configurationOf (widenedState s)) ≡ configurationGood l (configurationOf s)
   unfolding configurationGood configurationOf widenedState widenedConfig
-  configurations s (h, g) =
-      let σ = good-widened (l .atoms) (s .mental .σ) (omega arith) in
-      let γ = good-widened (l .atoms) (s .mental .γ) (omega arith) in
+  configurations s h =
+      let σ = good-widened (l .atoms) (s .mental .σ) in
+      let γ = good-widened (l .atoms) (s .mental .γ) in
       rw (σ, γ)
 
   pub place-as-before : PlaceAsBefore l

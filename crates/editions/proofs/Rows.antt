@@ -10,7 +10,7 @@ use Rattle.meaning.specs.Sizes.{setBytes, mostAtoms, goalsAt, headerBytes, delA
 use Rattle.meaning.specs.Card.{Bytes, part, widened, setAt, specificationAt, entryAt}
 use Rattle.meaning.specs.Refusals.{every, countsGood, offsetsGood, weightsGood, specificationGood, rulesGood, bothGood, setsGood}
 use Rattle.meaning.proofs.Widening.{set-first}
-use Rattle.editions.proofs.Widening.{good-widened}
+use Rattle.meaning.proofs.KnownSets.{good-widened}
 use Rattle.editions.specs.Edition1.{edition1SetAt, edition1SpecificationAt, edition1CountsGood, edition1OffsetsGood, edition1WeightsGood, edition1RulesGood, edition1SetsGood}
 use Rattle.editions.specs.AsBefore.{Edition1Sizes}
 
@@ -71,7 +71,7 @@ module _ (l : Layout) (e : l .edition ≡ 1) where
 
   -- two sets at once, in 32 bytes and in 16
   pub same-both : (b : Bytes) (i j : ℕ) → bothGood (l .atoms) (widened (edition1SetAt b i)) (widened (edition1SetAt b j)) ≡ bothGood (l .atoms) (edition1SetAt b i) (edition1SetAt b j)
-  same-both b i j = ap₂ _&&_ (good-widened (l .atoms) (edition1SetAt b i) (part-16 b i)) (good-widened (l .atoms) (edition1SetAt b j) (part-16 b j))
+  same-both b i j = ap₂ _&&_ (good-widened (l .atoms) (edition1SetAt b i)) (good-widened (l .atoms) (edition1SetAt b j))
 
   pub same-sets-at : (b : Bytes) (i j : ℕ) → bothGood (l .atoms) (setAt l b i) (setAt l b j) ≡ bothGood (l .atoms) (edition1SetAt b i) (edition1SetAt b j)
   same-sets-at b i j = ap (λ s. bothGood (l .atoms) (widened (part b i s)) (widened (part b j s))) s16 ∙ same-both b i j

@@ -6,6 +6,7 @@ ghost use lib.ListN.{replicate};
 ghost use Rattle.paper.specs.Theorems.{AreBytes};
 ghost use Rattle.demands.specs.Contracts.{Checks, Loads, Grades, Lists, Takes, Runs, Nexts, Saves, Restores, Shaped};
 ghost use Rattle.deliberation.specs.Theorems.{GoesOn, Deliberates};
+ghost use Rattle.layout.specs.PlaceParts.{configured};
 ghost use Rattle.door.specs.InPlace.{replyWith, ranWith};
 ghost use Rattle.deliberate.specs.InPlace.{deliberatedWith};
 ghost use Rattle.names.specs.Naming.{asked, names, Names, nameOf, placeOf};
@@ -17,10 +18,13 @@ use door::in_place::ReplyInPlace;
 use meaning::Checked;
 use meaning::Configuration;
 use meaning::Graded;
+use meaning::Mind;
 use meaning::Next;
 use meaning::Plan;
 use meaning::Ran;
 use meaning::Reply;
+use meaning::Set;
+use meaning::Standing;
 use meaning::Written;
 use names::Named;
 
@@ -31,19 +35,43 @@ pub fn check(card: &[u8]) -> Checked
     card::check::check(card)
 }
 
-// What was answered in place, with the plan.
-fn reply_with(r: ReplyInPlace, plan: Plan) -> Reply
-    ensures { λ x. ⌜ x ≡ replyWith r plan ⌝ }
+// A configuration of its parts.
+fn whole(beliefs: Set, goals: Set, m: Standing, plan: Plan) -> Configuration
+    ensures { λ r. ⌜ r ≡ configured beliefs goals m plan ⌝ }
+    ensures { λ r. ⌜ Shaped r ⌝ }
+{
+    Configuration {
+        mind: Mind {
+            beliefs: beliefs,
+            goals: goals,
+            length: m.length,
+            phase: m.phase,
+            finished: m.finished,
+        },
+        plan: plan,
+    }
+}
+
+// All of a mind but its sets.
+fn standing(m: Mind) -> Standing
+    ensures { λ r. ⌜ r ≡ record { length = m .length; phase = m .phase; finished = m .finished } ⌝ }
+{
+    Standing {
+        length: m.length,
+        phase: m.phase,
+        finished: m.finished,
+    }
+}
+
+// What was answered in place, with the sets and the plan.
+fn reply_with(r: ReplyInPlace, beliefs: Set, goals: Set, plan: Plan) -> Reply
+    ensures { λ x. ⌜ x ≡ replyWith r beliefs goals plan ⌝ }
     ensures { λ x. ⌜ Shaped (x .configuration) ⌝ }
 {
     let a = r.answer;
-    let m = r.mind;
     Reply {
         answer: a,
-        configuration: Configuration {
-            mind: m,
-            plan: plan,
-        },
+        configuration: whole(beliefs, goals, r.standing, plan),
     }
 }
 
@@ -52,9 +80,11 @@ pub fn load(card: &[u8]) -> Reply
     ensures { λ r. ⌜ Loads (now (card .entry)) r ⌝ }
     ensures { λ r. ⌜ Shaped (r .configuration) ⌝ }
 {
+    let mut beliefs = [0u8; 32];
+    let mut goals = [0u8; 32];
     let mut plan = [0u8; 1024];
-    let r = place::load::load(card, &mut plan);
-    reply_with(r, plan)
+    let r = place::load::load(card, &mut beliefs, &mut goals, &mut plan);
+    reply_with(r, beliefs, goals, plan)
 }
 
 // Bounded, or open with the first offender.
@@ -64,15 +94,14 @@ pub fn grade(card: &[u8]) -> Graded
     let r = verdict::grade::grade(card);
     let a = r.answer;
     let v = r.verdict;
+    let mut beliefs = [0u8; 32];
+    let mut goals = [0u8; 32];
     let mut plan = [0u8; 1024];
-    let none = place::load::empty_mind(&mut plan);
+    let none = place::load::set_empty(&mut beliefs, &mut goals, &mut plan);
     Graded {
         answer: a,
         verdict: v,
-        configuration: Configuration {
-            mind: none,
-            plan: plan,
-        },
+        configuration: whole(beliefs, goals, none, plan),
     }
 }
 
@@ -81,7 +110,9 @@ pub fn list(card: &[u8], c: Configuration, out: &mut [u16]) -> Written
     ensures { λ r. ⌜ Lists (now (card .entry)) c (now (out .entry)) r (now (out .exit)) ⌝ }
 {
     let m = c.mind;
-    let r = listing::list::list(card, m, &c.plan, out);
+    let beliefs = m.beliefs;
+    let goals = m.goals;
+    let r = listing::list::list(card, &beliefs, &goals, standing(m), &c.plan, out);
     let a = r.answer;
     Written {
         answer: a,
@@ -96,27 +127,32 @@ pub fn take(card: &[u8], c: Configuration, choice: u16) -> Reply
     ensures { λ r. ⌜ Shaped (r .configuration) ⌝ }
 {
     let m = c.mind;
+    let mut beliefs = m.beliefs;
+    let mut goals = m.goals;
     let mut plan = c.plan;
-    let r = moves::take::take(card, m, &mut plan, choice);
-    reply_with(r, plan)
+    let r = moves::take::take(
+        card,
+        &mut beliefs,
+        &mut goals,
+        standing(m),
+        &mut plan,
+        choice,
+    );
+    reply_with(r, beliefs, goals, plan)
 }
 
-// What a run answered in place, with the plan.
-fn ran_with(r: RanInPlace, plan: Plan) -> Ran
-    ensures { λ x. ⌜ x ≡ ranWith r plan ⌝ }
+// What a run answered in place, with the sets and the plan.
+fn ran_with(r: RanInPlace, beliefs: Set, goals: Set, plan: Plan) -> Ran
+    ensures { λ x. ⌜ x ≡ ranWith r beliefs goals plan ⌝ }
     ensures { λ x. ⌜ Shaped (x .configuration) ⌝ }
 {
     let a = r.answer;
     let e = r.ending;
-    let m = r.mind;
     Ran {
         answer: a,
         count: r.count,
         ending: e,
-        configuration: Configuration {
-            mind: m,
-            plan: plan,
-        },
+        configuration: whole(beliefs, goals, r.standing, plan),
     }
 }
 
@@ -126,9 +162,18 @@ pub fn run(card: &[u8], c: Configuration, budget: u16) -> Ran
     ensures { λ r. ⌜ Shaped (r .configuration) ⌝ }
 {
     let m = c.mind;
+    let mut beliefs = m.beliefs;
+    let mut goals = m.goals;
     let mut plan = c.plan;
-    let r = moves::run::run(card, m, &mut plan, budget);
-    ran_with(r, plan)
+    let r = moves::run::run(
+        card,
+        &mut beliefs,
+        &mut goals,
+        standing(m),
+        &mut plan,
+        budget,
+    );
+    ran_with(r, beliefs, goals, plan)
 }
 
 // The guide's own next move, which is not made: its code, or that it rests or is full.
@@ -136,7 +181,9 @@ pub fn next(card: &[u8], c: Configuration) -> Next
     ensures { λ r. ⌜ Nexts (now (card .entry)) c r ⌝ }
 {
     let m = c.mind;
-    let r = moves::next::next(card, m, &c.plan);
+    let beliefs = m.beliefs;
+    let goals = m.goals;
+    let r = moves::next::next(card, &beliefs, &goals, standing(m), &c.plan);
     let a = r.answer;
     let k = r.coming;
     Next {
@@ -146,22 +193,24 @@ pub fn next(card: &[u8], c: Configuration) -> Next
     }
 }
 
-// What a deliberation answered in place, with the plan and the numbers that remain.
-fn deliberated_with(r: DeliberatedInPlace, plan: Plan, numbers: [u8; 128]) -> Deliberated
-    ensures { λ x. ⌜ x ≡ deliberatedWith r plan numbers ⌝ }
+// What a deliberation answered in place, with the sets, the plan and the numbers that remain.
+fn deliberated_with(
+    r: DeliberatedInPlace,
+    beliefs: Set,
+    goals: Set,
+    plan: Plan,
+    numbers: [u8; 128],
+) -> Deliberated
+    ensures { λ x. ⌜ x ≡ deliberatedWith r beliefs goals plan numbers ⌝ }
     ensures { λ x. ⌜ Shaped (x .configuration) ⌝ }
 {
     let a = r.answer;
     let e = r.ending;
-    let m = r.mind;
     Deliberated {
         answer: a,
         count: r.count,
         ending: e,
-        configuration: Configuration {
-            mind: m,
-            plan: plan,
-        },
+        configuration: whole(beliefs, goals, r.standing, plan),
         remaining: Remaining {
             length: r.length,
             numbers: numbers,
@@ -182,10 +231,21 @@ pub fn deliberate(card: &[u8], program: &[u8], c: Configuration, budget: u16) ->
     ensures { λ r. ⌜ Shaped (r .configuration) ⌝ }
 {
     let m = c.mind;
+    let mut beliefs = m.beliefs;
+    let mut goals = m.goals;
     let mut plan = c.plan;
     let mut numbers = no_numbers();
-    let r = deliberate::call::deliberate(card, program, m, &mut plan, budget, &mut numbers);
-    deliberated_with(r, plan, numbers)
+    let r = deliberate::call::deliberate(
+        card,
+        program,
+        &mut beliefs,
+        &mut goals,
+        standing(m),
+        &mut plan,
+        budget,
+        &mut numbers,
+    );
+    deliberated_with(r, beliefs, goals, plan, numbers)
 }
 
 // The same from given numbers that remain of the program, the next first.
@@ -200,10 +260,22 @@ pub fn go_on(
     ensures { λ r. ⌜ Shaped (r .configuration) ⌝ }
 {
     let m = c.mind;
+    let mut beliefs = m.beliefs;
+    let mut goals = m.goals;
     let mut plan = c.plan;
     let mut numbers = no_numbers();
-    let r = deliberate::call::go_on(card, program, given, m, &mut plan, budget, &mut numbers);
-    deliberated_with(r, plan, numbers)
+    let r = deliberate::call::go_on(
+        card,
+        program,
+        given,
+        &mut beliefs,
+        &mut goals,
+        standing(m),
+        &mut plan,
+        budget,
+        &mut numbers,
+    );
+    deliberated_with(r, beliefs, goals, plan, numbers)
 }
 
 // The configuration into a lent buffer: 44 + L bytes and no others.
@@ -212,7 +284,9 @@ pub fn save(card: &[u8], c: Configuration, out: &mut [u8]) -> Written
     ensures { λ r. ⌜ Shaped c ⌝ }
 {
     let m = c.mind;
-    let r = place::save::save(card, m, &c.plan, out);
+    let beliefs = m.beliefs;
+    let goals = m.goals;
+    let r = place::save::save(card, &beliefs, &goals, standing(m), &c.plan, out);
     let a = r.answer;
     Written {
         answer: a,
@@ -227,9 +301,11 @@ pub fn restore(card: &[u8], p: &[u8]) -> Reply
     ensures { λ r. ⌜ Shaped (r .configuration) ⌝ }
     ensures { λ r. ⌜ AreBytes (now (p .entry)) ⌝ }
 {
+    let mut beliefs = [0u8; 32];
+    let mut goals = [0u8; 32];
     let mut plan = [0u8; 1024];
-    let r = place::restore::restore(card, p, &mut plan);
-    reply_with(r, plan)
+    let r = place::restore::restore(card, p, &mut beliefs, &mut goals, &mut plan);
+    reply_with(r, beliefs, goals, plan)
 }
 
 // The part that holds an action's name, of the shed's sheet or of the master's: which, and its start and length.

@@ -12,7 +12,7 @@ use Rattle.meaning.specs.Card.{Bytes, part}
 
 -- ---- no byte
 
-∪-none : (s : Atoms) → s ∪ [] ≡ s
+pub ∪-none : (s : Atoms) → s ∪ [] ≡ s
 unfolding _∪_
 ∪-none [] = refl
 ∪-none (x ∷ s) = refl

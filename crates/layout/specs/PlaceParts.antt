@@ -1,5 +1,5 @@
--- The parts of a place by name, and a configuration whose plan is lent.
-use Rattle.meaning.specs.declared.Mind.{Mind}
+-- The parts of a place by name, and a configuration whose sets and plan are lent.
+use Rattle.meaning.specs.declared.Standing.{Standing}
 use Rattle.meaning.specs.declared.Configuration.{Configuration}
 use Rattle.meaning.specs.declared.Layout.{Layout}
 use Rattle.meaning.specs.Sizes.{setBytes, placeGoalsAt}
@@ -17,6 +17,9 @@ placeParts l p = record {
   goals = setAt l p (placeGoalsAt (setBytes l));
 }
 
--- a mind and a lent plan's bytes, as one configuration
-abbrev pub configured : Mind → Bytes → Configuration
-configured m p = record { mind = m; plan = p }
+-- beliefs, goals and a plan's bytes that are lent, and the rest, as one configuration
+abbrev pub configured : Bytes → Bytes → Standing → Bytes → Configuration
+configured b g m p = record {
+  mind = record { beliefs = b; goals = g; length = m .length; phase = m .phase; finished = m .finished };
+  plan = p;
+}

@@ -110,7 +110,7 @@ pub fn set_at(bytes: &[u8], at: usize, edition: u16) -> Set
 }
 
 // The bytes of a set of n bytes at an offset join those of another in place.
-fn add_bytes(s: &mut [u8], bytes: &[u8], at: usize, n: usize)
+pub fn add_bytes(s: &mut [u8], bytes: &[u8], at: usize, n: usize)
     requires { ⌜ (n ≤ length (now s)) × (at + n ≤ length (now bytes)) ⌝ }
     ensures { λ r. ⌜ now (s .exit) ≡ now (s .entry) ∪ part (now (bytes .entry)) at n ⌝ }
 {

@@ -81,7 +81,7 @@ pub fn read_node(card: &[u8], l: Layout, i: usize) -> Node
 }
 
 // Where specification i stands.
-fn specification_at(l: Layout, i: usize) -> usize
+pub fn specification_at(l: Layout, i: usize) -> usize
     requires { ⌜ (i < l .specifications .count) × (endOf (specificationBytes (setBytes l)) (l .specifications) ≤ 65535) ⌝ }
     ensures { λ r. ⌜ r ≡ entryAt (specificationBytes (setBytes l)) (l .specifications) i ⌝ }
     ensures { λ r. ⌜ r + specificationBytes (setBytes l) ≤ endOf (specificationBytes (setBytes l)) (l .specifications) ⌝ }
@@ -115,17 +115,6 @@ pub fn act_on(beliefs: &mut [u8], card: &[u8], l: Layout, i: usize)
     let at = specification_at(l, i);
     add_set(beliefs, card, at + 4, l.edition);
     remove_set(beliefs, card, at + del_at(l), l.edition);
-}
-
-// A set with all the atoms of specification i: its Add and its Del.
-pub fn add_both(s: &mut [u8], card: &[u8], l: Layout, i: usize)
-    requires { ⌜ (length (now s) ≡ 32) × GoodLayout l (now card) × (i < l .specifications .count) ⌝ }
-    ensures { λ r. ⌜ now (s .exit)
-        ≡ (now (s .entry) ∪ specificationAt l (now (card .entry)) i .add) ∪ specificationAt l (now (card .entry)) i .del ⌝ }
-{
-    let at = specification_at(l, i);
-    add_set(s, card, at + 4, l.edition);
-    add_set(s, card, at + del_at(l), l.edition);
 }
 
 // "Selection rule, 8 bytes: belief node, goal node, start, length (1..1,024), zero number."

@@ -17,9 +17,9 @@ use crate::sizes::place_goals_at;
 use crate::sizes::plan_at;
 use crate::sizes::set_bytes;
 use meaning::Layout;
-use meaning::Mind;
 use meaning::Plan;
 use meaning::Set;
+use meaning::Standing;
 
 // "plan length L at 4; plan offset 44 at 6; phase at 8"; the finished count "in bytes 10 and 11"; "beliefs at 12; goals at 28".
 pub struct PlaceParts {
@@ -80,26 +80,26 @@ fn header_of(l: Layout, n: usize, phase: usize, finished: usize) -> [u8; 12]
 }
 
 // "beliefs at 12; goals at 28"
-fn write_sets(l: Layout, beliefs: Set, goals: Set, out: &mut [u8])
+fn write_sets(l: Layout, beliefs: &Set, goals: &Set, out: &mut [u8])
     requires { ⌜ planAt (setBytes l) ≤ length (now out) ⌝ }
     ensures { λ r. ⌜ now (out .exit)
-        ≡ paste (paste (now (out .entry)) 12 beliefs (setBytes l)) (placeGoalsAt (setBytes l)) goals (setBytes l) ⌝ }
+        ≡ paste (paste (now (out .entry)) 12 (now (beliefs .entry)) (setBytes l)) (placeGoalsAt (setBytes l)) (now (goals .entry)) (setBytes l) ⌝ }
+    ensures { λ r. ⌜ (length (now (beliefs .entry)) ≡ 32) × (length (now (goals .entry)) ≡ 32) ⌝ }
 {
     let s = set_bytes(l);
-    copy(out, 12, &beliefs, 0, s);
-    copy(out, place_goals_at(l), &goals, 0, s);
+    copy(out, 12, beliefs, 0, s);
+    copy(out, place_goals_at(l), goals, 0, s);
 }
 
 // The whole place, where there is room: the header, the sets, and "the plan's L bytes at 44".
-pub fn write_place(l: Layout, m: Mind, plan: &Plan, out: &mut [u8])
+pub fn write_place(l: Layout, beliefs: &Set, goals: &Set, m: Standing, plan: &Plan, out: &mut [u8])
     requires { ⌜ (m .length ≤ 1024) × (planAt (setBytes l) + m .length ≤ length (now out)) × (length (now plan) ≡ 1024) ⌝ }
-    ensures { λ r. ⌜ now (out .exit) ≡ place l (stateOf (configured m (now (plan .entry))))
+    ensures { λ r. ⌜ now (out .exit)
+        ≡ place l (stateOf (configured (now (beliefs .entry)) (now (goals .entry)) m (now (plan .entry))))
         ++ drop (planAt (setBytes l) + m .length) (now (out .entry)) ⌝ }
 {
-    let b = m.beliefs;
-    let g = m.goals;
     let h = header_of(l, m.length as usize, m.phase as usize, m.finished as usize);
     copy(out, 0, &h, 0, 12);
-    write_sets(l, b, g, out);
+    write_sets(l, beliefs, goals, out);
     copy(out, plan_at(l), plan, 0, m.length as usize);
 }

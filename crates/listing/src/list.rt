@@ -4,7 +4,7 @@ ghost use Prim.Native.Nat.{_+_, _*_, _≤_, _<_};
 ghost use lib.ListN.{length, replicate};
 ghost use Rattle.meaning.specs.Calls.{over, lists, listLeaves};
 ghost use Rattle.door.specs.Words.{configured, Ready, writtenWith};
-ghost use Rattle.choices.specs.Judged.{Judged};
+ghost use Rattle.choices.specs.Judged.{SomeSets, AllSets};
 ghost use Rattle.sets.specs.Sets.{withMember};
 ghost use Rattle.listing.specs.Listed.{enabledCode, codesIn, Gathered, CardCodes, overFrom};
 use card::check::answer_of;
@@ -20,8 +20,9 @@ use layout::entries::count_of;
 use meaning::Answer;
 use meaning::Checked;
 use meaning::Layout;
-use meaning::Mind;
 use meaning::Plan;
+use meaning::Set;
+use meaning::Standing;
 
 // A set of codes with one code more: code k is bit (k modulo 8) of byte (k divided by 8).
 fn put(codes: &mut [u8; 96], code: usize)
@@ -35,17 +36,18 @@ fn put(codes: &mut [u8; 96], code: usize)
 fn gather_kind(
     card: &[u8],
     l: Layout,
-    m: Mind,
+    m: Standing,
     plan: &Plan,
     marks: &Marks,
     kind: u8,
     codes: &mut [u8; 96],
     before: usize,
 ) -> usize
-    requires { ⌜ Judged l (now card) (configured m (now plan)) (now marks) × (kind < 3) × (length (now codes) ≡ 96) ⌝ }
-    requires { ⌜ Gathered (enabledCode l (now card) (configured m (now plan))) (256 * kind) (now codes) before ⌝ }
-    ensures { λ r. ⌜ Gathered (enabledCode l (now (card .entry)) (configured m (now (plan .entry)))) (256 * kind + 256) (now (codes .exit)) r ⌝ }
-    ensures { λ r. ⌜ length (now (codes .exit)) ≡ 96 ⌝ }
+    requires { ⌜ SomeSets l (now card) m (now plan) (now marks) × (kind < 3) × (length (now codes) ≡ 96) × (before ≤ 512) ⌝ }
+    ensures { λ r. ⌜ AllSets l (now (card .entry)) m (now (plan .entry)) (now (marks .entry))
+        (λ c. Gathered (enabledCode l (now (card .entry)) c) (256 * kind) (now (codes .entry)) before
+        → Gathered (enabledCode l (now (card .entry)) c) (256 * kind + 256) (now (codes .exit)) r) ⌝ }
+    ensures { λ r. ⌜ (length (now (codes .exit)) ≡ 96) × (r ≤ before + 256) ⌝ }
 {
     let n = count_of(l, kind);
     let mut count: usize = before;
@@ -61,13 +63,22 @@ fn gather_kind(
 }
 
 // The three kinds, one after another, into the empty set.
-fn gather(card: &[u8], l: Layout, m: Mind, plan: &Plan, codes: &mut [u8; 96]) -> usize
-    requires { ⌜ Ready l (now card) (configured m (now plan)) × (now codes ≡ replicate 96 0) ⌝ }
-    ensures { λ r. ⌜ Gathered (enabledCode l (now (card .entry)) (configured m (now (plan .entry)))) 768 (now (codes .exit)) r ⌝ }
+fn gather(
+    card: &[u8],
+    l: Layout,
+    beliefs: &Set,
+    goals: &Set,
+    m: Standing,
+    plan: &Plan,
+    codes: &mut [u8; 96],
+) -> usize
+    requires { ⌜ Ready l (now card) (configured (now beliefs) (now goals) m (now plan)) × (now codes ≡ replicate 96 0) ⌝ }
+    ensures { λ r. ⌜ Gathered (enabledCode l (now (card .entry)) (configured (now (beliefs .entry)) (now (goals .entry)) m (now (plan .entry))))
+        768 (now (codes .exit)) r ⌝ }
     ensures { λ r. ⌜ length (now (codes .exit)) ≡ 96 ⌝ }
 {
     let mut marks = no_marks();
-    judge_nodes(card, l, m, &mut marks);
+    judge_nodes(card, l, beliefs, goals, &mut marks);
     let first = gather_kind(card, l, m, plan, &marks, 0, codes, 0);
     let second = gather_kind(card, l, m, plan, &marks, 1, codes, first);
     gather_kind(card, l, m, plan, &marks, 2, codes, second)
@@ -131,17 +142,25 @@ fn no_codes() -> [u8; 96]
 }
 
 // All enabled choices into a lent list: how many; 12 if the room is too short, and nothing is written.
-pub fn list(card: &[u8], m: Mind, plan: &Plan, out: &mut [u16]) -> WrittenInPlace
-    ensures { λ r. ⌜ writtenWith r (configured m (now (plan .entry)))
-        ≡ lists (now (card .entry)) (configured m (now (plan .entry))) (now (out .entry)) ⌝ }
-    ensures { λ r. ⌜ now (out .exit) ≡ listLeaves (now (card .entry)) (configured m (now (plan .entry))) (now (out .entry)) ⌝ }
+pub fn list(
+    card: &[u8],
+    beliefs: &Set,
+    goals: &Set,
+    m: Standing,
+    plan: &Plan,
+    out: &mut [u16],
+) -> WrittenInPlace
+    ensures { λ r. ⌜ writtenWith r (configured (now (beliefs .entry)) (now (goals .entry)) m (now (plan .entry)))
+        ≡ lists (now (card .entry)) (configured (now (beliefs .entry)) (now (goals .entry)) m (now (plan .entry))) (now (out .entry)) ⌝ }
+    ensures { λ r. ⌜ now (out .exit)
+        ≡ listLeaves (now (card .entry)) (configured (now (beliefs .entry)) (now (goals .entry)) m (now (plan .entry))) (now (out .entry)) ⌝ }
 {
-    let admitted = admit(card, m, plan);
+    let admitted = admit(card, beliefs, goals, m, plan);
     let Checked::Good(l) = admitted else {
         return refused_write(answer_of(admitted));
     };
     let mut codes = no_codes();
-    let n = gather(card, l, m, plan, &mut codes);
+    let n = gather(card, l, beliefs, goals, m, plan, &mut codes);
     let room = judge_room(n, out.len());
     let Answer::Done = room else {
         return refused_write(room);

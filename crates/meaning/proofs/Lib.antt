@@ -10,6 +10,7 @@ pub mod Parts
 pub mod Pass
 pub mod Nodes
 pub mod Widening
+pub mod KnownSets
 pub mod Places
 pub mod Entries
 pub mod Carrying

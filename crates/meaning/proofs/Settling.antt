@@ -4,8 +4,10 @@ use mathlib.Core.Bool.{Bool, true, false, not, _&&_, _||_}
 use Prim.Native.Nat.{ℕ, zero, suc, _≤_, _<_}
 use native.Mathlib.Nat.{not-suc-le-zero}
 use native.Mathlib.Omega.{arith}
+use borrow.Author.Tests.{lt-ltb}
+use lib.Dec.{ltb}
 use lib.ListN.{getD}
-use Rattle.paper.specs.Next.{if}
+use Rattle.paper.specs.Next.{if, isEmpty}
 use Rattle.paper.specs.Language.{Letter, Config}
 use Rattle.paper.specs.Transitions.{_⊨_}
 use Rattle.meaning.specs.declared.Layout.{Layout}
@@ -14,8 +16,8 @@ use Rattle.meaning.specs.Kinds.{NodeKind, nodeKind}
 use Rattle.meaning.specs.Trees.{treeOf, queryOf}
 use Rattle.meaning.specs.Card.{Bytes, layout, nodeAt, treeAt, conditions, condition}
 use Rattle.meaning.specs.Refusals.{nodesGood}
-use Rattle.meaning.specs.Why.{settledBy, settlers, settler, turns}
-use Rattle.meaning.specs.Theorems.{StandsIn, is-it, in-first, in-second, turnedBy, SettlerLaws, SettlerLaw}
+use Rattle.meaning.specs.Why.{settledBy, settlers, settler, turns, why}
+use Rattle.meaning.specs.Theorems.{StandsIn, is-it, in-first, in-second, turnedBy, SettlerLaws, SettlerLaw, BeliefFirstLaw}
 use Rattle.meaning.proofs.Accepted.{accepted}
 use Rattle.meaning.proofs.NodeKinds.{Leaf, is-true, is-belief, is-goal, is-not, is-and, is-or, Known, leaf, inner, known-kind, leaf-low}
 use Rattle.meaning.proofs.Nodes.{node-rule, made-of, query-at, condition-at}
@@ -133,3 +135,12 @@ module _ (L : Letter) (l : Layout) (b : Bytes) (good : nodesGood l b ≡ true) (
 
 pub settler-law : SettlerLaw
 settler-law b card L c n h = below L (layout b) b (accepted b card .nodes) c (suc n) n (omega arith) h
+
+-- ---- which of a selection's conditions is shown
+
+pub belief-first : BeliefFirstLaw
+unfolding why
+belief-first l b c n h e =
+    let there : ltb n (l .selections .count) ≡ true = lt-ltb n (l .selections .count) h in
+    let front : isEmpty (c .π) ≡ true = ap isEmpty e in
+    record { belief = λ q. rw (there, front, q, why); goal = λ q. rw (there, front, q, why) }

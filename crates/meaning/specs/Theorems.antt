@@ -6,8 +6,8 @@ use mathlib.Core.List.{List, [], _∷_, _++_, map, List·Memᴰ}
 use Prim.Native.Nat.{ℕ, _≤_, _<_}
 use lib.ListN.{length, getD, take}
 use Rattle.paper.specs.Atoms.{_∈_}
-use Rattle.paper.specs.Language.{Letter, Config}
-use Rattle.paper.specs.Transitions.{_⊨_}
+use Rattle.paper.specs.Language.{Letter, 𝐁, 𝐆, Config}
+use Rattle.paper.specs.Transitions.{_⊨_, select}
 use Rattle.paper.specs.Theorems.{AreBytes}
 use Rattle.runs.specs.Limits.{longestPlan, mostFinished}
 use Rattle.runs.specs.Order.{State}
@@ -18,7 +18,7 @@ use Rattle.meaning.specs.declared.Layout.{Layout}
 use Rattle.meaning.specs.declared.Configuration.{Configuration}
 use Rattle.meaning.specs.Sizes.{setBytes}
 use Rattle.meaning.specs.Card.{Bytes, widened, layout, nodeAt, conditions, condition, specificationAt, selectionAt, revisionAt, weight, agent, initialPlan, start}
-use Rattle.meaning.specs.Why.{settler, turns}
+use Rattle.meaning.specs.Why.{settler, turns, why}
 use Rattle.meaning.specs.Configurations.{stateOf, configurationOf, empty}
 use Rattle.meaning.specs.Place.{place, placed}
 use Rattle.meaning.specs.Refusals.{numberOf, cardAnswer, Row, firstGiven, cardTable, configurationTable, placeTable, configurationGood}
@@ -130,6 +130,20 @@ pub record SettlerLaws (L : Letter) (l : Layout) (b : Bytes) (c : Config) (n : �
 -- The same of every node of an accepted card, and every configuration.
 abbrev pub SettlerLaw : Type 0
 SettlerLaw = (b : Bytes) → cardAnswer b ≡ Done → (L : Letter) (c : Config) (n : ℕ) → n < layout b .nodes .count → SettlerLaws L (layout b) b c n
+
+-- 02, Wish 1: "16 a condition is false, with the node, the belief condition before the goal condition.": why a selection rule that
+-- the card has is closed where the plan is empty.
+pub record BeliefFirst (l : Layout) (b : Bytes) (c : Config) (n : ℕ) : Type 0 where
+  -- a false belief condition shows its node, whatever the goal condition is
+  pub belief : (c ⊨ condition (conditions 𝐁 l b) (selectionAt l b n .belief)) ≡ false
+      → why l b c (select n) ≡ Refusal.Condition (settler 𝐁 l b c (selectionAt l b n .belief))
+  -- and only where it holds the goal condition's is shown
+  pub goal : (c ⊨ condition (conditions 𝐁 l b) (selectionAt l b n .belief)) ≡ true
+      → why l b c (select n) ≡ Refusal.Condition (settler 𝐆 l b c (selectionAt l b n .goal))
+
+-- The same of every such rule and every configuration with an empty plan.
+abbrev pub BeliefFirstLaw : Type 0
+BeliefFirstLaw = (l : Layout) (b : Bytes) (c : Config) (n : ℕ) → n < l .selections .count → c .π ≡ [] → BeliefFirst l b c n
 
 -- 00, demand 2: "On an accepted card and configuration": one that passes row 13 is known by its state, and a state that fits by
 -- its configuration.

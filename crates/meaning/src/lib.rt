@@ -115,6 +115,14 @@ pub struct Mind {
     pub finished: u16,
 }
 
+// Of a mind, all but its sets: how long the plan is, the phase, and the finished count. Where a configuration is lent in parts, its
+// sets and its plan are changed where they lie, and this is handed on.
+pub struct Standing {
+    pub length: u16,
+    pub phase: u8,
+    pub finished: u16,
+}
+
 // 01, "A configuration and its transitions": "A configuration is …": a mind, and the plan, whose first `length` bytes are its
 // actions.
 pub struct Configuration {

@@ -30,7 +30,6 @@ use Rattle.meaning.specs.Refusals.{configurationAnswer}
 use Rattle.meaning.specs.Configurations.{padded, stateOf, configurationOf}
 use Rattle.meaning.specs.Calls.{ran}
 use Rattle.meaning.proofs.Configurations.{take-padded, configuration-laws}
-use Rattle.layout.specs.PlaceParts.{configured}
 use Rattle.plans.proofs.Laws.{length-padded}
 use Rattle.card.specs.GoodCard.{GoodCard}
 use Rattle.door.specs.declared.asked.Chosen.{Chosen}
@@ -38,9 +37,7 @@ use Rattle.choices.specs.OnePass.{kept}
 use Rattle.choices.specs.Judged.{Marked}
 use Rattle.door.specs.Ready.{Ready}
 use Rattle.door.specs.Asking.{chosen, choiceAt}
-use Rattle.door.specs.InPlace.{ranWith}
 use Rattle.moves.specs.declared.step.Transition.{Transition}
-use Rattle.moves.specs.declared.step.Stepped.{Stepped}
 use Rattle.moves.specs.Steps.{transitionOf, configurationAfter, Enabled, Advances, ownMove}
 
 -- ---- the choice that was found is the guide's own
@@ -122,7 +119,7 @@ running-start l b budget c h =
 module _ (l : Layout) (b : Bytes) (budget : ℕ) (start : State) (c : Configuration) (count : ℕ) (r : Running l b budget start c count) where
   -- what is answered where the run ends here
   abbrev Answered : Ending → Configuration → Type 0
-  Answered e d = ranWith (record { answer = Done; count = count; ending = e; mind = d .mind }) (d .plan) ≡ ran (run (agentFor l b) budget start)
+  Answered e d = record { answer = Done; count = count; ending = e; configuration = d } ≡ ran (run (agentFor l b) budget start)
 
   ends : (e : Ending) → run (agentFor l b) (budget - count) (stateOf c) ≡ ended e (stateOf c) → Answered e c
   ends e q =
@@ -134,7 +131,7 @@ module _ (l : Layout) (b : Bytes) (budget : ℕ) (start : State) (c : Configurat
   unfolding run
   running-spent h = let z : budget - count ≡ 0 = omega arith in ends Ending.Spent (ap (λ n. run (agentFor l b) n (stateOf c)) z)
 
-  module _ (left-over : count < budget) (x : Stepped) (p : Bytes) (told : Advances l b c x p) where
+  module _ (left-over : count < budget) (x : Transition) (left : Configuration) (told : Advances l b c x left) where
     abbrev B : Agent
     B = agentFor l b
 
@@ -149,41 +146,42 @@ module _ (l : Layout) (b : Bytes) (budget : ℕ) (start : State) (c : Configurat
     from-here = ap (λ n. run B n t) one-less
 
     -- what is told of a move that is not taken leaves all as it was
-    stopped : (o : Reached) → stepBy B t (guide B t) ≡ o → configurationAfter o c ≡ c → (e : Ending) → run B (suc (budget - (count + 1))) t ≡ ended e t → Answered e (configured (c .mind) p)
-    stopped o q k e f = subst (λ (y : Bytes). Answered e (configured (c .mind) y)) (sym (ap (λ (y : Configuration). y .plan) (told .1 ∙ ap (λ y. configurationAfter y c) q ∙ k))) (ends e (from-here ∙ f))
+    stopped : (o : Reached) → stepBy B t (guide B t) ≡ o → configurationAfter o c ≡ c → (e : Ending) → run B (suc (budget - (count + 1))) t ≡ ended e t → Answered e left
+    stopped o q k e f = subst (Answered e) (sym (told .1 ∙ ap (λ y. configurationAfter y c) q ∙ k)) (ends e (from-here ∙ f))
 
-    is : (o : Reached) → stepBy B t (guide B t) ≡ o → x .transition ≡ transitionOf o
+    is : (o : Reached) → stepBy B t (guide B t) ≡ o → x ≡ transitionOf o
     is o q = told .0 ∙ ap transitionOf q
 
-    pub running-rest : x .transition ≡ Transition.Nothing → Answered Ending.Rest (configured (c .mind) p)
+    pub running-rest : x ≡ Transition.Nothing → Answered Ending.Rest left
     running-rest e = go refl (own-step B t)
       where
-        go : {o : Reached} → stepBy B t (guide B t) ≡ o → OwnStep B t o → Answered Ending.Rest (configured (c .mind) p)
+        go : {o : Reached} → stepBy B t (guide B t) ≡ o → OwnStep B t o → Answered Ending.Rest left
         go q (own-rest a) = stopped nothing q refl Ending.Rest (run-rests B (budget - (count + 1)) t q)
         go q (own-full k d g y h) = absurd (let u = sym (is full q) ∙ e in let z : _≡_ {A = ℕ} 0 1 = cc in omega arith)
         go q (own-to k d g y h) = absurd (let u = sym (is (to k (after t k d)) q) ∙ e in let z : _≡_ {A = ℕ} 0 1 = cc in omega arith)
 
-    pub running-full : x .transition ≡ Transition.Full → Answered Ending.Full (configured (c .mind) p)
+    pub running-full : x ≡ Transition.Full → Answered Ending.Full left
     running-full e = go refl (own-step B t)
       where
-        go : {o : Reached} → stepBy B t (guide B t) ≡ o → OwnStep B t o → Answered Ending.Full (configured (c .mind) p)
+        go : {o : Reached} → stepBy B t (guide B t) ≡ o → OwnStep B t o → Answered Ending.Full left
         go q (own-rest a) = absurd (let u = sym (is nothing q) ∙ e in let z : _≡_ {A = ℕ} 0 1 = cc in omega arith)
         go q (own-full k d g y h) = stopped full q refl Ending.Full (run-is-full B (budget - (count + 1)) t q)
         go q (own-to k d g y h) = absurd (let u = sym (is (to k (after t k d)) q) ∙ e in let z : _≡_ {A = ℕ} 0 1 = cc in omega arith)
 
     -- a move that is taken: where the run goes on, and that marks stay true unless it was an action
     pub record Moved (n : ℕ) : Type 0 where
-      pub goes : Running l b budget start (configured (x .mind) p) (count + 1)
-      pub keeps : not (eqb n 1) ≡ true → (marks : List ℕ) → Marked l b (c .mind) marks → Marked l b (x .mind) marks
+      pub goes : Running l b budget start left (count + 1)
+      pub keeps : not (eqb n 1) ≡ true → (marks : List ℕ) → Marked l b (c .mind .beliefs) (c .mind .goals) marks
+          → Marked l b (left .mind .beliefs) (left .mind .goals) marks
 
-    pub running-moved : (n i : ℕ) → x .transition ≡ Transition.Taken n i → Moved n
+    pub running-moved : (n i : ℕ) → x ≡ Transition.Taken n i → Moved n
     unfolding after configurationOf stateOf
     running-moved n i e = go refl (own-step B t)
       where
         on : (k : Choice) (d : Config) → Step B (t .mental) k d → length (d .π) ≤ 1024 → stepBy B t (guide B t) ≡ to k (after t k d) → Moved n
         on k d y h q =
             let t′ = after t k d in
-            let at : configured (x .mind) p ≡ configurationOf t′ = told .1 ∙ ap (λ z. configurationAfter z c) q in
+            let at : left ≡ configurationOf t′ = told .1 ∙ ap (λ z. configurationAfter z c) q in
             let u : Transition.Taken (kind k) (number k) ≡ Transition.Taken n i = sym (is (to k t′) q) ∙ e in
             let a : kind k ≡ n = cc in
             let o = run B (budget - (count + 1)) t′ in
@@ -198,8 +196,8 @@ module _ (l : Layout) (b : Bytes) (budget : ℕ) (start : State) (c : Configurat
               });
               keeps = λ z marks v.
                   (let s = no-action-keeps y (λ g. eqb-false n 1 (not-true _ z) (sym a ∙ g)) in
-                  let β : x .mind .beliefs ≡ c .mind .beliefs = ap (λ (g : Configuration). g .mind .beliefs) at ∙ s .0 in
-                  let γ : x .mind .goals ≡ c .mind .goals = ap (λ (g : Configuration). g .mind .goals) at ∙ s .1 in
+                  let β : left .mind .beliefs ≡ c .mind .beliefs = ap (λ (g : Configuration). g .mind .beliefs) at ∙ s .0 in
+                  let γ : left .mind .goals ≡ c .mind .goals = ap (λ (g : Configuration). g .mind .goals) at ∙ s .1 in
                   λ j g. v j g ∙ ap₂ (λ x y. getD (kept l b x y) j (false, 0)) (sym β) (sym γ));
             }
 

@@ -1,9 +1,9 @@
--- What a transition comes to, as the code tells it and as it leaves the lent plan.
+-- What a transition comes to, as the code tells it and as it leaves the lent sets and plan.
 use mathlib.Core.Path.{_≡_}
 use mathlib.Core.Bool.{true}
-use mathlib.Core.List.{List}
 use mathlib.Core.Option.{Option, none, some}
 use Prim.Native.Nat.{ℕ, zero, suc, _+_, _%_}
+use Rattle.paper.specs.Atoms.{Atoms}
 use Rattle.paper.specs.Language.{Config}
 use Rattle.paper.specs.Transitions.{Choice}
 use Rattle.paper.specs.Next.{enabled}
@@ -14,6 +14,7 @@ use Rattle.meaning.specs.declared.Refusal.{Refusal}
 use Rattle.meaning.specs.declared.Answer.{Answer}
 use Rattle.meaning.specs.declared.Answer.the-variants.{Done, Refused}
 use Rattle.meaning.specs.declared.Layout.{Layout}
+use Rattle.meaning.specs.declared.Standing.{Standing}
 use Rattle.meaning.specs.declared.Configuration.{Configuration}
 use Rattle.meaning.specs.declared.Reply.{Reply}
 use Rattle.meaning.specs.Card.{Bytes, agentFor, agent}
@@ -22,6 +23,7 @@ use Rattle.meaning.specs.Refusals.{configurationAnswer}
 use Rattle.meaning.specs.Calls.{reply}
 use Rattle.layout.specs.PlaceParts.{configured}
 use Rattle.door.specs.declared.asked.Asked.{Asked}
+use Rattle.door.specs.Ready.{Ready}
 use Rattle.door.specs.Asking.{asked}
 use Rattle.moves.specs.declared.step.Transition.{Transition}
 use Rattle.moves.specs.declared.step.Stepped.{Stepped}
@@ -38,17 +40,17 @@ configurationAfter nothing c = c
 configurationAfter full c = c
 configurationAfter (to k s) c = configurationOf s
 
--- both, of what the code answers and leaves in the plan
-abbrev pub Steps : Reached → Configuration → Stepped → Bytes → Type 0
-Steps o c r p = (r .transition ≡ transitionOf o) × (configured (r .mind) p ≡ configurationAfter o c)
+-- both, of what the code tells and of the configuration that it leaves
+abbrev pub Steps : Reached → Configuration → Transition → Configuration → Type 0
+Steps o c t d = (t ≡ transitionOf o) × (d ≡ configurationAfter o c)
 
 -- of a card's choice
-abbrev pub StepsBy : Layout → Bytes → Configuration → Choice → Stepped → Bytes → Type 0
-StepsBy l b c k r p = Steps (step (agentFor l b) (stateOf c) k) c r p
+abbrev pub StepsBy : Layout → Bytes → Configuration → Choice → Transition → Configuration → Type 0
+StepsBy l b c k t d = Steps (step (agentFor l b) (stateOf c) k) c t d
 
 -- of the guide's own
-abbrev pub Advances : Layout → Bytes → Configuration → Stepped → Bytes → Type 0
-Advances l b c r p = Steps (stepBy (agentFor l b) (stateOf c) (guide (agentFor l b) (stateOf c))) c r p
+abbrev pub Advances : Layout → Bytes → Configuration → Transition → Configuration → Type 0
+Advances l b c t d = Steps (stepBy (agentFor l b) (stateOf c) (guide (agentFor l b) (stateOf c))) c t d
 
 -- the guide's own move on any card and configuration: none where they are refused
 unfoldable pub ownMove : Bytes → Configuration → Reached
@@ -58,15 +60,26 @@ ownMove b c = elim (configurationAnswer b c) [ Done ↦ stepBy (agent b) (stateO
 abbrev pub Enabled : Layout → Bytes → Configuration → Choice → Type 0
 Enabled l b c k = enabled (agentFor l b) (stateOf c .mental) k ≡ true
 
+-- an accepted card and configuration, of some beliefs and goals, in which a choice is enabled: what is no action looks at no set
+pub record SomeOpen (l : Layout) (b : Bytes) (m : Standing) (p : Bytes) (k : Choice) : Type 0 where
+  pub beliefs : Atoms
+  pub goals : Atoms
+  pub ready : Ready l b (configured beliefs goals m p)
+  pub may : Enabled l b (configured beliefs goals m p) k
+
+-- what is so of whichever beliefs and goals it is enabled in
+abbrev pub AllOpen : Layout → Bytes → Standing → Bytes → Choice → (Atoms → Atoms → Type 0) → Type 0
+AllOpen l b m p k so = (σ γ : Atoms) → Ready l b (configured σ γ m p) → Enabled l b (configured σ γ m p) k → so σ γ
+
 -- the finished count after a transition that leaves so many actions, where it was f before: finishedWith, by the plan's length
 abbrev pub finishedAt : ℕ → ℕ → ℕ
 finishedAt f zero = upTo mostFinished (suc f)
 finishedAt f (suc n) = f
 
--- a transition taken: its sets, the plan's length, the finished count before, and the kind and number of the choice
-abbrev pub takenTo : List ℕ → List ℕ → ℕ → ℕ → ℕ → ℕ → Stepped
-takenTo b g n f k i = record {
-  mind = record { beliefs = b; goals = g; length = n; phase = (k + 1) % 3; finished = finishedAt f n };
+-- a transition taken: the plan's length, the finished count before, and the kind and number of the choice
+abbrev pub takenTo : ℕ → ℕ → ℕ → ℕ → Stepped
+takenTo n f k i = record {
+  standing = record { length = n; phase = (k + 1) % 3; finished = finishedAt f n };
   transition = Transition.Taken k i;
 }
 

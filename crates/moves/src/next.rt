@@ -4,9 +4,9 @@ ghost use Prim.Native.Nat.{_<_};
 ghost use Rattle.runs.specs.Order.{code};
 ghost use Rattle.runs.specs.Step.{step};
 ghost use Rattle.meaning.specs.Calls as Calls;
-ghost use Rattle.door.specs.Words.{agentFor, stateOf, configured, Ready, choiceAt};
-ghost use Rattle.choices.specs.Judged.{Judged};
-ghost use Rattle.moves.specs.Steps.{Enabled};
+ghost use Rattle.door.specs.Words.{agentFor, stateOf, configured, choiceAt};
+ghost use Rattle.choices.specs.Judged.{SomeSets, AllSets};
+ghost use Rattle.moves.specs.Steps.{SomeOpen, AllOpen};
 ghost use Rattle.moves.specs.Next.{isFull, nextWith};
 use crate::step::revised_length;
 use card::check::answer_of;
@@ -22,10 +22,11 @@ use meaning::Answer;
 use meaning::Checked;
 use meaning::Coming;
 use meaning::Layout;
-use meaning::Mind;
 use meaning::Plan;
+use meaning::Set;
+use meaning::Standing;
 
-// What `next` answers where the plan is lent: all of `Next` but the configuration, which stays.
+// What `next` answers where sets and plan are lent: all of `Next` but the configuration, which stays.
 pub struct NextInPlace {
     pub answer: Answer,
     pub coming: Coming,
@@ -40,9 +41,10 @@ fn code_of(kind: u8, i: usize) -> u16
 }
 
 // Whether an enabled choice "would leave more than 1,024 actions": a revision alone can.
-fn too_long(card: &[u8], l: Layout, m: Mind, plan: &Plan, kind: u8, i: usize) -> bool
-    requires { ⌜ Ready l (now card) (configured m (now plan)) × (kind < 3) × Enabled l (now card) (configured m (now plan)) (choiceAt kind i) ⌝ }
-    ensures { λ r. ⌜ r ≡ isFull (step (agentFor l (now (card .entry))) (stateOf (configured m (now (plan .entry)))) (choiceAt kind i)) ⌝ }
+fn too_long(card: &[u8], l: Layout, m: Standing, plan: &Plan, kind: u8, i: usize) -> bool
+    requires { ⌜ (kind < 3) × SomeOpen l (now card) m (now plan) (choiceAt kind i) ⌝ }
+    ensures { λ r. ⌜ AllOpen l (now (card .entry)) m (now (plan .entry)) (choiceAt kind i)
+        (λ σ γ. r ≡ isFull (step (agentFor l (now (card .entry))) (stateOf (configured σ γ m (now (plan .entry)))) (choiceAt kind i))) ⌝ }
 {
     if kind < 2 {
         return false;
@@ -52,9 +54,10 @@ fn too_long(card: &[u8], l: Layout, m: Mind, plan: &Plan, kind: u8, i: usize) ->
 }
 
 // What comes next, where every node's truth is known.
-fn coming(card: &[u8], l: Layout, m: Mind, plan: &Plan, marks: &Marks) -> Coming
-    requires { ⌜ Judged l (now card) (configured m (now plan)) (now marks) ⌝ }
-    ensures { λ r. ⌜ r ≡ Calls.coming (agentFor l (now (card .entry))) (stateOf (configured m (now (plan .entry)))) ⌝ }
+fn coming(card: &[u8], l: Layout, m: Standing, plan: &Plan, marks: &Marks) -> Coming
+    requires { ⌜ SomeSets l (now card) m (now plan) (now marks) ⌝ }
+    ensures { λ r. ⌜ AllSets l (now (card .entry)) m (now (plan .entry)) (now (marks .entry))
+        (λ c. r ≡ Calls.coming (agentFor l (now (card .entry))) (stateOf c)) ⌝ }
 {
     let chosen = choose(card, l, m, plan, marks);
     let Chosen::At(kind, i) = chosen else {
@@ -68,10 +71,11 @@ fn coming(card: &[u8], l: Layout, m: Mind, plan: &Plan, marks: &Marks) -> Coming
 }
 
 // "The guide shows the next move.": told, and not made. A refusal says rest.
-pub fn next(card: &[u8], m: Mind, plan: &Plan) -> NextInPlace
-    ensures { λ r. ⌜ nextWith r (configured m (now (plan .entry))) ≡ Calls.nexts (now (card .entry)) (configured m (now (plan .entry))) ⌝ }
+pub fn next(card: &[u8], beliefs: &Set, goals: &Set, m: Standing, plan: &Plan) -> NextInPlace
+    ensures { λ r. ⌜ nextWith r (configured (now (beliefs .entry)) (now (goals .entry)) m (now (plan .entry)))
+        ≡ Calls.nexts (now (card .entry)) (configured (now (beliefs .entry)) (now (goals .entry)) m (now (plan .entry))) ⌝ }
 {
-    let admitted = admit(card, m, plan);
+    let admitted = admit(card, beliefs, goals, m, plan);
     let Checked::Good(l) = admitted else {
         return NextInPlace {
             answer: answer_of(admitted),
@@ -79,7 +83,7 @@ pub fn next(card: &[u8], m: Mind, plan: &Plan) -> NextInPlace
         };
     };
     let mut marks = no_marks();
-    judge_nodes(card, l, m, &mut marks);
+    judge_nodes(card, l, beliefs, goals, &mut marks);
     NextInPlace {
         answer: Answer::Done,
         coming: coming(card, l, m, plan, &marks),

@@ -18,50 +18,62 @@ use door::in_place::RanInPlace;
 use meaning::Answer;
 use meaning::Checked;
 use meaning::Layout;
-use meaning::Mind;
 use meaning::Plan;
+use meaning::Set;
+use meaning::Standing;
 use runs::Ending;
 
 // The nodes are judged, unless their marks are known to be true.
-pub fn refresh(card: &[u8], l: Layout, m: Mind, known: bool, marks: &mut Marks)
-    requires { ⌜ GoodCard l (now card) × (length (now marks) ≡ 256) × (known ≡ true → Marked l (now card) m (now marks)) ⌝ }
-    ensures { λ r. ⌜ Marked l (now (card .entry)) m (now (marks .exit)) × (length (now (marks .exit)) ≡ 256) ⌝ }
+pub fn refresh(card: &[u8], l: Layout, beliefs: &Set, goals: &Set, known: bool, marks: &mut Marks)
+    requires { ⌜ GoodCard l (now card) × (length (now marks) ≡ 256)
+        × (known ≡ true → Marked l (now card) (now beliefs) (now goals) (now marks)) ⌝ }
+    ensures { λ r. ⌜ Marked l (now (card .entry)) (now (beliefs .entry)) (now (goals .entry)) (now (marks .exit))
+        × (length (now (marks .exit)) ≡ 256) ⌝ }
 {
     if !known {
-        judge_nodes(card, l, m, marks);
+        judge_nodes(card, l, beliefs, goals, marks);
     }
 }
 
 // Where a run ends.
-fn ended(m: Mind, count: u16, ending: Ending) -> RanInPlace
-    ensures { λ r. ⌜ r ≡ record { answer = Done; count = count; ending = ending; mind = m } ⌝ }
+fn ended(m: Standing, count: u16, ending: Ending) -> RanInPlace
+    ensures { λ r. ⌜ r ≡ record { answer = Done; count = count; ending = ending; standing = m } ⌝ }
 {
     RanInPlace {
         answer: Answer::Done,
         count: count,
         ending: ending,
-        mind: m,
+        standing: m,
     }
 }
 
 // At most budget moves of the guide's own. The budget is looked at first. The nodes are judged at most once a move: their marks
 // stay true until an action.
-fn run_on(card: &[u8], l: Layout, m: Mind, plan: &mut Plan, budget: u16) -> RanInPlace
-    requires { ⌜ Ready l (now card) (configured m (now plan)) ⌝ }
-    ensures { λ r. ⌜ ranWith r (now (plan .exit)) ≡ ran (run (agentFor l (now (card .entry))) budget (stateOf (configured m (now (plan .entry))))) ⌝ }
+fn run_on(
+    card: &[u8],
+    l: Layout,
+    beliefs: &mut Set,
+    goals: &mut Set,
+    m: Standing,
+    plan: &mut Plan,
+    budget: u16,
+) -> RanInPlace
+    requires { ⌜ Ready l (now card) (configured (now beliefs) (now goals) m (now plan)) ⌝ }
+    ensures { λ r. ⌜ ranWith r (now (beliefs .exit)) (now (goals .exit)) (now (plan .exit))
+        ≡ ran (run (agentFor l (now (card .entry))) budget (stateOf (configured (now (beliefs .entry)) (now (goals .entry)) m (now (plan .entry))))) ⌝ }
 {
     let mut cur = m;
     let mut marks = no_marks();
     let mut known = false;
     let mut count: u16 = 0;
     while count < budget {
-        refresh(card, l, cur, known, &mut marks);
-        let s = advance(card, l, cur, plan, &marks);
+        refresh(card, l, beliefs, goals, known, &mut marks);
+        let s = advance(card, l, beliefs, goals, cur, plan, &marks);
         let transition = s.transition;
+        cur = s.standing;
         match transition {
             Transition::Taken(kind, _) => {
                 known = kind != 1;
-                cur = s.mind;
                 count += 1;
             }
             Transition::Nothing => {
@@ -75,18 +87,26 @@ fn run_on(card: &[u8], l: Layout, m: Mind, plan: &mut Plan, budget: u16) -> RanI
     ended(cur, count, Ending::Spent)
 }
 
-// The mind reached, the count, and why the run ended; the plan is changed in place.
-pub fn run(card: &[u8], m: Mind, plan: &mut Plan, budget: u16) -> RanInPlace
-    ensures { λ r. ⌜ ranWith r (now (plan .exit)) ≡ runs (now (card .entry)) (configured m (now (plan .entry))) budget ⌝ }
+// What is reached, the count, and why the run ended; sets and plan are changed in place.
+pub fn run(
+    card: &[u8],
+    beliefs: &mut Set,
+    goals: &mut Set,
+    m: Standing,
+    plan: &mut Plan,
+    budget: u16,
+) -> RanInPlace
+    ensures { λ r. ⌜ ranWith r (now (beliefs .exit)) (now (goals .exit)) (now (plan .exit))
+        ≡ runs (now (card .entry)) (configured (now (beliefs .entry)) (now (goals .entry)) m (now (plan .entry))) budget ⌝ }
 {
-    let admitted = admit(card, m, plan);
+    let admitted = admit(card, beliefs, goals, m, plan);
     let Checked::Good(l) = admitted else {
         return RanInPlace {
             answer: answer_of(admitted),
             count: 0,
             ending: Ending::Spent,
-            mind: m,
+            standing: m,
         };
     };
-    run_on(card, l, m, plan, budget)
+    run_on(card, l, beliefs, goals, m, plan, budget)
 }

@@ -6,7 +6,7 @@ ghost use Rattle.meaning.specs.declared.Refusal.{Refusal};
 ghost use Rattle.meaning.specs.Why.{whyClosed};
 ghost use Rattle.meaning.specs.Calls.{choice, takes};
 ghost use Rattle.door.specs.Asking.{answerAsked};
-ghost use Rattle.choices.specs.Judged.{Judged};
+ghost use Rattle.choices.specs.Judged.{SomeSets, AllSets};
 ghost use Rattle.moves.specs.Steps.{answerTo, askedFor, takenBy};
 use crate::step::Transition;
 use crate::step::step;
@@ -21,14 +21,16 @@ use door::in_place::ReplyInPlace;
 use meaning::Answer;
 use meaning::Checked;
 use meaning::Layout;
-use meaning::Mind;
 use meaning::Plan;
 use meaning::Refusal;
+use meaning::Set;
+use meaning::Standing;
 
 // The choice of a code: "256 times the kind … plus the number". There is no kind past 2.
-fn ask_code(card: &[u8], l: Layout, m: Mind, plan: &Plan, marks: &Marks, code: u16) -> Asked
-    requires { ⌜ Judged l (now card) (configured m (now plan)) (now marks) ⌝ }
-    ensures { λ r. ⌜ r ≡ askedFor l (now (card .entry)) (stateOf (configured m (now (plan .entry))) .mental) (choice code) ⌝ }
+fn ask_code(card: &[u8], l: Layout, m: Standing, plan: &Plan, marks: &Marks, code: u16) -> Asked
+    requires { ⌜ SomeSets l (now card) m (now plan) (now marks) ⌝ }
+    ensures { λ r. ⌜ AllSets l (now (card .entry)) m (now (plan .entry)) (now (marks .entry))
+        (λ c. r ≡ askedFor l (now (card .entry)) (stateOf c .mental) (choice code)) ⌝ }
 {
     let kind = code / 256;
     if 2 < kind {
@@ -61,41 +63,61 @@ fn answer_to(transition: Transition) -> Answer
 }
 
 // A choice is asked for by its code and, where it is enabled and its plan fits, made: rows 10 and 11.
-fn take_choice(card: &[u8], l: Layout, m: Mind, plan: &mut Plan, code: u16) -> ReplyInPlace
-    requires { ⌜ Ready l (now card) (configured m (now plan)) ⌝ }
-    ensures { λ r. ⌜ replyWith r (now (plan .exit))
-        ≡ takenBy (whyClosed l (now (card .entry)) (stateOf (configured m (now (plan .entry))) .mental) (choice code))
-        (stepBy (agentFor l (now (card .entry))) (stateOf (configured m (now (plan .entry)))) (choice code)) (configured m (now (plan .entry))) ⌝ }
+fn take_choice(
+    card: &[u8],
+    l: Layout,
+    beliefs: &mut Set,
+    goals: &mut Set,
+    m: Standing,
+    plan: &mut Plan,
+    code: u16,
+) -> ReplyInPlace
+    requires { ⌜ Ready l (now card) (configured (now beliefs) (now goals) m (now plan)) ⌝ }
+    ensures { λ r. ⌜ replyWith r (now (beliefs .exit)) (now (goals .exit)) (now (plan .exit))
+        ≡ takenBy (whyClosed l (now (card .entry))
+        (stateOf (configured (now (beliefs .entry)) (now (goals .entry)) m (now (plan .entry))) .mental) (choice code))
+        (stepBy (agentFor l (now (card .entry))) (stateOf (configured (now (beliefs .entry)) (now (goals .entry)) m (now (plan .entry)))) (choice code))
+        (configured (now (beliefs .entry)) (now (goals .entry)) m (now (plan .entry))) ⌝ }
 {
     let mut marks = no_marks();
-    judge_nodes(card, l, m, &mut marks);
+    judge_nodes(card, l, beliefs, goals, &mut marks);
     let asked = ask_code(card, l, m, plan, &marks, code);
     let answer = answer_asked(asked);
     let Answer::Done = answer else {
         return ReplyInPlace {
             answer: answer,
-            mind: m,
+            standing: m,
         };
     };
-    let s = step(card, l, m, plan, (code / 256) as u8, (code % 256) as usize);
+    let kind = (code / 256) as u8;
+    let number = (code % 256) as usize;
+    let s = step(card, l, beliefs, goals, m, plan, kind, number);
     let transition = s.transition;
-    let after = s.mind;
+    let after = s.standing;
     ReplyInPlace {
         answer: answer_to(transition),
-        mind: after,
+        standing: after,
     }
 }
 
 // The chosen move, in place; what is not taken is as it came in.
-pub fn take(card: &[u8], m: Mind, plan: &mut Plan, choice: u16) -> ReplyInPlace
-    ensures { λ r. ⌜ replyWith r (now (plan .exit)) ≡ takes (now (card .entry)) (configured m (now (plan .entry))) choice ⌝ }
+pub fn take(
+    card: &[u8],
+    beliefs: &mut Set,
+    goals: &mut Set,
+    m: Standing,
+    plan: &mut Plan,
+    choice: u16,
+) -> ReplyInPlace
+    ensures { λ r. ⌜ replyWith r (now (beliefs .exit)) (now (goals .exit)) (now (plan .exit))
+        ≡ takes (now (card .entry)) (configured (now (beliefs .entry)) (now (goals .entry)) m (now (plan .entry))) choice ⌝ }
 {
-    let admitted = admit(card, m, plan);
+    let admitted = admit(card, beliefs, goals, m, plan);
     let Checked::Good(l) = admitted else {
         return ReplyInPlace {
             answer: answer_of(admitted),
-            mind: m,
+            standing: m,
         };
     };
-    take_choice(card, l, m, plan, choice)
+    take_choice(card, l, beliefs, goals, m, plan, choice)
 }

@@ -14,60 +14,60 @@ use layout::entries::pool_at;
 use meaning::Answer;
 use meaning::Checked;
 use meaning::Layout;
-use meaning::Mind;
 use meaning::Plan;
+use meaning::Set;
+use meaning::Standing;
 
-// The mind that an accepted card starts with; its initial plan goes to the lent one.
-fn first(card: &[u8], l: Layout, plan: &mut Plan) -> Mind
+// What an accepted card starts with, in the lent sets and plan.
+fn first(card: &[u8], l: Layout, beliefs: &mut Set, goals: &mut Set, plan: &mut Plan) -> Standing
     requires { ⌜ GoodCard l (now card) × (length (now plan) ≡ 1024) ⌝ }
-    ensures { λ r. ⌜ configured r (now (plan .exit)) ≡ configurationOf (start (now (card .entry))) ⌝ }
+    ensures { λ r. ⌜ configured (now (beliefs .exit)) (now (goals .exit)) r (now (plan .exit)) ≡ configurationOf (start (now (card .entry))) ⌝ }
 {
     let initial = l.initial;
     let n = initial.length;
     let at = pool_at(l, initial.start);
-    let beliefs = initial_beliefs(card, l);
-    let goals = sets::difference(initial_goals(card, l), beliefs);
+    let believed = initial_beliefs(card, l);
+    *beliefs = believed;
+    *goals = sets::difference(initial_goals(card, l), believed);
     plans::fill(plan, card, at, n as usize);
-    Mind {
-        beliefs: beliefs,
-        goals: goals,
+    Standing {
         length: n,
         phase: 0,
         finished: 0,
     }
 }
 
-// "the empty one (no atoms, empty plan, phase 0)"
-pub fn empty_mind(plan: &mut Plan) -> Mind
-    ensures { λ r. ⌜ configured r (now (plan .exit)) ≡ empty ⌝ }
+// "the empty one (no atoms, empty plan, phase 0)", in the lent sets and plan.
+pub fn set_empty(beliefs: &mut Set, goals: &mut Set, plan: &mut Plan) -> Standing
+    ensures { λ r. ⌜ configured (now (beliefs .exit)) (now (goals .exit)) r (now (plan .exit)) ≡ empty ⌝ }
 {
     let room = size(plan);
+    *beliefs = [0u8; 32];
+    *goals = [0u8; 32];
     plans::fill(plan, b"", 0, 0);
-    Mind {
-        beliefs: [0u8; 32],
-        goals: [0u8; 32],
+    Standing {
         length: 0,
         phase: 0,
         finished: 0,
     }
 }
 
-// The configuration that a card starts with, the plan's bytes in the lent one; the empty one in a refusal.
-pub fn load(card: &[u8], plan: &mut Plan) -> ReplyInPlace
-    ensures { λ r. ⌜ replyWith r (now (plan .exit)) ≡ loads (now (card .entry)) ⌝ }
+// The configuration that a card starts with, in the lent sets and plan; the empty one in a refusal.
+pub fn load(card: &[u8], beliefs: &mut Set, goals: &mut Set, plan: &mut Plan) -> ReplyInPlace
+    ensures { λ r. ⌜ replyWith r (now (beliefs .exit)) (now (goals .exit)) (now (plan .exit)) ≡ loads (now (card .entry)) ⌝ }
 {
     let room = size(plan);
     let checked = check(card);
     let Checked::Good(l) = checked else {
-        let none = empty_mind(plan);
+        let none = set_empty(beliefs, goals, plan);
         return ReplyInPlace {
             answer: answer_of(checked),
-            mind: none,
+            standing: none,
         };
     };
-    let m = first(card, l, plan);
+    let m = first(card, l, beliefs, goals, plan);
     ReplyInPlace {
         answer: Answer::Done,
-        mind: m,
+        standing: m,
     }
 }

@@ -7,20 +7,32 @@ use door::admit::admit;
 use door::in_place::WrittenInPlace;
 use door::in_place::refused_write;
 use door::room::judge_room;
+use layout::bytes::size;
 use layout::place::place_size;
 use layout::place::write_place;
 use meaning::Answer;
 use meaning::Checked;
-use meaning::Mind;
 use meaning::Plan;
+use meaning::Set;
+use meaning::Standing;
 
 // A configuration's place in a lent buffer; how many bytes it has. A refusal writes nothing.
-pub fn save(card: &[u8], m: Mind, plan: &Plan, out: &mut [u8]) -> WrittenInPlace
-    ensures { λ r. ⌜ writtenWith r (configured m (now (plan .entry)))
-        ≡ saves (now (card .entry)) (configured m (now (plan .entry))) (now (out .entry)) ⌝ }
-    ensures { λ r. ⌜ now (out .exit) ≡ saveLeaves (now (card .entry)) (configured m (now (plan .entry))) (now (out .entry)) ⌝ }
+pub fn save(
+    card: &[u8],
+    beliefs: &Set,
+    goals: &Set,
+    m: Standing,
+    plan: &Plan,
+    out: &mut [u8],
+) -> WrittenInPlace
+    ensures { λ r. ⌜ writtenWith r (configured (now (beliefs .entry)) (now (goals .entry)) m (now (plan .entry)))
+        ≡ saves (now (card .entry)) (configured (now (beliefs .entry)) (now (goals .entry)) m (now (plan .entry))) (now (out .entry)) ⌝ }
+    ensures { λ r. ⌜ now (out .exit)
+        ≡ saveLeaves (now (card .entry)) (configured (now (beliefs .entry)) (now (goals .entry)) m (now (plan .entry))) (now (out .entry)) ⌝ }
 {
-    let admitted = admit(card, m, plan);
+    let believed = size(beliefs);
+    let wanted = size(goals);
+    let admitted = admit(card, beliefs, goals, m, plan);
     let Checked::Good(l) = admitted else {
         return refused_write(answer_of(admitted));
     };
@@ -30,7 +42,7 @@ pub fn save(card: &[u8], m: Mind, plan: &Plan, out: &mut [u8]) -> WrittenInPlace
         return refused_write(room);
     };
     let count = n as u16;
-    write_place(l, m, plan, out);
+    write_place(l, beliefs, goals, m, plan, out);
     WrittenInPlace {
         answer: Answer::Done,
         count: count,

@@ -2,8 +2,7 @@
 // a step on standard output. Standard error says in words what is left.
 ghost use Prim.Native.Nat.{_≤_, _<_};
 ghost use Rattle.layout.specs.GoodLayout.{GoodLayout};
-ghost use Rattle.layout.specs.PlaceParts.{configured};
-ghost use Rattle.choices.specs.Judged.{Judged};
+ghost use Rattle.choices.specs.Judged.{SomeSets};
 use answers::refusal_number;
 use card::check::check;
 use choices::ask::ask;
@@ -20,9 +19,9 @@ use layout::sizes::most_atoms;
 use meaning::Checked;
 use meaning::Configuration;
 use meaning::Layout;
-use meaning::Mind;
 use meaning::Plan;
 use meaning::Set;
+use meaning::Standing;
 use moves::advance::advance_once;
 use moves::step::Transition;
 use output::also;
@@ -250,8 +249,8 @@ fn waits(asked: Asked) -> bool {
 }
 
 // Why no choice of a kind is enabled: the numbers of those that only a false condition closes, or that there are none.
-fn say_closed(card: &[u8], l: Layout, m: Mind, plan: &Plan, marks: &Marks, kind: u8)
-    requires { ⌜ Judged l (now card) (configured m (now plan)) (now marks) × (kind < 3) ⌝ }
+fn say_closed(card: &[u8], l: Layout, m: Standing, plan: &Plan, marks: &Marks, kind: u8)
+    requires { ⌜ SomeSets l (now card) m (now plan) (now marks) × (kind < 3) ⌝ }
 {
     say_kind(kind, plan[0]);
     let n = count_of(l, kind);
@@ -274,27 +273,34 @@ fn say_closed(card: &[u8], l: Layout, m: Mind, plan: &Plan, marks: &Marks, kind:
 }
 
 // Why there is no move: with an empty plan by the selections, where a goal is open; else by the specifications and the revisions.
-fn say_no_move(card: &[u8], l: Layout, m: Mind, plan: &Plan, marks: &Marks)
-    requires { ⌜ Judged l (now card) (configured m (now plan)) (now marks) ⌝ }
+fn say_no_move(card: &[u8], l: Layout, goals: Set, m: Standing, plan: &Plan, marks: &Marks)
+    requires { ⌜ SomeSets l (now card) m (now plan) (now marks) ⌝ }
 {
     if m.length != 0 {
         say_closed(card, l, m, plan, marks, 1);
         say_closed(card, l, m, plan, marks, 2);
         return;
     }
-    let goals = m.goals;
     if !sets::known(goals, 0) {
         say_closed(card, l, m, plan, marks, 0);
     }
 }
 
 // The move that the guide would make next, or why there is none.
-fn say_next(card: &[u8], l: Layout, m: Mind, plan: &Plan, marks: &Marks, ending: Ending)
-    requires { ⌜ Judged l (now card) (configured m (now plan)) (now marks) ⌝ }
+fn say_next(
+    card: &[u8],
+    l: Layout,
+    goals: Set,
+    m: Standing,
+    plan: &Plan,
+    marks: &Marks,
+    ending: Ending,
+)
+    requires { ⌜ SomeSets l (now card) m (now plan) (now marks) ⌝ }
 {
     let chosen = choose(card, l, m, plan, marks);
     let Chosen::At(kind, i) = chosen else {
-        say_no_move(card, l, m, plan, marks);
+        say_no_move(card, l, goals, m, plan, marks);
         return;
     };
     match ending {
@@ -309,33 +315,49 @@ fn say_next(card: &[u8], l: Layout, m: Mind, plan: &Plan, marks: &Marks, ending:
 }
 
 // The same, of a card and a configuration that are judged first.
-fn say_why(card: &[u8], m: Mind, plan: &Plan, ending: Ending) {
-    let admitted = admit(card, m, plan);
+fn say_why(card: &[u8], beliefs: &Set, goals: &Set, m: Standing, plan: &Plan, ending: Ending) {
+    let admitted = admit(card, beliefs, goals, m, plan);
     let Checked::Good(l) = admitted else {
         return;
     };
     let mut marks = no_marks();
-    judge_nodes(card, l, m, &mut marks);
-    say_next(card, l, m, plan, &marks, ending);
+    judge_nodes(card, l, beliefs, goals, &mut marks);
+    say_next(card, l, *goals, m, plan, &marks, ending);
 }
 
 // What is left where a run ended: the goals, the plan, and the next move or why there is none.
-fn say_left(card: &[u8], l: Layout, m: Mind, plan: &Plan, ending: Ending) {
-    let goals = m.goals;
-    say_goals(l, goals);
+fn say_left(
+    card: &[u8],
+    l: Layout,
+    beliefs: &Set,
+    goals: &Set,
+    m: Standing,
+    plan: &Plan,
+    ending: Ending,
+) {
+    say_goals(l, *goals);
     say_plan(m.length, plan[0]);
-    say_why(card, m, plan, ending);
+    say_why(card, beliefs, goals, m, plan, ending);
 }
 
 // The last line of a run, and what is left. Where there are step lines, what their numbers are.
-fn ended(card: &[u8], l: Layout, m: Mind, plan: &Plan, ending: Ending, count: u16) {
+fn ended(
+    card: &[u8],
+    l: Layout,
+    beliefs: &Set,
+    goals: &Set,
+    m: Standing,
+    plan: &Plan,
+    ending: Ending,
+    count: u16,
+) {
     last_line(ending, count);
     if 0 < count {
         say(
             b"select 0 is selection 0, act 0 is specification 0 (not action 0), revise 0 is revision 0\n",
         );
     }
-    say_left(card, l, m, plan, ending);
+    say_left(card, l, beliefs, goals, m, plan, ending);
 }
 
 // ---- the run
@@ -344,32 +366,39 @@ fn ended(card: &[u8], l: Layout, m: Mind, plan: &Plan, ending: Ending, count: u1
 fn steps(card: &[u8], l: Layout, start: Configuration)
     requires { ⌜ GoodLayout l (now card) ⌝ }
 {
-    let mut m = start.mind;
+    let mind = start.mind;
+    let mut beliefs = mind.beliefs;
+    let mut goals = mind.goals;
     let mut plan = start.plan;
+    let mut m = Standing {
+        length: mind.length,
+        phase: mind.phase,
+        finished: mind.finished,
+    };
     let mut count: u16 = 0;
     while count < 1000 {
-        let made = advance_once(card, m, &mut plan);
+        let made = advance_once(card, &mut beliefs, &mut goals, m, &mut plan);
         let step = made.step;
         let transition = step.transition;
         match transition {
             Transition::Taken(kind, number) => {
-                let after = step.mind;
+                let after = step.standing;
                 m = after;
                 count += 1;
                 let weight = plan_weight(card, l, &plan, after.length as usize);
                 step_line(count, kind, number, after.length, weight);
             }
             Transition::Nothing => {
-                ended(card, l, m, &plan, Ending::Rest, count);
+                ended(card, l, &beliefs, &goals, m, &plan, Ending::Rest, count);
                 return;
             }
             Transition::Full => {
-                ended(card, l, m, &plan, Ending::Full, count);
+                ended(card, l, &beliefs, &goals, m, &plan, Ending::Full, count);
                 return;
             }
         }
     }
-    ended(card, l, m, &plan, Ending::Spent, count);
+    ended(card, l, &beliefs, &goals, m, &plan, Ending::Spent, count);
 }
 
 // The lines of an accepted card.

@@ -4,9 +4,10 @@ use Prim.Native.Nat.{ℕ, zero, suc, _+_, _-_, _*_, _%_, _≤_, _<_, min}
 use native.Mathlib.Nat.{zero-add}
 use lib.Bits.{bitAnd, bitXor, and-mask, and-zero-r, xor-zero-r, xor-self}
 use Rattle.paper.specs.Atoms.{Atoms, _∖_}
-use Rattle.paper.proofs.Sets.{at-∖}
+use Rattle.paper.proofs.Sets.{at-∖, length-∖}
 use native.Mathlib.Omega.{arith}
-use lib.ListN.{getD}
+use lib.ListN.{length, getD, drop, length-drop}
+use lib.Seq.{getD-drop, ext-getD}
 use Rattle.runs.proofs.Numbers.{made-at}
 use Rattle.sets.specs.Sets.{lowBits, below}
 
@@ -46,3 +47,16 @@ module _ (w n : ℕ) (s : Atoms) (i : ℕ) (h : i < w) where
       let x = getD s i 0 in
       let z : n - 8 * i ≡ 0 = omega arith in
       at-∖ s (below w n) i ∙ ap (λ m. bitXor x (bitAnd x m)) (at-below w n i h ∙ ap lowBits z) ∙ ap (bitXor x) (and-zero-r x) ∙ xor-zero-r x
+
+-- the bytes from the k-th on of what a set has at or above n, where n lies below them, are the set's own
+pub drop-behind : (w n : ℕ) (s : Atoms) (k : ℕ) → length s ≡ w → n ≤ 8 * k → drop k (s ∖ below w n) ≡ drop k s
+drop-behind w n s k e l =
+    ext-getD 0 (drop k (s ∖ below w n)) (drop k s) same at
+  where
+    same : length (drop k (s ∖ below w n)) ≡ length (drop k s)
+    same = length-drop k (s ∖ below w n) ∙ ap (λ m. m - k) (length-∖ s (below w n)) ∙ sym (length-drop k s)
+
+    at : (i : ℕ) → i < length (drop k (s ∖ below w n)) → getD (drop k (s ∖ below w n)) i 0 ≡ getD (drop k s) i 0
+    at i h =
+        let m = same ∙ length-drop k s in
+        getD-drop k (s ∖ below w n) i 0 ∙ all-behind w n s (k + i) (omega arith) (omega arith) ∙ sym (getD-drop k s i 0)

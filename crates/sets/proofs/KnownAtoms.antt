@@ -1,8 +1,6 @@
--- Row 9's question, byte by byte and of two sets at once: a set has no atom at or above n exactly if nothing of it is left without
--- the atoms below n, and a union exactly if each of its sets has none.
-use mathlib.Core.Path.{_≡_, refl, ap, ap₂, _∙_, sym}
-use mathlib.Core.Bool.{Bool, true, false, not, _&&_, _||_, and-true, and-false}
-use mathlib.Core.List.{List, [], _∷_}
+-- Row 9's question, byte by byte: a set has no atom at or above n exactly if nothing of it is left without the atoms below n.
+use mathlib.Core.Path.{_≡_, refl, ap, _∙_, sym}
+use mathlib.Core.Bool.{Bool, true, false, not, _&&_, and-true, and-false}
 use Prim.Native.Nat.{ℕ, _+_, _-_, _*_, _/_, _%_, _^_, _≤_, _<_}
 use native.Mathlib.Nat.{mod-lt, zero-div}
 use native.Mathlib.Decide.{decLt}
@@ -11,9 +9,9 @@ use borrow.Author.Tests.{not-true, eqb-true, eq-eqb, lt-ltb, le-ltb}
 use lib.Dec.{eqb, ltb}
 use lib.ListN.{length, getD}
 use lib.Bits.{bitAnd, bitXor, and-le-l, xor-lt}
-use Rattle.paper.specs.Atoms.{Atoms, bit, _∈_, _∪_, _∖_}
+use Rattle.paper.specs.Atoms.{Atoms, bit, _∈_, _∖_}
 use Rattle.paper.specs.Theorems.{AreBytes}
-use Rattle.paper.proofs.Sets.{by-bits, at-∖, length-∪, length-∖, ∈-∪, ∈-∖}
+use Rattle.paper.proofs.Sets.{by-bits, at-∖, length-∖, ∈-∖}
 use Rattle.paper.proofs.Relation.{false≢true}
 use Rattle.runs.specs.Order.{numbers}
 use Rattle.meaning.specs.Refusals.{all, every, setGood}
@@ -117,27 +115,3 @@ module _ (w n : ℕ) (s : Atoms) (long : length s ≡ w) where
   asked-from bytes i h l =
       let kept = length-∖ s (below w n) in
       found-below (λ x. eqb x 0) (s ∖ below w n) 0 0 i (let q = long in omega arith) (λ j k. eq-eqb _ 0 (none-below w n s j (omega arith) (bytes j) (omega arith))) refl
-
--- ---- a union has only known atoms exactly if each of its sets has
-
-not-or : (a b : Bool) → not (a || b) ≡ (not a && not b)
-not-or true b = refl
-not-or false b = refl
-
-and-swap : (a b c d : Bool) → (a && b) && (c && d) ≡ (a && c) && (b && d)
-and-swap true true c d = refl
-and-swap true false true d = refl
-and-swap true false false d = refl
-and-swap false b c d = refl
-
-all-both : {X : Type 0} (p q r : X → Bool) → ((x : X) → p x ≡ (q x && r x)) → (xs : List X) → all p xs ≡ (all q xs && all r xs)
-all-both p q r e [] = refl
-all-both p q r e (x ∷ xs) = ap₂ (λ a b. a && b) (e x) (all-both p q r e xs) ∙ and-swap (q x) (r x) (all q xs) (all r xs)
-
-pub good-∪ : (n : ℕ) (s t : Atoms) → length s ≡ length t → setGood n (s ∪ t) ≡ (setGood n s && setGood n t)
-unfolding setGood
-good-∪ n s t h =
-    let m = numbers n (8 * length s - n) in
-    ap (λ k. all (λ a. not (a ∈ s ∪ t)) (numbers n (8 * k - n))) (length-∪ s t h)
-    ∙ all-both (λ a. not (a ∈ s ∪ t)) (λ a. not (a ∈ s)) (λ a. not (a ∈ t)) (λ a. ap not (∈-∪ a s t) ∙ not-or (a ∈ s) (a ∈ t)) m
-    ∙ ap (λ k. all (λ a. not (a ∈ s)) m && all (λ a. not (a ∈ t)) (numbers n (8 * k - n))) h

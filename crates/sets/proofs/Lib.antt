@@ -2,3 +2,4 @@ pub mod Loops
 pub mod Below
 pub mod KnownAtoms
 pub mod Members
+pub mod Zeros

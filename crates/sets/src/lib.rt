@@ -2,10 +2,10 @@
 ghost use mathlib.Core.Path.{_≡_};
 ghost use Rattle.paper.specs.Atoms.{_∈_, _∪_, _∖_};
 ghost use Prim.Native.Nat.{_/_, _≤_, _<_};
-ghost use lib.ListN.{length};
+ghost use lib.ListN.{length, drop};
 ghost use Rattle.meaning.specs.Sizes.{edition2Set, mostAtoms};
 ghost use Rattle.meaning.specs.Refusals.{setGood, bothGood};
-ghost use Rattle.sets.specs.Sets.{lowBits, withMember};
+ghost use Rattle.sets.specs.Sets.{isEmpty, lowBits, withMember};
 use meaning::Set;
 
 // Whether atom k is in s.
@@ -75,23 +75,31 @@ fn low_bits(n: usize) -> u8
     }
 }
 
+// Whether every byte from one on is zero: the bits of all of them are gathered, and looked at once.
+pub fn zeros_from(s: &[u8], from: usize) -> bool
+    requires { ⌜ from ≤ length (now s) ⌝ }
+    ensures { λ r. ⌜ r ≡ isEmpty (drop from (now (s .entry))) ⌝ }
+{
+    let mut bits: u8 = 0;
+    let mut i: usize = from;
+    while i < s.len() {
+        bits = bits | s[i];
+        i += 1;
+    }
+    bits == 0
+}
+
 // Whether s has only atoms below a number: those of the byte that it lies in, and no byte behind.
 pub fn known(s: Set, atoms: usize) -> bool
     requires { ⌜ atoms ≤ mostAtoms edition2Set ⌝ }
     ensures { λ r. ⌜ r ≡ setGood atoms s ⌝ }
 {
-    let mut i = atoms / 8;
+    let i = atoms / 8;
     if 32 <= i {
         return true;
     }
     let unknown = s[i] ^ (s[i] & low_bits(atoms % 8));
-    let mut good = unknown == 0;
-    i += 1;
-    while i < 32 {
-        good = good & (s[i] == 0);
-        i += 1;
-    }
-    good
+    (unknown == 0) & zeros_from(&s, i + 1)
 }
 
 // Whether a and b both have only atoms below a number.

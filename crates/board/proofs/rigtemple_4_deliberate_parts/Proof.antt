@@ -1,6 +1,6 @@
 use Rattle.deliberation.specs.Deliberate.{deliberates, deliberationEndingNumber}
 use Rattle.deliberation.specs.declared.Deliberated.{Deliberated}
-use Rattle.meaning.specs.declared.Mind.{Mind}
+use Rattle.meaning.specs.declared.Standing.{Standing}
 use Rattle.meaning.specs.Refusals.{answerNumber}
 use Rattle.layout.specs.PlaceParts.{configured}
 use Rattle.board.specs.Header.{whole}
@@ -11,8 +11,8 @@ use lib.ListN.{length}
 use Rattle.board.proofs.rigtemple_4_deliberate_parts.Statement.{statement}
 use Rattle.board.proofs.rigtemple_4_deliberate_parts.Tie as tie
 
-mind-requires : tie.Need-mind-requires
-mind-requires c κs = search needs
+standing-requires : tie.Need-standing-requires
+standing-requires c κs = search needs
 
 deliberate-requires : tie.Need-deliberate-requires
 deliberate-requires c κs = search needs
@@ -20,33 +20,30 @@ deliberate-requires c κs = search needs
 put-requires : tie.Need-put-requires
 put-requires c κs = search needs
 
-deliberation-ending-number-requires : tie.Need-deliberation-ending-number-requires
-deliberation-ending-number-requires c κs = search needs
-
-answer-number-requires : tie.Need-answer-number-requires
-answer-number-requires c κs = search needs
+tell-requires : tie.Need-tell-requires
+tell-requires c κs = search needs
 
 returns : tie.Need-returns
 returns c =
-    let a = c .before .before .before .before .before .before .before .before .before .before .before .before .before .before .before .before .before .before .before .before .args in
-    let t = c .before .before .before .before .before .before .before .before .before .deliberate in
-    let u = c .before .before .put .ensures in
-    let e = t .ensures ∙ ap (λ (x : Mind). deliberates (now (a .card)) (now (a .program)) (configured x (now (a .plan))) (a .budget) (now (a .remaining))) (c .before .before .before .before .before .before .before .before .before .before .before .before .mind .ensures) in (
-      c .answer-number .ensures ∙ ap (λ (x : Deliberated). answerNumber (x .answer)) e,
-      (λ i. whole (u .0 i) (u .1 i) (t .last .1 .1 .1 .0) (u .2 i) (u .3 i) (u .4 i)) ∙ ap (λ (x : Deliberated). x .configuration) e,
-      ap (λ (x : Deliberated). x .count) e,
-      c .before .deliberation-ending-number .ensures ∙ ap (λ (x : Deliberated). deliberationEndingNumber (x .ending)) e,
+    let a = c .before .before .before .before .before .before .before .before .before .before .before .before .before .before .before .before .before .before .before .args in
+    let t = c .before .before .before .before .before .before .before .before .deliberate in
+    let u = c .before .before .before .before .put .ensures in
+    let w = c .tell .ensures in
+    let e = t .ensures ∙ ap (λ (x : Standing). deliberates (now (a .card)) (now (a .program)) (configured (now (a .beliefs)) (now (a .goals)) x (now (a .plan))) (a .budget) (now (a .remaining))) (c .before .before .before .before .before .before .before .before .before .before .before .standing .ensures) in (
+      w .3 ∙ ap (λ (x : Deliberated). answerNumber (x .answer)) e,
+      (λ i. whole (t .last .1 .1 .0) (t .last .1 .1 .1 .0) (t .last .1 .1 .1 .1 .1 .0) (u .0 i) (u .1 i) (u .2 i)) ∙ ap (λ (x : Deliberated). x .configuration) e,
+      w .0 ∙ ap (λ (x : Deliberated). x .count) e,
+      w .1 ∙ ap (λ (x : Deliberated). deliberationEndingNumber (x .ending)) e,
       ap (λ (x : Deliberated). x .remaining .numbers) e,
-      ap (λ (x : Deliberated). x .remaining .length) e,
+      w .2 ∙ ap (λ (x : Deliberated). x .remaining .length) e,
     )
 
 pub rigtemple-4-deliberate-parts-spec : {M : Type 1} → statement M
 rigtemple-4-deliberate-parts-spec =
     tie.close
     (tie.spec
-    mind-requires
+    standing-requires
     deliberate-requires
     put-requires
-    deliberation-ending-number-requires
-    answer-number-requires
+    tell-requires
     returns)

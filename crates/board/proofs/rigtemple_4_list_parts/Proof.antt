@@ -1,6 +1,6 @@
 use Rattle.layout.specs.PlaceParts.{configured}
 use Rattle.meaning.specs.Refusals.{answerNumber}
-use Rattle.meaning.specs.declared.Mind.{Mind}
+use Rattle.meaning.specs.declared.Standing.{Standing}
 use Rattle.meaning.specs.declared.Written.{Written}
 use Rattle.meaning.specs.Calls.{lists, listLeaves}
 use mathlib.Core.Path.{ap, _∙_}
@@ -9,8 +9,8 @@ use denote.Ref.{now}
 use Rattle.board.proofs.rigtemple_4_list_parts.Statement.{statement}
 use Rattle.board.proofs.rigtemple_4_list_parts.Tie as tie
 
-mind-requires : tie.Need-mind-requires
-mind-requires c κs = search needs
+standing-requires : tie.Need-standing-requires
+standing-requires c κs = search needs
 
 list-requires : tie.Need-list-requires
 list-requires c κs = search needs
@@ -22,13 +22,19 @@ returns : tie.Need-returns
 returns c =
     let a = c .before .before .before .before .before .before .before .before .args in
     let t = c .before .before .before .list .ensures in
-    let m = c .before .before .before .before .before .mind .ensures in
-    let e = t .0 ∙ ap (λ (x : Mind). lists (now (a .card)) (configured x (now (a .plan))) (now (a .list))) m in (
+    let m = c .before .before .before .before .before .standing .ensures in
+    let e = t .0 ∙ ap (λ (x : Standing). lists (now (a .card)) (configured (now (a .beliefs)) (now (a .goals)) x (now (a .plan))) (now (a .list))) m in (
       c .answer-number .ensures ∙ ap (λ (x : Written). answerNumber (x .answer)) e,
       ap (λ (x : Written). x .count) e,
-      t .1 ∙ ap (λ (x : Mind). listLeaves (now (a .card)) (configured x (now (a .plan))) (now (a .list))) m,
+      t .1 ∙ ap (λ (x : Standing). listLeaves (now (a .card)) (configured (now (a .beliefs)) (now (a .goals)) x (now (a .plan))) (now (a .list))) m,
     )
 
 pub rigtemple-4-list-parts-spec : {M : Type 1} → statement M
 rigtemple-4-list-parts-spec =
-    tie.close (tie.spec mind-requires list-requires answer-number-requires (λ c. search needs) returns)
+    tie.close
+    (tie.spec
+    standing-requires
+    list-requires
+    answer-number-requires
+    (λ c. search needs)
+    returns)

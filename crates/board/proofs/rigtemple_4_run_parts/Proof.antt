@@ -1,7 +1,7 @@
 use Rattle.board.specs.Header.{whole}
 use Rattle.layout.specs.PlaceParts.{configured}
 use Rattle.meaning.specs.Refusals.{answerNumber}
-use Rattle.meaning.specs.declared.Mind.{Mind}
+use Rattle.meaning.specs.declared.Standing.{Standing}
 use Rattle.meaning.specs.Numbers.{endingNumber}
 use Rattle.meaning.specs.declared.Ran.{Ran}
 use Rattle.meaning.specs.Calls.{runs}
@@ -11,8 +11,8 @@ use denote.Ref.{now}
 use Rattle.board.proofs.rigtemple_4_run_parts.Statement.{statement}
 use Rattle.board.proofs.rigtemple_4_run_parts.Tie as tie
 
-mind-requires : tie.Need-mind-requires
-mind-requires c κs = search needs
+standing-requires : tie.Need-standing-requires
+standing-requires c κs = search needs
 
 run-requires : tie.Need-run-requires
 run-requires c κs = search needs
@@ -28,12 +28,12 @@ answer-number-requires c κs = search needs
 
 returns : tie.Need-returns
 returns c =
-    let a = c .before .before .before .before .before .before .before .before .before .before .before .before .before .before .before .before .before .before .args in
-    let t = c .before .before .before .before .before .before .before .before .before .run in
+    let a = c .before .before .before .before .before .before .before .before .before .before .before .before .before .before .before .before .args in
+    let t = c .before .before .before .before .before .before .before .run in
     let u = c .before .before .put .ensures in
-    let e = t .ensures ∙ ap (λ (x : Mind). runs (now (a .card)) (configured x (now (a .plan))) (a .budget)) (c .before .before .before .before .before .before .before .before .before .before .before .mind .ensures) in (
+    let e = t .ensures ∙ ap (λ (x : Standing). runs (now (a .card)) (configured (now (a .beliefs)) (now (a .goals)) x (now (a .plan))) (a .budget)) (c .before .before .before .before .before .before .before .before .before .standing .ensures) in (
       c .answer-number .ensures ∙ ap (λ (x : Ran). answerNumber (x .answer)) e,
-      (λ i. whole (u .0 i) (u .1 i) (t .last .1 .1 .0) (u .2 i) (u .3 i) (u .4 i)) ∙ ap (λ (x : Ran). x .configuration) e,
+      (λ i. whole (t .last .1 .0) (t .last .1 .1 .0) (t .last .1 .1 .1 .1 .0) (u .0 i) (u .1 i) (u .2 i)) ∙ ap (λ (x : Ran). x .configuration) e,
       ap (λ (x : Ran). x .count) e,
       c .before .ending-number .ensures ∙ ap (λ (x : Ran). endingNumber (x .ending)) e,
     )
@@ -42,7 +42,7 @@ pub rigtemple-4-run-parts-spec : {M : Type 1} → statement M
 rigtemple-4-run-parts-spec =
     tie.close
     (tie.spec
-    mind-requires
+    standing-requires
     run-requires
     put-requires
     ending-number-requires

@@ -3,7 +3,7 @@ use Rattle.layout.specs.PlaceParts.{configured}
 use Rattle.meaning.specs.Refusals.{answerNumber, answerCarried}
 use Rattle.demands.proofs.Showing.{node-narrow}
 use Rattle.meaning.specs.declared.Reply.{Reply}
-use Rattle.meaning.specs.declared.Mind.{Mind}
+use Rattle.meaning.specs.declared.Standing.{Standing}
 use Rattle.meaning.specs.Calls.{takes}
 use mathlib.Core.Path.{ap, _∙_}
 use native.Mathlib.Omega.{arith}
@@ -13,8 +13,8 @@ use lib.ListN.{take}
 use Rattle.board.proofs.rigtemple_4_take_parts.Statement.{statement}
 use Rattle.board.proofs.rigtemple_4_take_parts.Tie as tie
 
-mind-requires : tie.Need-mind-requires
-mind-requires c κs = search needs
+standing-requires : tie.Need-standing-requires
+standing-requires c κs = search needs
 
 take-requires : tie.Need-take-requires
 take-requires c κs = search needs
@@ -27,8 +27,8 @@ answer-carried-requires c κs = search needs
 
 cast-node : tie.Need-cast-node
 cast-node c =
-    let a = c .before .before .before .before .before .before .before .before .before .before .before .before .before .before .before .before .before .args in
-    let e = c .before .before .before .before .before .before .before .before .take .ensures ∙ ap (λ (x : Mind). takes (now (a .card)) (configured x (now (a .plan))) (a .choice)) (c .before .before .before .before .before .before .before .before .before .before .mind .ensures) in
+    let a = c .before .before .before .before .before .before .before .before .before .before .before .before .before .before .before .args in
+    let e = c .before .before .before .before .before .before .take .ensures ∙ ap (λ (x : Standing). takes (now (a .card)) (configured (now (a .beliefs)) (now (a .goals)) x (now (a .plan))) (a .choice)) (c .before .before .before .before .before .before .before .before .standing .ensures) in
     let h = node-narrow (now (a .card)) _ (a .choice) _ e in
     omega (arith, c .answer-carried .ensures)
 
@@ -37,12 +37,12 @@ answer-number-requires c κs = search needs
 
 returns : tie.Need-returns
 returns c =
-    let a = c .before .before .before .before .before .before .before .before .before .before .before .before .before .before .before .before .before .before .args in
-    let t = c .before .before .before .before .before .before .before .before .before .take in
+    let a = c .before .before .before .before .before .before .before .before .before .before .before .before .before .before .before .before .args in
+    let t = c .before .before .before .before .before .before .before .take in
     let u = c .before .before .put .ensures in
-    let e = t .ensures ∙ ap (λ (x : Mind). takes (now (a .card)) (configured x (now (a .plan))) (a .choice)) (c .before .before .before .before .before .before .before .before .before .before .before .mind .ensures) in (
+    let e = t .ensures ∙ ap (λ (x : Standing). takes (now (a .card)) (configured (now (a .beliefs)) (now (a .goals)) x (now (a .plan))) (a .choice)) (c .before .before .before .before .before .before .before .before .before .standing .ensures) in (
       c .answer-number .ensures ∙ ap (λ (x : Reply). answerNumber (x .answer)) e,
-      (λ i. whole (u .0 i) (u .1 i) (t .last .1 .1 .0) (u .2 i) (u .3 i) (u .4 i)) ∙ ap (λ (x : Reply). x .configuration) e,
+      (λ i. whole (t .last .1 .0) (t .last .1 .1 .0) (t .last .1 .1 .1 .1 .0) (u .0 i) (u .1 i) (u .2 i)) ∙ ap (λ (x : Reply). x .configuration) e,
       c .before .answer-carried .ensures ∙ ap (λ (x : Reply). answerCarried (x .answer)) e,
     )
 
@@ -50,7 +50,7 @@ pub rigtemple-4-take-parts-spec : {M : Type 1} → statement M
 rigtemple-4-take-parts-spec =
     tie.close
     (tie.spec
-    mind-requires
+    standing-requires
     take-requires
     put-requires
     answer-carried-requires

@@ -1,4 +1,7 @@
-use mathlib.Core.Path.{ap, _∙_}
+use mathlib.Core.Path.{ap₂, _∙_}
+use Rattle.layout.specs.PlaceParts.{configured}
+use Rattle.meaning.specs.declared.Standing.{Standing}
+use Rattle.meaning.specs.Card.{Bytes}
 use borrow.Author.Needs.{needs}
 use denote.Ref.{now}
 use Rattle.deliberation.specs.Deliberate.{deliberates}
@@ -16,13 +19,19 @@ deliberated-with-requires c κs = search needs
 
 returns : tie.Need-returns
 returns c =
-    let a = c .before .before .before .before .before .before .before .before .before .args in
+    let a = c .before .before .before .before .before .before .before .before .before .before .before .before .before .before .args in
     let b = now (a .card) in
     let p = now (a .program) in
-    let d = a .c in (
-      c .deliberated-with .ensures .0 ∙ c .before .deliberate .ensures ∙ ap (λ x. deliberates b p d (a .budget) x) (c .before .before .before .before .no-numbers .ensures),
-      c .deliberated-with .ensures .1,
-    )
+    let m = a .c .mind in
+    let s = ap₂ (λ (x : Standing) (ns : Bytes). deliberates b p (configured (m .beliefs) (m .goals) x (a .c .plan)) (a .budget) ns) (c .before .before .before .before .standing .ensures) (c .before .before .before .before .before .before .before .no-numbers .ensures) in
+    (c .deliberated-with .ensures .0 ∙ c .before .deliberate .ensures ∙ s, c .deliberated-with .ensures .1)
 
 pub deliberate-spec : {M : Type 1} → statement M
-deliberate-spec = tie.close (tie.spec no-numbers-requires deliberate-requires deliberated-with-requires returns)
+deliberate-spec =
+    tie.close
+    (tie.spec
+    no-numbers-requires
+    (λ c κs. search needs)
+    deliberate-requires
+    deliberated-with-requires
+    returns)

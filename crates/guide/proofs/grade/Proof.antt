@@ -7,11 +7,20 @@ use Rattle.guide.proofs.grade.Tie as tie
 grade-requires : tie.Need-grade-requires
 grade-requires c κs = search needs
 
-empty-mind-requires : tie.Need-empty-mind-requires
-empty-mind-requires c κs = search needs
+set-empty-requires : tie.Need-set-empty-requires
+set-empty-requires c κs = search needs
+
+whole-requires : tie.Need-whole-requires
+whole-requires c κs = search needs
 
 returns : tie.Need-returns
-returns c = ap (gradedWith (c .before .before .grade .result)) (c .empty-mind .ensures) ∙ c .before .before .grade .ensures
+returns c = ap (gradedWith (c .before .before .before .before .before .grade .result)) (c .whole .ensures .0 ∙ c .before .set-empty .ensures) ∙ c .before .before .before .before .before .grade .ensures
 
 pub grade-spec : {M : Type 1} → statement M
-grade-spec = tie.close (tie.spec grade-requires empty-mind-requires returns)
+grade-spec =
+    tie.close
+    (tie.spec
+    grade-requires
+    set-empty-requires
+    whole-requires
+    returns)

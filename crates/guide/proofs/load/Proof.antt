@@ -13,4 +13,9 @@ returns : tie.Need-returns
 returns c = (c .reply-with .ensures .0 ∙ c .before .load .ensures, c .reply-with .ensures .1)
 
 pub load-spec : {M : Type 1} → statement M
-load-spec = tie.close (tie.spec load-requires reply-with-requires returns)
+load-spec =
+    tie.close
+    (tie.spec
+    load-requires
+    reply-with-requires
+    returns)

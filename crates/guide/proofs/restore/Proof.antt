@@ -10,7 +10,12 @@ reply-with-requires : tie.Need-reply-with-requires
 reply-with-requires c κs = search needs
 
 returns : tie.Need-returns
-returns c = (c .reply-with .ensures .0 ∙ c .before .restore .ensures, (c .reply-with .ensures .1, λ i. c .before .before .before .shared-slice-known2 .given i .fits))
+returns c = (c .reply-with .ensures .0 ∙ c .before .restore .ensures, (c .reply-with .ensures .1, λ i. c .before .before .before .before .before .shared-slice-known2 .given i .fits))
 
 pub restore-spec : {M : Type 1} → statement M
-restore-spec = tie.close (tie.spec restore-requires reply-with-requires returns)
+restore-spec =
+    tie.close
+    (tie.spec
+    restore-requires
+    reply-with-requires
+    returns)

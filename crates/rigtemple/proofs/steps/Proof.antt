@@ -4,10 +4,10 @@ use Rattle.rigtemple.proofs.steps.Statement.{statement}
 use Rattle.rigtemple.proofs.steps.Tie as tie
 
 abbrev Inv-loop : tie.InvT-loop
-Inv-loop card l m₀ plan₀ count₀ m plan count = count ≤ 1000
+Inv-loop card l beliefs₀ goals₀ plan₀ m₀ count₀ beliefs goals plan m count = count ≤ 1000
 
 abbrev μ-loop : tie.MeasureT-loop
-μ-loop card l m₀ plan₀ count₀ m plan count = 1000 - count
+μ-loop card l beliefs₀ goals₀ plan₀ m₀ count₀ beliefs goals plan m count = 1000 - count
 
 loop-holds : tie.Need-loop-holds Inv-loop μ-loop
 loop-holds c = search needs

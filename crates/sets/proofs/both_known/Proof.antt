@@ -1,7 +1,6 @@
 use Rattle.meaning.specs.Refusals.{setGood}
-use Rattle.sets.proofs.KnownAtoms.{good-∪}
+use Rattle.meaning.proofs.KnownSets.{good-∪}
 use mathlib.Core.Path.{ap, _∙_}
-use native.Mathlib.Omega.{arith}
 use borrow.Author.Needs.{needs}
 use Rattle.sets.proofs.both_known.Statement.{statement}
 use Rattle.sets.proofs.both_known.Tie as tie
@@ -15,7 +14,7 @@ known-requires c κs = search needs
 returns : tie.Need-returns
 returns c =
     let a = c .before .before .args in
-    c .known .ensures ∙ ap (setGood (a .atoms)) (c .before .union .ensures) ∙ good-∪ (a .atoms) (a .a) (a .b) (omega arith)
+    c .known .ensures ∙ ap (setGood (a .atoms)) (c .before .union .ensures) ∙ good-∪ (a .atoms) (a .a) (a .b)
 
 pub both-known-spec : {M : Type 1} → statement M
 both-known-spec = tie.close (tie.spec union-requires known-requires returns)

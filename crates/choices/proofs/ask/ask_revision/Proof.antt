@@ -24,7 +24,7 @@ pool-at-requires c κs = search needs
 starts-with-requires : tie.Need-starts-with-requires
 starts-with-requires c κs =
     let a = c .before .before .before .before .before .before .args in
-    let r = c .before .before .before .before .before .before .pre .0 .ready in
+    let r = c .before .before .before .before .before .before .pre .0 .judged .ready in
     let e = ap (λ (x : RevisionEntry). x .head) (c .before .before .before .before .read-revision .ensures .0) in
     let g = r .card .revisions (a .i) (c .before .before .before .before .before .before .pre .1) .head in
     let h = subst (GoodSpan (a .l) 1) (sym e) g in
@@ -36,7 +36,7 @@ asked-by-requires c κs = search needs
 
 returns : tie.Need-returns
 unfolding plan
-returns c =
+returns c = λ σ γ j.
     let s = c .before .before .before .before .before .before .before .before .before .before in
     let a = s .args in
     let M = now (a .marks) in
@@ -45,9 +45,19 @@ returns c =
     let at = c .before .before .before .before .before .before .pool-at .ensures in
     let f = c .before .before .before .starts-with .ensures ∙ (λ j. isPrefix (part (now (a .card)) (at j) (r .result .head .length)) (take (a .m .length) (now (a .plan)))) ∙ ap (λ (x : RevisionEntry). isPrefix (plan (a .l) (now (a .card)) (x .head)) (take (a .m .length) (now (a .plan)))) e in
     let p = ap (λ (x : RevisionEntry). markAt M (x .node)) e in
-    c .asked-by .ensures ∙ ap₂ (askedBy true) f p ∙ asks-revision (a .l) (now (a .card)) (configured (a .m) (now (a .plan))) M (s .pre .0) (a .i) (s .pre .1)
+    c .asked-by .ensures ∙ ap₂ (askedBy true) f p ∙ asks-revision (a .l) (now (a .card)) (configured σ γ (a .m) (now (a .plan))) M j (a .i) (s .pre .1)
 
 pub ask-revision-spec : {M : Type 1} → statement M
 ask-revision-spec =
     tie.close
-    (tie.spec read-revision-requires pool-at-requires (λ c. search needs) (λ c. search needs) starts-with-requires (λ c. search needs) (λ c. search needs) (λ c. search needs) asked-by-requires returns)
+    (tie.spec
+    read-revision-requires
+    pool-at-requires
+    (λ c. search needs)
+    (λ c. search needs)
+    starts-with-requires
+    (λ c. search needs)
+    (λ c. search needs)
+    (λ c. search needs)
+    asked-by-requires
+    returns)

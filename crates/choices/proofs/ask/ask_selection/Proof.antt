@@ -21,13 +21,13 @@ asked-by-requires : tie.Need-asked-by-requires
 asked-by-requires c κs = search needs
 
 returns : tie.Need-returns
-returns c =
+returns c = λ σ γ j.
     let s = c .before .before .before .before .before .before .before .before .before in
     let a = s .args in
     let M = now (a .marks) in
     let e = c .before .before .before .before .before .before .before .read-selection .ensures .0 in
     let p = c .before .both-of .ensures ∙ ap (λ (x : SelectionEntry). both (markAt M (x .belief)) (markAt M (x .goal))) e in
-    c .asked-by .ensures ∙ ap (askedBy true (eqb (a .m .length) 0)) p ∙ asks-selection (a .l) (now (a .card)) (configured (a .m) (now (a .plan))) M (s .pre .0) (a .i) (s .pre .1)
+    c .asked-by .ensures ∙ ap (askedBy true (eqb (a .m .length) 0)) p ∙ asks-selection (a .l) (now (a .card)) (configured σ γ (a .m) (now (a .plan))) M j (a .i) (s .pre .1)
 
 pub ask-selection-spec : {M : Type 1} → statement M
 ask-selection-spec =

@@ -11,10 +11,10 @@ use Rattle.choices.proofs.ask.selection_enabled.Statement.{statement}
 use Rattle.choices.proofs.ask.selection_enabled.Tie as tie
 
 returns : tie.Need-returns
-returns c =
+returns c = λ σ γ j.
     let s = c .before .before .before in
     let a = s .args in
-    selection-shut (a .l) (now (a .card)) (configured (a .m) (now (a .plan))) (now (a .marks)) (s .pre .0) (a .i) (s .pre .1) (ne-eqb _ _ (c .if1 .taken))
+    selection-shut (a .l) (now (a .card)) (configured σ γ (a .m) (now (a .plan))) (now (a .marks)) j (a .i) (s .pre .1) (ne-eqb _ _ (c .if1 .taken))
 
 read-selection-requires : tie.Need-read-selection-requires
 read-selection-requires c κs = search needs
@@ -26,13 +26,13 @@ is-true-requires-2 : tie.Need-is-true-requires-2
 is-true-requires-2 c κs = search needs
 
 returns-2 : tie.Need-returns-2
-returns-2 c =
+returns-2 c = λ σ γ j.
     let s = c .before .before .before .before .before .before .before .before .before .before in
     let a = s .args in
     let M = now (a .marks) in
     ap₂ _&&_ (c .before .is-true .ensures) (c .is-true2 .ensures)
     ∙ ap (λ (x : SelectionEntry). markAt M (x .belief) .0 && markAt M (x .goal) .0) (c .before .before .before .before .before .before .read-selection .ensures .0)
-    ∙ selection-by (a .l) (now (a .card)) (configured (a .m) (now (a .plan))) M (s .pre .0) (a .i) (s .pre .1) (eq-eqb _ _ (c .before .before .before .before .before .before .before .if1 .left))
+    ∙ selection-by (a .l) (now (a .card)) (configured σ γ (a .m) (now (a .plan))) M j (a .i) (s .pre .1) (eq-eqb _ _ (c .before .before .before .before .before .before .before .if1 .left))
 
 pub selection-enabled-spec : {M : Type 1} → statement M
 selection-enabled-spec =

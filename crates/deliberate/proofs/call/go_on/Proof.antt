@@ -19,10 +19,10 @@ refused-requires c κs = search needs
 returns : tie.Need-returns
 returns c =
     let a = c .before .before .before .before .before .before .before .args in
-    let d = configured (a .m) (now (a .plan)) in
+    let d = configured (now (a .beliefs)) (now (a .goals)) (a .m) (now (a .plan)) in
     let k = c .before .before .before .check-program in
     let told = c .before .enum-told2 .given .1 in
-    refused-so (now (a .card)) (now (a .program)) (now (a .given)) d (a .budget) (now (a .remaining)) _ (k .ensures .bad _ told (now (a .given)) d) (k .result) told (c .refused .result) (c .refused .ensures)
+    refused-so (now (a .card)) (now (a .program)) (now (a .given)) (now (a .beliefs)) (now (a .goals)) (a .m) (now (a .plan)) (a .budget) (now (a .remaining)) _ (k .ensures .bad _ told (now (a .given)) d) (k .result) told (c .refused .result) (c .refused .ensures)
 
 numbers-good-requires : tie.Need-numbers-good-requires
 numbers-good-requires c κs = search needs
@@ -35,15 +35,15 @@ returns-2 c =
     let a = c .before .before .before .before .before .before .before .before .before .args in
     let b = now (a .card) in
     let p = now (a .program) in
-    let d = configured (a .m) (now (a .plan)) in
+    let d = configured (now (a .beliefs)) (now (a .goals)) (a .m) (now (a .plan)) in
     let (e, g) = c .before .before .before .before .before .check-program .ensures .good (c .before .before .before .enum-told .given .1) in
     let n = sym (c .before .before .numbers-good .ensures) ∙ not-true _ (c .before .if1 .taken) in
-    refused-so b p (now (a .given)) d (a .budget) (now (a .remaining)) _ (by-numbers b p _ e (now (a .given)) d n) _ refl (c .refused2 .result) (c .refused2 .ensures)
+    refused-so b p (now (a .given)) (now (a .beliefs)) (now (a .goals)) (a .m) (now (a .plan)) (a .budget) (now (a .remaining)) _ (by-numbers b p _ e (now (a .given)) d n) _ refl (c .refused2 .result) (c .refused2 .ensures)
 
 from-configuration-requires : tie.Need-from-configuration-requires
 from-configuration-requires c κs =
-    let (e, g) = c .before .before .before .before .before .before .check-program .ensures .good (c .before .before .before .before .enum-told .given .1) in
-    (e, g, sym (c .before .before .before .numbers-good .ensures) ∙ not-false _ (c .before .before .if1 .left))
+    let (e, g) = c .before .before .before .before .before .before .before .before .check-program .ensures .good (c .before .before .before .before .before .before .enum-told .given .1) in
+    (e, g, sym (c .before .before .before .before .before .numbers-good .ensures) ∙ not-false _ (c .before .before .before .before .if1 .left))
 
 returns-3 : tie.Need-returns-3
 returns-3 c = search needs

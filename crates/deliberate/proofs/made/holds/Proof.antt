@@ -22,4 +22,12 @@ returns-2 c =
     subst (HoldsBy (s .args .e) (s .args .m .length) (markAt (now (s .args .marks)) (s .args .e .a) .0)) (sym (c .is-true .ensures)) (by-mark (ap entryKind e))
 
 pub holds-spec : {M : Type 1} → statement M
-holds-spec = tie.close (tie.spec (λ c. search needs) (λ c. search needs) (λ c. search needs) is-true-requires returns returns-2)
+holds-spec =
+    tie.close
+    (tie.spec
+    (λ c. search needs)
+    (λ c. search needs)
+    (λ c. search needs)
+    is-true-requires
+    returns
+    returns-2)

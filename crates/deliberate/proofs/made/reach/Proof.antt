@@ -27,19 +27,19 @@ returns c =
     let a = c .before .before .before .before .before .before .args in
     let b = now (a .card) in
     let p = now (a .program) in
-    let d = configured (a .m) (now (a .plan)) in
-    let (j, g, st) = c .before .before .before .before .before .before .pre in
+    let (_, g, st) = c .before .before .before .before .before .before .pre in
     let q = c .before .before .lead in
     let (x, rising, kept) = q .ensures .1 in
-    let has : ℕ → Bool = λ i. isSome (moveAt (a .l) b p (stateOf d .mental) i) in
     let low = c .before .if1 .taken in (
-      record {
-        leaf = record { entry = x .entry; leaf = omega arith; stacked = x .stacked };
-        same = down-came (a .l) b p d g (a .from) has (λ i h. refl) (q .ensures .0 has);
-        action = c .action-for .ensures;
-      },
-      rising,
-      kept,
+      λ σ γ j.
+          (let d = configured σ γ (a .m) (now (a .plan)) in
+          let has : ℕ → Bool = λ i. isSome (moveAt (a .l) b p (stateOf d .mental) i) in
+          record {
+            leaf = record { entry = x .entry; leaf = omega arith; stacked = x .stacked };
+            same = down-came (a .l) b p d g (a .from) has (λ i h. refl) (q .ensures .0 has);
+            action = c .action-for .ensures σ γ j;
+          }),
+      (rising, kept),
     )
 
 first-of-kind-requires : tie.Need-first-of-kind-requires
@@ -49,7 +49,7 @@ mark-moves-requires : tie.Need-mark-moves-requires
 mark-moves-requires c κs =
     let (j, g, st) = c .before .before .before .before .before .before .pre in
     let h = stacked-room (c .before .before .lead .ensures .1 .0 .stacked .stacked) in
-    ((j, g), (c .first-of-kind .ensures, omega arith))
+    (j, g, omega arith)
 
 descend-requires : tie.Need-descend-requires
 descend-requires c κs =
@@ -62,23 +62,24 @@ returns-2 c =
     let a = c .before .before .before .before .before .before .before .before .before .before .args in
     let b = now (a .card) in
     let p = now (a .program) in
-    let d = configured (a .m) (now (a .plan)) in
-    let (j, g, st) = c .before .before .before .before .before .before .before .before .before .before .pre in
+    let (_, g, st) = c .before .before .before .before .before .before .before .before .before .before .pre in
     let q = c .before .before .before .before .before .before .lead in
     let (x, rising, kept) = q .ensures .1 in
-    let has : ℕ → Bool = λ i. isSome (moveAt (a .l) b p (stateOf d .mental) i) in
     let k = c .before .before .before .mark-moves in
     let e = c .descend in
     let (y, rising′, kept′) = e .ensures .1 in (
-      record {
-        leaf = y;
-        same =
-            down-came (a .l) b p d g (a .from) has (λ i h. refl) (q .ensures .0 has)
-            ∙ down-came (a .l) b p d g (q .result .at) (λ i. i ∈ k .result) (passing-below has (q .result .at) (k .result) (k .ensures)) (e .ensures .0);
-        action = λ _. c .before .before .before .before .first-of-kind .ensures;
-      },
-      omega arith,
-      later-kept (q .result .top) (a .top) (e .last .1 .1 .0) (q .last .1 .0) rising kept′ ∙ kept,
+      λ σ γ j.
+          (let d = configured σ γ (a .m) (now (a .plan)) in
+          let has : ℕ → Bool = λ i. isSome (moveAt (a .l) b p (stateOf d .mental) i) in
+          let act = c .before .before .before .before .first-of-kind .ensures σ γ j in
+          record {
+            leaf = y;
+            same =
+                down-came (a .l) b p d g (a .from) has (λ i h. refl) (q .ensures .0 has)
+                ∙ down-came (a .l) b p d g (q .result .at) (λ i. i ∈ k .result) (passing-below has (q .result .at) (k .result) (k .ensures σ γ j act)) (e .ensures .0);
+            action = λ _. act;
+          }),
+      (omega arith, later-kept (q .result .top) (a .top) (e .last .1 .1 .0) (q .last .1 .0) rising kept′ ∙ kept),
     )
 
 pub reach-spec : {M : Type 1} → statement M

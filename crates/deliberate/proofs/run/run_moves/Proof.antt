@@ -4,30 +4,31 @@ use Rattle.deliberate.specs.declared.run.RanMoves.{RanMoves}
 use Rattle.deliberate.specs.declared.made.MoveMade.{MoveMade}
 use Rattle.deliberate.specs.declared.made.AfterMove.{AfterMove}
 use Rattle.deliberate.specs.Made.{MakesNext, stayed}
-use Rattle.deliberate.proofs.Next.{unmoved, kept-on, kept-off}
-use Rattle.meaning.specs.declared.Mind.{Mind}
-use Rattle.deliberate.specs.Ran.{RanTo, stoppedBy}
+use Rattle.deliberate.proofs.Next.{kept-on, kept-off}
+use Rattle.deliberate.specs.Ran.{RanTo}
+use mathlib.Core.Logic.{⊎-elim}
 use mathlib.Core.Path.{subst, _≡_, sym}
 use Rattle.choices.specs.Judged.{Marked}
 use mathlib.Core.Logic.{inl, inr}
 use mathlib.Core.Bool.{true, false}
 use Rattle.meaning.specs.Configurations.{stateOf}
 use Rattle.layout.specs.PlaceParts.{configured}
-use Rattle.deliberate.proofs.Deliberating.{outcome, Deliberating, deliberating-start, is-spent, is-finished, is-stopped, is-on, at-most-one}
-use Prim.Native.Nat.{_+_, _-_, _*_, _<_}
-use Rattle.paper.specs.Next.{if}
-use borrow.Author.Tests.{not-true, not-false}
+use Rattle.deliberate.proofs.Deliberating.{outcome, Deliberating, deliberating-start, is-spent, is-finished, is-stopped, is-on}
+use Prim.Native.Nat.{_-_, _<_}
 use native.Mathlib.Omega.{arith}
+use borrow.Author.Tests.{not-false}
 use borrow.Author.Needs.{needs}
 use denote.Ref.{now}
 use Rattle.deliberate.proofs.run.run_moves.Statement.{statement}
 use Rattle.deliberate.proofs.run.run_moves.Tie as tie
 
 abbrev Inv-loop : tie.InvT-loop
-Inv-loop card l plan₀ program budget stack₀ top cur₀ marks₀ known₀ rest₀ count₀ plan stack cur marks known rest count = Deliberating l card program budget (outcome l card program budget (drop top stack₀) (stateOf (configured cur₀ plan₀))) (configured cur plan) stack rest count × (length marks ≡ 256) × (known ≡ true → Marked l card cur marks)
+Inv-loop card l beliefs₀ goals₀ plan₀ program budget stack₀ here₀ marks₀ known₀ count₀ beliefs goals plan stack here marks known count =
+    Deliberating l card program budget (outcome l card program budget (drop (here₀ .top) stack₀) (stateOf (configured beliefs₀ goals₀ (here₀ .standing) plan₀))) (configured beliefs goals (here .standing) plan) stack (here .top) count
+    × (length marks ≡ 256) × (known ≡ true → Marked l card beliefs goals marks)
 
 abbrev μ-loop : tie.MeasureT-loop
-μ-loop card l plan₀ program budget stack₀ top cur₀ marks₀ known₀ rest₀ count₀ plan stack cur marks known rest count = 2 * (budget - count) + if known 0 1
+μ-loop card l beliefs₀ goals₀ plan₀ program budget stack₀ here₀ marks₀ known₀ count₀ beliefs goals plan stack here marks known count = budget - count
 
 no-marks-requires : tie.Need-no-marks-requires Inv-loop μ-loop
 no-marks-requires c κs = search needs
@@ -35,8 +36,8 @@ no-marks-requires c κs = search needs
 loop-holds : tie.Need-loop-holds Inv-loop μ-loop
 loop-holds c =
     let a = c .before .before .before .args in
-    let (h, g, r) = c .before .before .before .pre in (
-      deliberating-start (a .l) (now (a .card)) (now (a .program)) (a .budget) (configured (a .m) (now (a .plan))) (now (a .stack)) (a .top) h r,
+    let p = c .before .before .before .pre in (
+      deliberating-start (a .l) (now (a .card)) (now (a .program)) (a .budget) (configured (now (a .beliefs)) (now (a .goals)) (a .at .standing) (now (a .plan))) (now (a .stack)) (a .at .top) (p .ready) (p .remains),
       rw (c .no-marks .ensures),
       λ e. absurd (false≢true e),
     )
@@ -46,58 +47,54 @@ ended-requires c κs = search needs
 
 returns : tie.Need-returns Inv-loop μ-loop
 returns c =
-    let a = c .before .before .before .before .before .before .before .args in
+    let a = c .before .before .before .before .before .before .before .before .args in
     let b = now (a .card) in
     let p = now (a .program) in
-    let all = outcome (a .l) b p (a .budget) (drop (a .top) (now (a .stack))) (stateOf (configured (a .m) (now (a .plan)))) in
-    let l = c .before .before .before .loop in
-    let d = configured (l .cur) (l .plan) in
-    let e : l .rest ≡ 128 = (let u = c .before .if1 .taken in omega arith) in
-    subst (λ (x : RanMoves). RanTo all x (l .plan) (l .stack)) (sym (c .ended .ensures)) (is-finished (a .l) b p (a .budget) all d (l .stack) (l .rest) (l .count) (l .inv .0) (omega (arith, c .before .before .loop-test .taken)) e)
+    let all = outcome (a .l) b p (a .budget) (drop (a .at .top) (now (a .stack))) (stateOf (configured (now (a .beliefs)) (now (a .goals)) (a .at .standing) (now (a .plan)))) in
+    let l = c .before .before .before .before .loop in
+    let d = configured (l .beliefs) (l .goals) (l .here .standing) (l .plan) in
+    let e : l .here .top ≡ 128 = (let u = c .before .if1 .taken in omega arith) in
+    subst (λ (x : RanMoves). RanTo all x (configured (l .beliefs) (l .goals) (x .standing) (l .plan)) (l .stack)) (sym (c .ended .ensures)) (is-finished (a .l) b p (a .budget) all d (l .stack) (l .here .top) (l .count) (l .inv .0) (omega (arith, c .before .before .before .loop-test .taken)) (l .here .standing) e)
 
 judge-nodes-requires : tie.Need-judge-nodes-requires Inv-loop μ-loop
-judge-nodes-requires c κs = let l = c .before .before .before .before .loop in (l .inv .0 .ready .card, l .inv .1)
-
-loop-less : tie.Need-loop-less Inv-loop μ-loop
-loop-less c = let l = c .before .before .before .before .before .loop in let k : l .known ≡ false = not-true _ (c .before .before .if2 .taken) in rw k (omega arith)
-
-loop-again : tie.Need-loop-again Inv-loop μ-loop
-loop-again c = let l = c .before .before .before .before .before .loop in (l .inv .0, c .judge-nodes .ensures .1, λ h. c .judge-nodes .ensures .0)
+judge-nodes-requires c κs = let l = c .before .before .before .before .before .before .before .loop in (l .inv .0 .ready .card, l .inv .1)
 
 make-move-requires : tie.Need-make-move-requires Inv-loop μ-loop
 make-move-requires c κs =
-    let l = c .before .before .before .before .before .before .loop in
-    let low : l .rest < 128 = (let w = l .inv .0 .remains .within in let u = c .before .before .before .before .if1 .left in omega arith) in
-    ((record { ready = l .inv .0 .ready; marked = l .inv .2 (not-false _ (c .before .before .before .if2 .left)) }, c .before .before .before .before .before .before .before .before .before .before .pre .1), (l .inv .0 .remains, low))
+    let a = c .before .before .before .before .before .before .before .before .before .before .before .before .before .args in
+    let l = c .before .before .before .before .before .before .before .before .before .loop in
+    let t = c .before .before .before .before .before .if2 in
+    let m : Marked (a .l) (now (a .card)) (l .beliefs) (l .goals) (t .marks) × (length (t .marks) ≡ 256) =
+    ⊎-elim (λ w. rw (w .5) (w .4 .ensures)) (λ w. rw (w .1) (l .inv .2 (not-false _ (w .0 .left)), l .inv .1)) (t .came) in
+    let low : l .here .top < 128 = (let w = l .inv .0 .remains .within in let u = c .before .before .before .before .before .before .if1 .left in omega arith) in
+    ((record { ready = l .inv .0 .ready; marked = m .0 }, c .before .before .before .before .before .before .before .before .before .before .before .before .before .pre .good), (l .inv .0 .remains, low))
 
 enum-told : tie.Need-enum-told Inv-loop μ-loop
 enum-told c = search needs
 
 add-count : tie.Need-add-count Inv-loop μ-loop
-add-count c = let t = c .before .before .before .before .before .before .before .before .before .loop-test .taken in let f = c .before .before .before .before .before .before .before .before .before .before .before .before .before .before .fits .budget in omega arith
+add-count c = let t = c .before .before .before .before .before .before .before .before .before .before .before .before .loop-test .taken in let f = c .before .before .before .before .before .before .before .before .before .before .before .before .before .before .before .before .before .fits .budget in omega arith
 
-loop-less-2 : tie.Need-loop-less-2 Inv-loop μ-loop
-loop-less-2 c =
-    let l = c .before .before .before .before .before .before .before .before .before .before .loop in
-    let t = c .before .before .before .before .before .before .before .before .before .loop-test .taken in
-    let k : l .known ≡ true = not-false _ (c .before .before .before .before .before .before .before .if2 .left) in
-    let most = at-most-one (c .before .before .before .make-move .result .known) in
-    rw k (omega (arith, most, t))
+loop-less : tie.Need-loop-less Inv-loop μ-loop
+loop-less c = let t = c .before .before .before .before .before .before .before .before .before .before .before .before .loop-test .taken in omega (arith, t)
 
-loop-again-2 : tie.Need-loop-again-2 Inv-loop μ-loop
-loop-again-2 c =
-    let a = c .before .before .before .before .before .before .before .before .before .before .before .before .before .before .args in
+loop-again : tie.Need-loop-again Inv-loop μ-loop
+loop-again c =
+    let a = c .before .before .before .before .before .before .before .before .before .before .before .before .before .before .before .before .before .args in
     let b = now (a .card) in
     let p = now (a .program) in
-    let all = outcome (a .l) b p (a .budget) (drop (a .top) (now (a .stack))) (stateOf (configured (a .m) (now (a .plan)))) in
-    let l = c .before .before .before .before .before .before .before .before .before .before .loop in
-    let d = configured (l .cur) (l .plan) in
-    let low : l .rest < 128 = (let w = l .inv .0 .remains .within in let u = c .before .before .before .before .before .before .before .before .if1 .left in omega arith) in
+    let all = outcome (a .l) b p (a .budget) (drop (a .at .top) (now (a .stack))) (stateOf (configured (now (a .beliefs)) (now (a .goals)) (a .at .standing) (now (a .plan)))) in
+    let l = c .before .before .before .before .before .before .before .before .before .before .before .before .before .loop in
+    let t = c .before .before .before .before .before .before .before .before .before .if2 in
+    let m : Marked (a .l) (now (a .card)) (l .beliefs) (l .goals) (t .marks) × (length (t .marks) ≡ 256) =
+    ⊎-elim (λ w. rw (w .5) (w .4 .ensures)) (λ w. rw (w .1) (l .inv .2 (not-false _ (w .0 .left)), l .inv .1)) (t .came) in
+    let d = configured (l .beliefs) (l .goals) (l .here .standing) (l .plan) in
+    let low : l .here .top < 128 = (let w = l .inv .0 .remains .within in let u = c .before .before .before .before .before .before .before .before .before .before .if1 .left in omega arith) in
     let s = c .before .before .before .make-move in
-    let k = subst (λ (x : AfterMove). MakesNext (a .l) b p d (l .stack) (l .rest) x (s .last .1 .1 .1 .0) (s .last .1 .1 .1 .1 .1 .1 .0)) (kept-on (s .result) (l .rest) (c .before .enum-told .given .1)) (s .ensures) in (
-      is-on (a .l) b p (a .budget) all d (l .stack) (l .rest) (l .count) (l .inv .0) (omega (arith, c .before .before .before .before .before .before .before .before .before .loop-test .taken)) low (s .result) (s .last .1 .1 .1 .0) (s .last .1 .1 .1 .1 .1 .1 .0) k (c .before .before .before .before .before .before .before .before .before .before .before .before .before .before .pre .1) (c .before .enum-told .given .1),
-      l .inv .1,
-      λ h. k .keeps h (l .marks) (l .inv .2 (not-false _ (c .before .before .before .before .before .before .before .if2 .left))),
+    let k = subst (λ (x : AfterMove). MakesNext (a .l) b p d (l .stack) (l .here .top) x (configured (s .last .1 .1 .0) (s .last .1 .1 .1 .0) (s .result .standing) (s .last .1 .1 .1 .1 .1 .0)) (s .last .1 .1 .1 .1 .1 .1 .1 .1 .0)) (kept-on (s .result) (l .here .top) (c .enum-told .given .1)) (s .ensures) in (
+      is-on (a .l) b p (a .budget) all d (l .stack) (l .here .top) (l .count) (l .inv .0) (omega (arith, c .before .before .before .before .before .before .before .before .before .before .before .before .loop-test .taken)) low (s .result) (configured (s .last .1 .1 .0) (s .last .1 .1 .1 .0) (s .result .standing) (s .last .1 .1 .1 .1 .1 .0)) (s .last .1 .1 .1 .1 .1 .1 .1 .1 .0) k (c .before .before .before .before .before .before .before .before .before .before .before .before .before .before .before .before .before .pre .good) (c .enum-told .given .1),
+      m .1,
+      λ h. k .keeps h (t .marks) (m .0),
     )
 
 ended-requires-2 : tie.Need-ended-requires-2 Inv-loop μ-loop
@@ -105,23 +102,23 @@ ended-requires-2 c κs = search needs
 
 returns-2 : tie.Need-returns-2 Inv-loop μ-loop
 returns-2 c =
-    let a = c .before .before .before .before .before .before .before .before .before .before .before .before .before .before .args in
+    let a = c .before .before .before .before .before .before .before .before .before .before .before .before .before .before .before .before .before .before .args in
     let b = now (a .card) in
     let p = now (a .program) in
-    let all = outcome (a .l) b p (a .budget) (drop (a .top) (now (a .stack))) (stateOf (configured (a .m) (now (a .plan)))) in
-    let l = c .before .before .before .before .before .before .before .before .before .before .loop in
-    let d = configured (l .cur) (l .plan) in
-    let low : l .rest < 128 = (let w = l .inv .0 .remains .within in let u = c .before .before .before .before .before .before .before .before .if1 .left in omega arith) in
-    let s = c .before .before .before .make-move in
-    let left = s .last .1 .1 .1 .1 .1 .1 .0 in
+    let all = outcome (a .l) b p (a .budget) (drop (a .at .top) (now (a .stack))) (stateOf (configured (now (a .beliefs)) (now (a .goals)) (a .at .standing) (now (a .plan)))) in
+    let l = c .before .before .before .before .before .before .before .before .before .before .before .before .before .before .loop in
+    let d = configured (l .beliefs) (l .goals) (l .here .standing) (l .plan) in
+    let low : l .here .top < 128 = (let w = l .inv .0 .remains .within in let u = c .before .before .before .before .before .before .before .before .before .before .before .if1 .left in omega arith) in
+    let s = c .before .before .before .before .make-move in
+    let left = s .last .1 .1 .1 .1 .1 .1 .1 .1 .0 in
+    let after = configured (s .last .1 .1 .0) (s .last .1 .1 .1 .0) (s .result .standing) (s .last .1 .1 .1 .1 .1 .0) in
     let told = c .before .before .match .keys2 in
     let off : s .result .made ≡ MoveMade.On → ⊥ = λ e. (elim (rw e at told) [ inl h ↦ absurd (omega arith) | inr h ↦ absurd (omega arith) ]) in
-    let x = stayed (s .result .mind) (s .result .made) (l .rest) in
-    let k = subst (λ (x : AfterMove). MakesNext (a .l) b p d (l .stack) (l .rest) x (s .last .1 .1 .1 .0) left) (kept-off (s .result) (l .rest) off) (s .ensures) in
-    subst (λ (x : RanMoves). RanTo all x (s .last .1 .1 .1 .0) left) (sym (c .ended2 .ensures))
-    (subst (λ e. RanTo all (record { mind = l .cur; count = l .count; ending = e; top = l .rest }) (s .last .1 .1 .1 .0) left) (sym (c .before .stopped .ensures))
-    (subst (λ (m : Mind). RanTo all (record { mind = m; count = l .count; ending = stoppedBy (s .result .made); top = l .rest }) (s .last .1 .1 .1 .0) left) (unmoved _ k off)
-    (is-stopped (a .l) b p (a .budget) all d (l .stack) (l .rest) (l .count) (l .inv .0) (omega (arith, c .before .before .before .before .before .before .before .before .before .loop-test .taken)) low x (s .last .1 .1 .1 .0) left k off)))
+    let x = stayed (s .result .standing) (s .result .made) (l .here .top) in
+    let k = subst (λ (x : AfterMove). MakesNext (a .l) b p d (l .stack) (l .here .top) x after left) (kept-off (s .result) (l .here .top) off) (s .ensures) in
+    subst (λ (x : RanMoves). RanTo all x (configured (s .last .1 .1 .0) (s .last .1 .1 .1 .0) (x .standing) (s .last .1 .1 .1 .1 .1 .0)) left) (sym (c .ended2 .ensures))
+    (subst (λ e. RanTo all (record { standing = s .result .standing; count = l .count; ending = e; top = l .here .top }) after left) (sym (c .before .stopped .ensures))
+    (is-stopped (a .l) b p (a .budget) all d (l .stack) (l .here .top) (l .count) (l .inv .0) (omega (arith, c .before .before .before .before .before .before .before .before .before .before .before .before .before .loop-test .taken)) low x after left k (s .result .standing) off))
 
 ended-requires-3 : tie.Need-ended-requires-3 Inv-loop μ-loop
 ended-requires-3 c κs = search needs
@@ -131,10 +128,10 @@ returns-3 c =
     let a = c .before .before .before .before .before .before .args in
     let b = now (a .card) in
     let p = now (a .program) in
-    let all = outcome (a .l) b p (a .budget) (drop (a .top) (now (a .stack))) (stateOf (configured (a .m) (now (a .plan)))) in
+    let all = outcome (a .l) b p (a .budget) (drop (a .at .top) (now (a .stack))) (stateOf (configured (now (a .beliefs)) (now (a .goals)) (a .at .standing) (now (a .plan)))) in
     let l = c .before .before .loop in
-    let d = configured (l .cur) (l .plan) in
-    subst (λ (x : RanMoves). RanTo all x (l .plan) (l .stack)) (sym (c .ended3 .ensures)) (is-spent (a .l) b p (a .budget) all d (l .stack) (l .rest) (l .count) (l .inv .0) (omega (arith, c .before .loop-test .left)))
+    let d = configured (l .beliefs) (l .goals) (l .here .standing) (l .plan) in
+    subst (λ (x : RanMoves). RanTo all x (configured (l .beliefs) (l .goals) (x .standing) (l .plan)) (l .stack)) (sym (c .ended3 .ensures)) (is-spent (a .l) b p (a .budget) all d (l .stack) (l .here .top) (l .count) (l .inv .0) (l .here .standing) (omega (arith, c .before .loop-test .left)))
 
 pub run-moves-spec : {M : Type 1} → statement M
 run-moves-spec =
@@ -147,15 +144,13 @@ run-moves-spec =
     ended-requires
     returns
     judge-nodes-requires
-    loop-less
-    loop-again
     make-move-requires
     enum-told
     (λ c κs. search needs)
     ended-requires-2
     returns-2
     add-count
-    loop-less-2
-    loop-again-2
+    loop-less
+    loop-again
     ended-requires-3
     returns-3)

@@ -20,7 +20,7 @@ configuration-good-requires c κs = counted _ _ (accepted-card (now (c .before .
 returns : tie.Need-returns
 returns c =
     let a = c .before .before .before .before .before .before .before .args in
-    let d = configured (a .m) (now (a .plan)) in
+    let d = configured (now (a .beliefs)) (now (a .goals)) (a .m) (now (a .plan)) in
     let l = c .before .before .before .checked .given .0 .0 in
     let g = c .before .configuration-good .ensures in
     judged-admitted (now (a .card)) d _ (sym (c .before .before .before .before .before .check .ensures) ∙ c .before .before .before .checked .given .1) (rowAnswer (configurationGood l d) Refusal.Configuration) refl (g .1) _ (ap (λ t. checkedBy (rowAnswer t Refusal.Configuration) l) (sym (sym (g .0) ∙ not-true _ (c .if1 .taken))))
@@ -31,7 +31,7 @@ enum-told c = search needs
 returns-2 : tie.Need-returns-2
 returns-2 c =
     let a = c .before .before .before .before .before .before .before .args in
-    let d = configured (a .m) (now (a .plan)) in
+    let d = configured (now (a .beliefs)) (now (a .goals)) (a .m) (now (a .plan)) in
     let l = c .before .before .before .checked .given .0 .0 in
     let g = c .before .configuration-good .ensures in
     judged-admitted (now (a .card)) d _ (sym (c .before .before .before .before .before .check .ensures) ∙ c .before .before .before .checked .given .1) (rowAnswer (configurationGood l d) Refusal.Configuration) refl (g .1) _ (ap (λ t. checkedBy (rowAnswer t Refusal.Configuration) l) (sym (sym (g .0) ∙ not-false _ (c .if1 .left))))
@@ -39,7 +39,7 @@ returns-2 c =
 returns-3 : tie.Need-returns-3
 returns-3 c =
     let a = c .before .before .before .before .args in
-    card-admitted (now (a .card)) (configured (a .m) (now (a .plan))) _ (c .before .before .check .ensures) _ (c .enum-told .given .1)
+    card-admitted (now (a .card)) (configured (now (a .beliefs)) (now (a .goals)) (a .m) (now (a .plan))) _ (c .before .before .check .ensures) _ (c .enum-told .given .1)
 
 pub admit-spec : {M : Type 1} → statement M
 admit-spec =

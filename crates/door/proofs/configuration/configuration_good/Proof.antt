@@ -44,9 +44,18 @@ returns-2 c =
     let d = now (a .plan) in
     let r : length d ≡ 1024 = search needs in
     let e : leb (a .m .length) 1024 ≡ true = le-leb (a .m .length) 1024 (omega arith) in
-    (rw (e, c .before .before .before .plan-good .ensures, c .before .both-known .ensures, regrouped (actionsGood (a .l .actions) (take (a .m .length) d)) (all (λ x. eqb x 0) (drop (a .m .length) d)) (bothGood (a .l .atoms) (a .m .beliefs) (a .m .goals)) (leb (a .m .phase) 2)), r)
+    (rw (e, c .before .before .before .before .before .plan-good .ensures, c .before .both-known .ensures, regrouped (actionsGood (a .l .actions) (take (a .m .length) d)) (all (λ x. eqb x 0) (drop (a .m .length) d)) (bothGood (a .l .atoms) (now (a .beliefs)) (now (a .goals))) (leb (a .m .phase) 2)), r)
 
 pub configuration-good-spec : {M : Type 1} → statement M
 configuration-good-spec =
     tie.close
-    (tie.spec size-requires (λ c. search needs) longest-plan-requires returns (λ c. search needs) plan-good-requires (λ c. search needs) both-known-requires returns-2)
+    (tie.spec
+    size-requires
+    (λ c. search needs)
+    longest-plan-requires
+    returns
+    (λ c. search needs)
+    plan-good-requires
+    (λ c. search needs)
+    both-known-requires
+    returns-2)

@@ -15,4 +15,9 @@ returns : tie.Need-returns
 returns c = (c .row .ensures ∙ ap (λ x. rowAnswer x Refusal.Configuration) (c .before .configuration-good .ensures .0), c .before .configuration-good .ensures .1)
 
 pub judge-configuration-spec : {M : Type 1} → statement M
-judge-configuration-spec = tie.close (tie.spec configuration-good-requires row-requires returns)
+judge-configuration-spec =
+    tie.close
+    (tie.spec
+    configuration-good-requires
+    row-requires
+    returns)

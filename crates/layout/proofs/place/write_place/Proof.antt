@@ -1,19 +1,12 @@
 use Rattle.meaning.specs.Place.{placeHeader}
 use Rattle.layout.proofs.Written.{place-written}
 use Rattle.layout.specs.PlaceParts.{configured}
-use mathlib.Core.Path.{_≡_, ap}
+use mathlib.Core.Path.{ap}
 use borrow.Author.Needs.{needs}
 use denote.Ref.{now}
 use lib.ListN.{length}
 use Rattle.layout.proofs.place.write_place.Statement.{statement}
 use Rattle.layout.proofs.place.write_place.Tie as tie
-
--- the sets are as long as their types say
-lb : (c : tie.Start) → length (c .args .m .beliefs) ≡ 32
-lb c = search needs
-
-lg : (c : tie.Start) → length (c .args .m .goals) ≡ 32
-lg c = search needs
 
 header-of-requires : tie.Need-header-of-requires
 header-of-requires c κs = search needs
@@ -33,15 +26,16 @@ copy-requires-2 c κs = search needs
 returns : tie.Need-returns
 unfolding placeHeader
 returns c =
-    let s = c .before .before .before .before .before .before .before .before .before .before .before .before .before .before .before .before .before .before .before .before .before .before .before in
+    let s = c .before .before .before .before .before .before .before .before .before .before .before .before .before .before .before .before .before .before .before .before .before in
     let a = s .args in
     let h = c .before .before .before .before .before .before .before .before .before .before .before .before .before .before .before .before .header-of in
     let d₁ = c .before .before .before .before .before .before .before .before .before .before .before .before .before .copy in
     let d₃ = c .before .before .before .before .before .before .before .before .before .write-sets in
     let d₄ = c .before .before .copy2 in
     let p = c .before .before .before .before .before .plan-at in
-    place-written (a .l) (configured (a .m) (now (a .plan))) (p .result) (p .ensures .0) (now (a .out)) (d₁ .last .0) (d₃ .last .1 .1 .1 .0) (d₄ .last .0) (lb s) (lg s) (s .pre .2) (s .pre .0)
-    (h .result) (h .ensures) (ap length (h .ensures)) (d₁ .ensures) (d₃ .ensures) (d₄ .ensures)
+    let d = configured (now (a .beliefs)) (now (a .goals)) (a .m) (now (a .plan)) in
+    place-written (a .l) d (p .result) (p .ensures .0) (now (a .out)) (d₁ .last .0) (d₃ .last .1 .1 .1 .0) (d₄ .last .0) (d₃ .ensures .1 .0) (d₃ .ensures .1 .1) (s .pre .2) (s .pre .0)
+    (h .result) (h .ensures) (ap length (h .ensures)) (d₁ .ensures) (d₃ .ensures .0) (d₄ .ensures)
 
 pub write-place-spec : {M : Type 1} → statement M
 write-place-spec =

@@ -1,5 +1,6 @@
 use mathlib.Core.Logic.{⊎-elim}
-use Rattle.listing.proofs.Gathering.{gathered-few, gathered-yes, gathered-no, gathered-past, enabled-at, none-enabled}
+use Rattle.listing.proofs.Gathering.{gathered-yes, gathered-no, gathered-past, enabled-at, none-enabled}
+use Rattle.choices.specs.Judged.{AllSets}
 use Rattle.listing.specs.Listed.{enabledCode, Gathered}
 use Rattle.layout.proofs.GoodLayout.{at-most-256}
 use Rattle.layout.specs.Entries.{countOf}
@@ -15,7 +16,9 @@ use Rattle.listing.proofs.list.gather_kind.Statement.{statement}
 use Rattle.listing.proofs.list.gather_kind.Tie as tie
 
 abbrev Inv-loop : tie.InvT-loop
-Inv-loop card l m plan marks kind codes₀ before n count₀ i₀ codes count i = (i ≤ countOf l kind) × Gathered (enabledCode l card (configured m plan)) (256 * kind + i) codes count × (length codes ≡ 96)
+Inv-loop card l m plan marks kind codes₀ before n count₀ i₀ codes count i =
+    (i ≤ countOf l kind) × (length codes ≡ 96) × (count ≤ before + i)
+    × AllSets l card m plan marks (λ c. Gathered (enabledCode l card c) (256 * kind) codes₀ before → Gathered (enabledCode l card c) (256 * kind + i) codes count)
 
 abbrev μ-loop : tie.MeasureT-loop
 μ-loop card l m plan marks kind codes₀ before n count₀ i₀ codes count i = countOf l kind - i
@@ -27,7 +30,7 @@ loop-holds : tie.Need-loop-holds Inv-loop μ-loop
 loop-holds c =
     let a = c .before .before .args in
     let p = c .before .before .pre in
-    (omega arith, subst (λ x. Gathered (enabledCode (a .l) (now (a .card)) (configured (a .m) (now (a .plan)))) x (now (a .codes)) (a .before)) (sym (add-zero (256 * a .kind))) (p .1), p .0 .2)
+    (omega arith, p .2, omega arith, λ σ γ j g. subst (λ x. Gathered (enabledCode (a .l) (now (a .card)) (configured σ γ (a .m) (now (a .plan)))) x (now (a .codes)) (a .before)) (sym (add-zero (256 * a .kind))) g)
 
 is-enabled-requires : tie.Need-is-enabled-requires Inv-loop μ-loop
 is-enabled-requires c κs = search needs
@@ -35,21 +38,22 @@ is-enabled-requires c κs = search needs
 add-put : tie.Need-add-put Inv-loop μ-loop
 add-put c =
     let a = c .before .before .before .before .before .before .before .args in
-    let h = at-most-256 (a .l) (now (a .card)) (c .before .before .before .before .before .before .before .pre .0 .0 .ready .card .layout) (a .kind) in
+    let h = at-most-256 (a .l) (now (a .card)) (c .before .before .before .before .before .before .before .pre .0 .judged .ready .card .layout) (a .kind) in
     omega arith
 
 put-requires : tie.Need-put-requires Inv-loop μ-loop
 put-requires c κs =
     let a = c .before .before .before .before .before .before .before .args in
-    let h = at-most-256 (a .l) (now (a .card)) (c .before .before .before .before .before .before .before .pre .0 .0 .ready .card .layout) (a .kind) in
-    (omega arith, c .before .before .before .before .loop .inv .2)
+    let h = at-most-256 (a .l) (now (a .card)) (c .before .before .before .before .before .before .before .pre .0 .judged .ready .card .layout) (a .kind) in
+    (omega arith, c .before .before .before .before .loop .inv .1)
 
 add-count : tie.Need-add-count Inv-loop μ-loop
 add-count c =
     let a = c .before .before .before .before .before .before .before .before .args in
-    let h = at-most-256 (a .l) (now (a .card)) (c .before .before .before .before .before .before .before .before .pre .0 .0 .ready .card .layout) (a .kind) in
+    let h = at-most-256 (a .l) (now (a .card)) (c .before .before .before .before .before .before .before .before .pre .0 .judged .ready .card .layout) (a .kind) in
     let l = c .before .before .before .before .before .loop in
-    let f = gathered-few (enabledCode (a .l) (now (a .card)) (configured (a .m) (now (a .plan)))) (256 * a .kind + l .i) (l .codes) (l .count) (l .inv .1) in
+    let f = l .inv .2 in
+    let g = c .before .before .before .before .before .before .before .before .pre .3 in
     omega arith
 
 loop-less : tie.Need-loop-less Inv-loop μ-loop
@@ -58,31 +62,47 @@ loop-less c = search needs
 loop-again : tie.Need-loop-again Inv-loop μ-loop
 loop-again c =
     let a = c .before .before .before .before .before .before .args in
-    let h = at-most-256 (a .l) (now (a .card)) (c .before .before .before .before .before .before .pre .0 .0 .ready .card .layout) (a .kind) in
+    let h = at-most-256 (a .l) (now (a .card)) (c .before .before .before .before .before .before .pre .0 .judged .ready .card .layout) (a .kind) in
     let l = c .before .before .before .loop in
-    let t = enabledCode (a .l) (now (a .card)) (configured (a .m) (now (a .plan))) in
     let x : 256 * a .kind + (l .i + 1) ≡ 256 * a .kind + l .i + 1 = omega arith in
-    let e = enabled-at (a .l) (now (a .card)) (configured (a .m) (now (a .plan))) (a .kind) (l .i) (omega arith) ∙ sym (c .before .is-enabled .ensures) in
+    let r = l .inv .1 in
+    let f = l .inv .2 in
     ⊎-elim
     (λ w.
-    (let q = w .3 ∙ w .2 .ensures in
-    let r = l .inv .2 in
-    (omega arith, rw (x, q, w .4) (gathered-yes t (256 * a .kind + l .i) (l .codes) (l .count) (l .inv .1) (e ∙ w .0 .taken) (omega arith)), ap length q ∙ length-set (l .codes) _ _ ∙ r)))
-    (λ w. (omega arith, rw (x, w .1, w .2) (gathered-no t (256 * a .kind + l .i) (l .codes) (l .count) (l .inv .1) (e ∙ w .0 .left)), ap length (w .1) ∙ l .inv .2))
+    (let q = w .3 ∙ w .2 .ensures in (
+      omega arith,
+      ap length q ∙ length-set (l .codes) _ _ ∙ r,
+      rw (w .4) (omega arith),
+      λ σ γ j g.
+          (let d = configured σ γ (a .m) (now (a .plan)) in
+          let e = enabled-at (a .l) (now (a .card)) d (a .kind) (l .i) (omega arith) ∙ sym (c .before .is-enabled .ensures σ γ j) in
+          rw (x, q, w .4) (gathered-yes (enabledCode (a .l) (now (a .card)) d) (256 * a .kind + l .i) (l .codes) (l .count) (l .inv .3 σ γ j g) (e ∙ w .0 .taken) (omega arith))),
+    )))
+    (λ w. (
+      omega arith,
+      ap length (w .1) ∙ l .inv .1,
+      rw (w .2) (omega arith),
+      λ σ γ j g.
+          (let d = configured σ γ (a .m) (now (a .plan)) in
+          let e = enabled-at (a .l) (now (a .card)) d (a .kind) (l .i) (omega arith) ∙ sym (c .before .is-enabled .ensures σ γ j) in
+          rw (x, w .1, w .2) (gathered-no (enabledCode (a .l) (now (a .card)) d) (256 * a .kind + l .i) (l .codes) (l .count) (l .inv .3 σ γ j g) (e ∙ w .0 .left))),
+    ))
     (c .if1 .came)
 
 returns : tie.Need-returns Inv-loop μ-loop
 returns c =
     let a = c .before .before .before .before .args in
-    let h = at-most-256 (a .l) (now (a .card)) (c .before .before .before .before .pre .0 .0 .ready .card .layout) (a .kind) in
+    let h = at-most-256 (a .l) (now (a .card)) (c .before .before .before .before .pre .0 .judged .ready .card .layout) (a .kind) in
     let l = c .before .loop in
     let n = countOf (a .l) (a .kind) in
-    let d = configured (a .m) (now (a .plan)) in
+    let f = l .inv .2 in
     let e : 256 * a .kind + l .i + (256 - l .i) ≡ 256 * a .kind + 256 = omega arith in (
-      subst (λ x. Gathered (enabledCode (a .l) (now (a .card)) d) x (l .codes) (l .count)) e
-          (gathered-past (enabledCode (a .l) (now (a .card)) d) (256 * a .kind + l .i) (l .codes) (l .count) (l .inv .1) (256 - l .i)
-          (λ i g. (let q : 256 * a .kind + l .i + i ≡ 256 * a .kind + (l .i + i) = omega arith in ap (enabledCode (a .l) (now (a .card)) d) q ∙ none-enabled (a .l) (now (a .card)) d (a .kind) (l .i + i) (omega arith) (omega arith)))),
-      l .inv .2,
+      λ σ γ j g.
+          (let d = configured σ γ (a .m) (now (a .plan)) in
+          subst (λ x. Gathered (enabledCode (a .l) (now (a .card)) d) x (l .codes) (l .count)) e
+          (gathered-past (enabledCode (a .l) (now (a .card)) d) (256 * a .kind + l .i) (l .codes) (l .count) (l .inv .3 σ γ j g) (256 - l .i)
+          (λ i g. (let q : 256 * a .kind + l .i + i ≡ 256 * a .kind + (l .i + i) = omega arith in ap (enabledCode (a .l) (now (a .card)) d) q ∙ none-enabled (a .l) (now (a .card)) d (a .kind) (l .i + i) (omega arith) (omega arith))))),
+      (l .inv .1, omega arith),
     )
 
 pub gather-kind-spec : {M : Type 1} → statement M

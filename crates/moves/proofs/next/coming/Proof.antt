@@ -12,37 +12,40 @@ enum-told : tie.Need-enum-told
 enum-told c = search needs
 
 returns : tie.Need-returns
-returns c =
+returns c = λ σ γ j.
     let a = c .before .before .before .before .args in
-    sym (comes-rest (a .l) (now (a .card)) (configured (a .m) (now (a .plan))) (sym (c .before .before .choose .ensures) ∙ c .enum-told .given .1))
+    sym (comes-rest (a .l) (now (a .card)) (configured σ γ (a .m) (now (a .plan))) (sym (c .before .before .choose .ensures σ γ j) ∙ c .enum-told .given .1))
 
 code-of-requires : tie.Need-code-of-requires
 code-of-requires c κs =
     let a = c .before .before .before .before .before .args in
-    let d = configured (a .m) (now (a .plan)) in
-    let k = chose (a .l) (now (a .card)) d _ _ (sym (c .before .before .before .choose .ensures) ∙ c .before .chosen .given .1) in
-    (k .0, number-lt (a .l) (now (a .card)) d (c .before .before .before .before .before .pre .ready) _ _ (k .0) (k .1))
+    let p = c .before .before .before .before .before .pre in
+    let d = configured (p .beliefs) (p .goals) (a .m) (now (a .plan)) in
+    let k = chose (a .l) (now (a .card)) d _ _ (sym (c .before .before .before .choose .ensures (p .beliefs) (p .goals) (p .judged)) ∙ c .before .chosen .given .1) in
+    (k .0, number-lt (a .l) (now (a .card)) d (p .judged .ready) _ _ (k .0) (k .1))
 
 too-long-requires : tie.Need-too-long-requires
 too-long-requires c κs =
     let a = c .before .before .before .before .before .before .args in
-    let k = chose (a .l) (now (a .card)) (configured (a .m) (now (a .plan))) _ _ (sym (c .before .before .before .before .choose .ensures) ∙ c .before .before .chosen .given .1) in
-    (c .before .before .before .before .before .before .pre .ready, k .0, k .1)
+    let p = c .before .before .before .before .before .before .pre in
+    let k = chose (a .l) (now (a .card)) (configured (p .beliefs) (p .goals) (a .m) (now (a .plan))) _ _ (sym (c .before .before .before .before .choose .ensures (p .beliefs) (p .goals) (p .judged)) ∙ c .before .before .chosen .given .1) in
+    (k .0, record { beliefs = p .beliefs; goals = p .goals; ready = p .judged .ready; may = k .1 })
 
 returns-2 : tie.Need-returns-2
-returns-2 c =
+returns-2 c = λ σ γ j.
     let a = c .before .before .before .before .before .before .before .before .args in
-    let d = configured (a .m) (now (a .plan)) in
-    let e = sym (c .before .before .before .before .before .before .choose .ensures) ∙ c .before .before .before .before .chosen .given .1 in
-    ap Coming.Full (c .before .before .code-of .ensures) ∙ sym (comes-full (a .l) (now (a .card)) d _ _ e (sym (c .if1 .taken) ∙ c .before .too-long .ensures))
+    let d = configured σ γ (a .m) (now (a .plan)) in
+    let e = sym (c .before .before .before .before .before .before .choose .ensures σ γ j) ∙ c .before .before .before .before .chosen .given .1 in
+    let k = chose (a .l) (now (a .card)) d _ _ e in
+    ap Coming.Full (c .before .before .code-of .ensures) ∙ sym (comes-full (a .l) (now (a .card)) d _ _ e (sym (c .if1 .taken) ∙ c .before .too-long .ensures σ γ (j .ready) (k .1)))
 
 returns-3 : tie.Need-returns-3
-returns-3 c =
+returns-3 c = λ σ γ j.
     let a = c .before .before .before .before .before .before .before .before .args in
-    let d = configured (a .m) (now (a .plan)) in
-    let e = sym (c .before .before .before .before .before .before .choose .ensures) ∙ c .before .before .before .before .chosen .given .1 in
+    let d = configured σ γ (a .m) (now (a .plan)) in
+    let e = sym (c .before .before .before .before .before .before .choose .ensures σ γ j) ∙ c .before .before .before .before .chosen .given .1 in
     let k = chose (a .l) (now (a .card)) d _ _ e in
-    ap Coming.Move (c .before .before .code-of .ensures) ∙ sym (comes-move (a .l) (now (a .card)) d _ _ e (k .1) (sym (c .if1 .left) ∙ c .before .too-long .ensures))
+    ap Coming.Move (c .before .before .code-of .ensures) ∙ sym (comes-move (a .l) (now (a .card)) d _ _ e (k .1) (sym (c .if1 .left) ∙ c .before .too-long .ensures σ γ (j .ready) (k .1)))
 
 pub coming-spec : {M : Type 1} → statement M
 coming-spec =

@@ -17,7 +17,7 @@ enum-told c = search needs
 returns : tie.Need-returns
 returns c =
     let a = c .before .before .before .before .before .args in
-    let d = configured (a .m) (now (a .plan)) in
+    let d = configured (now (a .beliefs)) (now (a .goals)) (a .m) (now (a .plan)) in
     let (e, s) = admitted-refused (now (a .card)) d _ (c .before .before .before .admit .ensures .0) _ (c .before .enum-told .given .1) _ (c .answer-of .ensures) in
     ap (λ (x : Answer). record { answer = x; coming = Coming.Rest; configuration = d }) s ∙ sym (nexts-refused (now (a .card)) d _ e)
 
@@ -25,14 +25,16 @@ judge-nodes-requires : tie.Need-judge-nodes-requires
 judge-nodes-requires c κs = (c .before .before .before .before .before .admit .ensures .1 _ (c .before .before .before .admitted .given .1) .card, rw (c .before .no-marks .ensures))
 
 coming-requires : tie.Need-coming-requires
-coming-requires c κs = record { ready = c .before .before .before .before .before .before .before .admit .ensures .1 _ (c .before .before .before .before .before .admitted .given .1); marked = c .before .judge-nodes .ensures .0 }
+coming-requires c κs =
+    let a = c .before .before .before .before .before .before .before .before .before .args in
+    record { beliefs = now (a .beliefs); goals = now (a .goals); judged = record { ready = c .before .before .before .before .before .before .before .admit .ensures .1 _ (c .before .before .before .before .before .admitted .given .1); marked = c .before .judge-nodes .ensures .0 } }
 
 returns-2 : tie.Need-returns-2
 returns-2 c =
     let a = c .before .before .before .before .before .before .before .before .before .before .args in
-    let d = configured (a .m) (now (a .plan)) in
+    let d = configured (now (a .beliefs)) (now (a .goals)) (a .m) (now (a .plan)) in
     let (e, s) = admitted-good (now (a .card)) d _ (c .before .before .before .before .before .before .before .before .admit .ensures .0) _ (c .before .before .before .before .before .before .admitted .given .1) in
-    ap (λ (x : Coming). record { answer = Done; coming = x; configuration = d }) (c .coming .ensures) ∙ next-accepted (now (a .card)) d e _ s
+    ap (λ (x : Coming). record { answer = Done; coming = x; configuration = d }) (c .coming .ensures (now (a .beliefs)) (now (a .goals)) (record { ready = c .before .before .before .before .before .before .before .before .admit .ensures .1 _ (c .before .before .before .before .before .before .admitted .given .1); marked = c .before .before .judge-nodes .ensures .0 })) ∙ next-accepted (now (a .card)) d e _ s
 
 pub next-spec : {M : Type 1} → statement M
 next-spec =

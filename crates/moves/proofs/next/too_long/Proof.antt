@@ -9,31 +9,30 @@ use Rattle.moves.proofs.next.too_long.Statement.{statement}
 use Rattle.moves.proofs.next.too_long.Tie as tie
 
 returns : tie.Need-returns
-returns c =
+returns c = λ σ γ ready may.
     let a = c .before .before .args in
-    never-too-long (a .l) (now (a .card)) (configured (a .m) (now (a .plan))) (c .before .before .pre .0) (a .kind) (a .i) (omega arith) (c .before .before .pre .2)
+    never-too-long (a .l) (now (a .card)) (configured σ γ (a .m) (now (a .plan))) ready (a .kind) (a .i) (omega arith) may
 
 read-revision-requires : tie.Need-read-revision-requires
 read-revision-requires c κs =
     let a = c .before .before .args in
-    let p = c .before .before .pre in
+    let p = c .before .before .pre .1 in
     let k : a .kind ≡ 2 = omega arith in
-    (p .0 .card .layout, revision-known (a .l) (now (a .card)) (configured (a .m) (now (a .plan))) (p .0) (a .i) (rw k at (p .2)))
+    (p .ready .card .layout, revision-known (a .l) (now (a .card)) (configured (p .beliefs) (p .goals) (a .m) (now (a .plan))) (p .ready) (a .i) (rw k at (p .may)))
 
 revised-length-requires : tie.Need-revised-length-requires
 revised-length-requires c κs =
     let a = c .before .before .before .before .before .args in
-    let p = c .before .before .before .before .before .pre in
+    let p = c .before .before .before .before .before .pre .1 in
     let k : a .kind ≡ 2 = omega arith in
     let r = c .before .before .read-revision .ensures in
-    (rw (r .0) (head-fits (a .l) (now (a .card)) (configured (a .m) (now (a .plan))) (p .0) (a .i) (rw k at (p .2))), p .0 .fits, r .2)
+    (rw (r .0) (head-fits (a .l) (now (a .card)) (configured (p .beliefs) (p .goals) (a .m) (now (a .plan))) (p .ready) (a .i) (rw k at (p .may))), p .ready .fits, r .2)
 
 returns-2 : tie.Need-returns-2
-returns-2 c =
+returns-2 c = λ σ γ ready may.
     let a = c .before .before .before .before .before .before .args in
-    let p = c .before .before .before .before .before .before .pre in
     let k : a .kind ≡ 2 = omega arith in
-    rw k (revision-too-long (a .l) (now (a .card)) (configured (a .m) (now (a .plan))) (p .0) (a .i) (rw k at (p .2)) _ (c .before .before .before .read-revision .ensures .0) _ _ (c .before .before .longest-plan .ensures) (c .revised-length .ensures))
+    rw k (revision-too-long (a .l) (now (a .card)) (configured σ γ (a .m) (now (a .plan))) ready (a .i) (rw k at may) _ (c .before .before .before .read-revision .ensures .0) _ _ (c .before .before .longest-plan .ensures) (c .revised-length .ensures))
 
 pub too-long-spec : {M : Type 1} → statement M
 too-long-spec =

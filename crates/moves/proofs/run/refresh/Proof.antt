@@ -13,4 +13,9 @@ returns-2 : tie.Need-returns-2
 returns-2 c = (c .before .before .pre .2 (not-false _ (c .if1 .left)), c .before .before .pre .1)
 
 pub refresh-spec : {M : Type 1} → statement M
-refresh-spec = tie.close (tie.spec judge-nodes-requires returns returns-2)
+refresh-spec =
+    tie.close
+    (tie.spec
+    judge-nodes-requires
+    returns
+    returns-2)

@@ -24,22 +24,22 @@ answer-of-requires c κs = search needs
 
 returns : tie.Need-returns
 returns c =
-    let a = c .before .before .before .before .before .before .args in
+    let a = c .before .before .before .before .before .before .before .before .args in
     let b = now (a .card) in
-    let d = configured (a .m) (now (a .plan)) in
+    let d = configured (now (a .beliefs)) (now (a .goals)) (a .m) (now (a .plan)) in
     let (e, s) = admitted-refused b d _ (c .before .before .before .admit .ensures .0) _ (c .before .enum-told .given .1) _ (c .answer-of .ensures) in
     (λ i. record { answer = s i; count = 0; ending = Ending.Spent; configuration = d }) ∙ sym (runs-refused b d (a .budget) _ e)
 
 run-on-requires : tie.Need-run-on-requires
-run-on-requires c κs = c .before .before .before .before .admit .ensures .1 _ (c .before .before .admitted .given .1)
+run-on-requires c κs = c .before .before .before .before .before .before .admit .ensures .1 _ (c .before .before .before .before .admitted .given .1)
 
 returns-2 : tie.Need-returns-2
 unfolding agent
 returns-2 c =
-    let a = c .before .before .before .before .before .before .before .before .args in
+    let a = c .before .before .before .before .before .before .before .before .before .before .before .before .args in
     let b = now (a .card) in
-    let d = configured (a .m) (now (a .plan)) in
-    let (e, s) = admitted-good b d _ (c .before .before .before .before .before .admit .ensures .0) _ (c .before .before .before .admitted .given .1) in
+    let d = configured (now (a .beliefs)) (now (a .goals)) (a .m) (now (a .plan)) in
+    let (e, s) = admitted-good b d _ (c .before .before .before .before .before .before .before .admit .ensures .0) _ (c .before .before .before .before .before .admitted .given .1) in
     c .run-on .ensures ∙ ap (λ (x : Layout). ran (run (agentFor x b) (a .budget) (stateOf d))) s ∙ sym (runs-good b d e (a .budget))
 
 pub run-spec : {M : Type 1} → statement M

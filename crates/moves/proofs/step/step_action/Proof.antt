@@ -19,42 +19,42 @@ use Rattle.moves.proofs.step.step_action.Tie as tie
 
 act-on-requires : tie.Need-act-on-requires
 act-on-requires c κs =
-    let s = c .before .before .before .before in
+    let s = c .before .before .before .before .before .before .before in
     let a = s .args in
-    (search needs, s .pre .0 .card .layout, specification-known (a .l) (now (a .card)) (configured (a .m) (now (a .plan))) (s .pre .0) (a .i) (s .pre .1))
+    (search needs, s .pre .0 .card .layout, specification-known (a .l) (now (a .card)) (configured (now (a .beliefs)) (now (a .goals)) (a .m) (now (a .plan))) (s .pre .0) (a .i) (s .pre .1))
 
 difference-requires : tie.Need-difference-requires
 difference-requires c κs = search needs
 
 drop-front-requires : tie.Need-drop-front-requires
 drop-front-requires c κs =
-    let s = c .before .before .before .before .before .before .before .before .before in
+    let s = c .before .before .before .before .before .before .before .before .before .before .before .before in
     let a = s .args in
-    (plan-not-empty (a .l) (now (a .card)) (configured (a .m) (now (a .plan))) (s .pre .0) (a .i) (s .pre .1), s .pre .0 .fits, s .pre .0 .zeros)
+    (plan-not-empty (a .l) (now (a .card)) (configured (now (a .beliefs)) (now (a .goals)) (a .m) (now (a .plan))) (s .pre .0) (a .i) (s .pre .1), s .pre .0 .fits, s .pre .0 .zeros)
 
 sub-taken : tie.Need-sub-taken
 sub-taken c =
-    let s = c .before .before .before .before .before .before .before .before .before .before in
+    let s = c .before .before .before .before .before .before .before .before .before .before .before .before .before in
     let a = s .args in
-    plan-not-empty (a .l) (now (a .card)) (configured (a .m) (now (a .plan))) (s .pre .0) (a .i) (s .pre .1)
+    plan-not-empty (a .l) (now (a .card)) (configured (now (a .beliefs)) (now (a .goals)) (a .m) (now (a .plan))) (s .pre .0) (a .i) (s .pre .1)
 
 taken-requires : tie.Need-taken-requires
-taken-requires c κs = (let f = c .before .before .before .before .before .before .before .before .before .before .pre .0 .fits in omega arith, omega arith)
+taken-requires c κs = (let f = c .before .before .before .before .before .before .before .before .before .before .before .before .before .pre .0 .fits in omega arith, omega arith)
 
 returns : tie.Need-returns
 unfolding configurationOf kind number σ′ γ′ specificationOf
 returns c =
-    let s = c .before .before .before .before .before .before .before .before .before .before .before in
+    let s = c .before .before .before .before .before .before .before .before .before .before .before .before .before .before in
     let a = s .args in
-    let d = configured (a .m) (now (a .plan)) in
-    let t = acts-to (a .l) (now (a .card)) (configured (a .m) (now (a .plan))) (s .pre .0) (a .i) (s .pre .1) in
+    let d = configured (now (a .beliefs)) (now (a .goals)) (a .m) (now (a .plan)) in
+    let t = acts-to (a .l) (now (a .card)) (configured (now (a .beliefs)) (now (a .goals)) (a .m) (now (a .plan))) (s .pre .0) (a .i) (s .pre .1) in
     let beliefs = c .before .before .before .before .before .before .act-on .ensures in
-    let goals = c .before .before .before .difference .ensures ∙ ap (λ x. a .m .goals ∖ x) beliefs in
-    let n = sym (acted-length (a .l) (now (a .card)) (configured (a .m) (now (a .plan))) (s .pre .0) (a .i) (s .pre .1)) in
+    let goals = c .before .before .before .difference .ensures ∙ ap (λ x. now (a .goals) ∖ x) beliefs in
+    let n = sym (acted-length (a .l) (now (a .card)) (configured (now (a .beliefs)) (now (a .goals)) (a .m) (now (a .plan))) (s .pre .0) (a .i) (s .pre .1)) in
     let f = finished-at (a .m .finished) _ _ n in
     let r = c .taken .ensures in (
       ap (λ (x : Stepped). x .transition) r ∙ ap transitionOf (sym t),
-      (λ j. configured (r j .mind) (c .before .drop-front .ensures j)) ∙ (λ j. configured (record { beliefs = beliefs j; goals = goals j; length = n j; phase = 2; finished = f j }) (padded (drop 1 (take (a .m .length) (now (a .plan)))))) ∙ ap (λ (x : Reached). configurationAfter x d) (sym t),
+      (λ j. configured (c .before .before .before .before .before .before .act-on .last .0) (c .before .before .before .difference .result) (r j .standing) (c .before .drop-front .ensures j)) ∙ (λ j. configured (beliefs j) (goals j) (record { length = n j; phase = 2; finished = f j }) (padded (drop 1 (take (a .m .length) (now (a .plan)))))) ∙ ap (λ (x : Reached). configurationAfter x d) (sym t),
     )
 
 pub step-action-spec : {M : Type 1} → statement M
@@ -62,6 +62,7 @@ step-action-spec =
     tie.close
     (tie.spec
     (λ c. search needs)
+    (λ c κs. search needs)
     (λ c. search needs)
     act-on-requires
     difference-requires

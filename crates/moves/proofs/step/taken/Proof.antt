@@ -11,7 +11,13 @@ finished-with-requires c κs = search needs
 returns : tie.Need-returns
 returns c =
     let a = c .before .args in
-    ap (λ f. record { mind = record { beliefs = a .beliefs; goals = a .goals; length = a .n; phase = (a .kind + 1) % 3; finished = f }; transition = Transition.Taken (a .kind) (a .i) }) (c .finished-with .ensures)
+    ap (λ f. record { standing = record { length = a .n; phase = (a .kind + 1) % 3; finished = f }; transition = Transition.Taken (a .kind) (a .i) }) (c .finished-with .ensures)
 
 pub taken-spec : {M : Type 1} → statement M
-taken-spec = tie.close (tie.spec (λ c. search needs) (λ c. search needs) finished-with-requires returns)
+taken-spec =
+    tie.close
+    (tie.spec
+    (λ c. search needs)
+    (λ c. search needs)
+    finished-with-requires
+    returns)

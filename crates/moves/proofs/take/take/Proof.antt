@@ -26,22 +26,22 @@ answer-of-requires c κs = search needs
 
 returns : tie.Need-returns
 returns c =
-    let a = c .before .before .before .before .before .before .args in
+    let a = c .before .before .before .before .before .before .before .before .args in
     let b = now (a .card) in
-    let d = configured (a .m) (now (a .plan)) in
+    let d = configured (now (a .beliefs)) (now (a .goals)) (a .m) (now (a .plan)) in
     let (e, s) = admitted-refused b d _ (c .before .before .before .admit .ensures .0) _ (c .before .enum-told .given .1) _ (c .answer-of .ensures) in
     ap (λ x. reply x d) s ∙ sym (takes-refused b d (a .choice) _ e)
 
 take-choice-requires : tie.Need-take-choice-requires
-take-choice-requires c κs = c .before .before .before .before .admit .ensures .1 _ (c .before .before .admitted .given .1)
+take-choice-requires c κs = c .before .before .before .before .before .before .admit .ensures .1 _ (c .before .before .before .before .admitted .given .1)
 
 returns-2 : tie.Need-returns-2
 unfolding agent
 returns-2 c =
-    let a = c .before .before .before .before .before .before .before .before .args in
+    let a = c .before .before .before .before .before .before .before .before .before .before .before .before .args in
     let b = now (a .card) in
-    let d = configured (a .m) (now (a .plan)) in
-    let (e, s) = admitted-good b d _ (c .before .before .before .before .before .admit .ensures .0) _ (c .before .before .before .admitted .given .1) in
+    let d = configured (now (a .beliefs)) (now (a .goals)) (a .m) (now (a .plan)) in
+    let (e, s) = admitted-good b d _ (c .before .before .before .before .before .before .before .admit .ensures .0) _ (c .before .before .before .before .before .admitted .given .1) in
     c .take-choice .ensures ∙ ap (λ (x : Layout). takenBy (whyClosed x b (stateOf d .mental) (choice (a .choice))) (stepBy (agentFor x b) (stateOf d) (choice (a .choice))) d) s ∙ takes-by b d e (a .choice)
 
 pub take-spec : {M : Type 1} → statement M

@@ -18,10 +18,12 @@ no-marks-requires : tie.Need-no-marks-requires
 no-marks-requires c κs = search needs
 
 judge-nodes-requires : tie.Need-judge-nodes-requires
-judge-nodes-requires c κs = (c .before .before .before .pre .card, rw (c .before .no-marks .ensures))
+judge-nodes-requires c κs = (c .before .before .before .before .before .pre .card, rw (c .before .before .before .no-marks .ensures))
 
 ask-code-requires : tie.Need-ask-code-requires
-ask-code-requires c κs = record { ready = c .before .before .before .before .before .before .pre; marked = c .before .before .judge-nodes .ensures .0 }
+ask-code-requires c κs =
+    let a = c .before .before .before .before .before .before .before .before .args in
+    record { beliefs = now (a .beliefs); goals = now (a .goals); judged = record { ready = c .before .before .before .before .before .before .before .before .pre; marked = c .before .before .judge-nodes .ensures .0 } }
 
 answer-asked-requires : tie.Need-answer-asked-requires
 answer-asked-requires c κs = search needs
@@ -31,19 +33,19 @@ enum-told c = search needs
 
 returns : tie.Need-returns
 returns c =
-    let a = c .before .before .before .before .before .before .before .before .before .before .args in
-    let d = configured (a .m) (now (a .plan)) in
+    let a = c .before .before .before .before .before .before .before .before .before .before .before .before .args in
+    let d = configured (now (a .beliefs)) (now (a .goals)) (a .m) (now (a .plan)) in
     let asked = c .before .before .before .ask-code in
     let answer = c .before .before .answer-asked .ensures in
-    ap (λ x. reply x d) answer ∙ refused-so (a .l) (now (a .card)) d (choice (a .code)) (asked .result) _ (asked .ensures) (sym answer ∙ c .enum-told2 .given .1)
+    ap (λ x. reply x d) answer ∙ refused-so (a .l) (now (a .card)) d (choice (a .code)) (asked .result) _ (asked .ensures (now (a .beliefs)) (now (a .goals)) (record { ready = c .before .before .before .before .before .before .before .before .before .before .before .before .pre; marked = c .before .before .before .before .before .before .judge-nodes .ensures .0 })) (sym answer ∙ c .enum-told2 .given .1)
 
 step-requires : tie.Need-step-requires
 step-requires c κs =
-    let s = c .before .before .before .before .before .before .before .before .before .before .before in
+    let s = c .before .before .before .before .before .before .before .before .before .before .before .before .before .before .before in
     let a = s .args in
-    let asked = c .before .before .before .before .ask-code in
-    let e = sym (ap isEnabled (asked .ensures)) ∙ is-done (asked .result) (sym (c .before .before .before .answer-asked .ensures) ∙ c .before .enum-told .given .1) in
-    let (k, o) = enabled-code (a .l) (now (a .card)) (stateOf (configured (a .m) (now (a .plan))) .mental) (a .code) e in
+    let asked = c .before .before .before .before .before .before .ask-code in
+    let e = sym (ap isEnabled (asked .ensures (now (a .beliefs)) (now (a .goals)) (record { ready = c .before .before .before .before .before .before .before .before .before .before .before .before .before .before .before .pre; marked = c .before .before .before .before .before .before .before .before .before .judge-nodes .ensures .0 }))) ∙ is-done (asked .result) (sym (c .before .before .before .before .before .answer-asked .ensures) ∙ c .before .before .before .enum-told .given .1) in
+    let (k, o) = enabled-code (a .l) (now (a .card)) (stateOf (configured (now (a .beliefs)) (now (a .goals)) (a .m) (now (a .plan))) .mental) (a .code) e in
     (s .pre, k, o)
 
 answer-to-requires : tie.Need-answer-to-requires
@@ -51,12 +53,12 @@ answer-to-requires c κs = search needs
 
 returns-2 : tie.Need-returns-2
 returns-2 c =
-    let a = c .before .before .before .before .before .before .before .before .before .before .before .before .before .before .args in
+    let a = c .before .before .before .before .before .before .before .before .before .before .before .before .before .before .before .before .before .before .args in
     let A = agentFor (a .l) (now (a .card)) in
-    let d = configured (a .m) (now (a .plan)) in
+    let d = configured (now (a .beliefs)) (now (a .goals)) (a .m) (now (a .plan)) in
     let q = whyClosed (a .l) (now (a .card)) (stateOf d .mental) (choice (a .code)) in
-    let asked = c .before .before .before .before .before .before .before .ask-code in
-    let e = sym (ap isEnabled (asked .ensures)) ∙ is-done (asked .result) (sym (c .before .before .before .before .before .before .answer-asked .ensures) ∙ c .before .before .before .before .enum-told .given .1) in
+    let asked = c .before .before .before .before .before .before .before .before .before .ask-code in
+    let e = sym (ap isEnabled (asked .ensures (now (a .beliefs)) (now (a .goals)) (record { ready = c .before .before .before .before .before .before .before .before .before .before .before .before .before .before .before .before .before .before .pre; marked = c .before .before .before .before .before .before .before .before .before .before .before .before .judge-nodes .ensures .0 }))) ∙ is-done (asked .result) (sym (c .before .before .before .before .before .before .before .before .answer-asked .ensures) ∙ c .before .before .before .before .before .before .enum-told .given .1) in
     let (k, o) = enabled-code (a .l) (now (a .card)) (stateOf d .mental) (a .code) e in
     let s = c .before .before .step .ensures in
     ap₂ reply (c .answer-to .ensures ∙ ap (answerTo Refusal.NoRule) (s .0) ∙ some-answer Refusal.NoRule q _ (enabled-something (a .l) (now (a .card)) d _ o)) (s .1)

@@ -23,4 +23,10 @@ returns c =
     last-row _ _ b (c .before .both-known .result) (ap not (sym good)) (c .row .result) (c .row .ensures) (no-row b)
 
 pub from-sets-spec : {M : Type 1} → statement M
-from-sets-spec = tie.close (tie.spec (λ c. search needs) both-known-requires row-requires returns)
+from-sets-spec =
+    tie.close
+    (tie.spec
+    (λ c. search needs)
+    both-known-requires
+    row-requires
+    returns)

@@ -46,4 +46,11 @@ returns c =
 pub first-spec : {M : Type 1} → statement M
 first-spec =
     tie.close
-    (tie.spec pool-at-requires initial-beliefs-requires initial-goals-requires difference-requires (λ c. search needs) fill-requires returns)
+    (tie.spec
+    pool-at-requires
+    initial-beliefs-requires
+    initial-goals-requires
+    difference-requires
+    (λ c. search needs)
+    fill-requires
+    returns)

@@ -15,25 +15,25 @@ check-requires c κs = search needs
 enum-told : tie.Need-enum-told
 enum-told c = search needs
 
-empty-mind-requires : tie.Need-empty-mind-requires
-empty-mind-requires c κs = search needs
+set-empty-requires : tie.Need-set-empty-requires
+set-empty-requires c κs = search needs
 
 answer-of-requires : tie.Need-answer-of-requires
 answer-of-requires c κs = search needs
 
 returns : tie.Need-returns
 returns c =
-    let b = now (c .before .before .before .before .before .before .before .before .before .before .args .card) in
-    let told = c .before .before .before .enum-told .given .1 in
-    load-card-refused b _ _ told (c .before .before .before .before .before .check .ensures) _ (c .answer-of .ensures) _ (c .before .empty-mind .ensures)
+    let b = now (c .before .before .before .before .before .before .before .before .before .before .before .before .args .card) in
+    let told = c .before .before .before .before .before .enum-told .given .1 in
+    load-card-refused b _ _ told (c .before .before .before .before .before .before .before .check .ensures) _ (c .answer-of .ensures) _ (c .before .set-empty .ensures)
 
 first-requires : tie.Need-first-requires
-first-requires c κs = (accepted-card _ _ (sym (c .before .before .before .before .check .ensures) ∙ c .before .before .checked .given .1), search needs)
+first-requires c κs = (accepted-card _ _ (sym (c .before .before .before .before .before .before .check .ensures) ∙ c .before .before .before .before .checked .given .1), search needs)
 
 returns-2 : tie.Need-returns-2
 returns-2 c =
-    let b = now (c .before .before .before .before .before .before .before .before .before .before .args .card) in
-    load-good b _ (sym (c .before .before .before .before .before .check .ensures) ∙ c .before .before .before .checked .given .1) _ (c .first .ensures)
+    let b = now (c .before .before .before .before .before .before .before .before .before .before .before .before .args .card) in
+    load-good b _ (sym (c .before .before .before .before .before .before .before .check .ensures) ∙ c .before .before .before .before .before .checked .given .1) _ (c .first .ensures)
 
 pub load-spec : {M : Type 1} → statement M
 load-spec =
@@ -43,7 +43,7 @@ load-spec =
     check-requires
     (λ c. search needs)
     enum-told
-    empty-mind-requires
+    set-empty-requires
     answer-of-requires
     returns
     first-requires

@@ -17,7 +17,7 @@ read-parts-requires c κs = search needs
 
 cast-phase : tie.Need-cast-phase
 cast-phase c =
-    let e = ap (λ (h : PlaceParts). h .phase) (c .before .before .before .read-parts .ensures .0) in
+    let e = ap (λ (h : PlaceParts). h .phase) (c .before .read-parts .ensures .0) in
     search (needs, e)
 
 plan-at-requires : tie.Need-plan-at-requires
@@ -43,4 +43,13 @@ returns c =
     λ i. record { mind = record { beliefs = h i .beliefs; goals = h i .goals; length = sym l i; phase = h i .phase; finished = h i .finished }; plan = q i }
 
 pub read-spec : {M : Type 1} → statement M
-read-spec = tie.close (tie.spec read-parts-requires (λ c. search needs) cast-phase (λ c. search needs) plan-at-requires fill-requires returns)
+read-spec =
+    tie.close
+    (tie.spec
+    read-parts-requires
+    (λ c. search needs)
+    cast-phase
+    (λ c. search needs)
+    plan-at-requires
+    fill-requires
+    returns)

@@ -16,39 +16,39 @@ check-requires c κs = search needs
 enum-told : tie.Need-enum-told
 enum-told c = search needs
 
-empty-mind-requires : tie.Need-empty-mind-requires
-empty-mind-requires c κs = search needs
+set-empty-requires : tie.Need-set-empty-requires
+set-empty-requires c κs = search needs
 
 answer-of-requires : tie.Need-answer-of-requires
 answer-of-requires c κs = search needs
 
 returns : tie.Need-returns
 returns c =
-    let a = c .before .before .before .before .before .before .before .before .before .before .before .args in
-    let told = c .before .before .before .enum-told .given .1 in
-    restore-card-refused (now (a .card)) _ _ told (c .before .before .before .before .before .check .ensures) _ (c .answer-of .ensures) (now (a .p)) _ (c .before .empty-mind .ensures)
+    let a = c .before .before .before .before .before .before .before .before .before .before .before .before .before .args in
+    let told = c .before .before .before .before .before .enum-told .given .1 in
+    restore-card-refused (now (a .card)) _ _ told (c .before .before .before .before .before .before .before .check .ensures) _ (c .answer-of .ensures) (now (a .p)) _ (c .before .set-empty .ensures)
 
 judge-place-requires : tie.Need-judge-place-requires
 judge-place-requires c κs = counted _ _ (accepted-card _ _ (sym (c .before .before .before .check .ensures) ∙ c .before .checked .given .1) .layout)
 
-empty-mind-requires-2 : tie.Need-empty-mind-requires-2
-empty-mind-requires-2 c κs = search needs
+set-empty-requires-2 : tie.Need-set-empty-requires-2
+set-empty-requires-2 c κs = search needs
 
 returns-2 : tie.Need-returns-2
 returns-2 c =
-    let a = c .before .before .before .before .before .before .before .before .before .before .before .before .before .before .args in
-    let good = sym (c .before .before .before .before .before .before .before .before .check .ensures) ∙ c .before .before .before .before .before .before .checked .given .1 in
-    let told = c .before .before .enum-told3 .given .1 in
-    restore-refused (now (a .card)) _ good (now (a .p)) _ _ _ told (c .before .before .before .before .judge-place .ensures) (c .empty-mind2 .ensures)
+    let a = c .before .before .before .before .before .before .before .before .before .before .before .before .before .before .before .before .args in
+    let good = sym (c .before .before .before .before .before .before .before .before .before .before .check .ensures) ∙ c .before .before .before .before .before .before .before .before .checked .given .1 in
+    let told = c .before .before .before .before .enum-told3 .given .1 in
+    restore-refused (now (a .card)) _ good (now (a .p)) _ _ _ told (c .before .before .before .before .before .before .judge-place .ensures) (c .set-empty2 .ensures)
 
 read-requires : tie.Need-read-requires
-read-requires c κs = (sized _ _ (sym (c .before .before .before .judge-place .ensures) ∙ c .before .enum-told2 .given .1), search needs)
+read-requires c κs = (sized _ _ (sym (c .before .before .before .before .before .judge-place .ensures) ∙ c .before .before .before .enum-told2 .given .1), search needs)
 
 returns-3 : tie.Need-returns-3
 returns-3 c =
-    let a = c .before .before .before .before .before .before .before .before .before .before .before .before .before .before .args in
-    let good = sym (c .before .before .before .before .before .before .before .before .check .ensures) ∙ c .before .before .before .before .before .before .checked .given .1 in
-    let done = sym (c .before .before .before .before .judge-place .ensures) ∙ c .before .before .enum-told2 .given .1 in
+    let a = c .before .before .before .before .before .before .before .before .before .before .before .before .before .before .before .before .args in
+    let good = sym (c .before .before .before .before .before .before .before .before .before .before .check .ensures) ∙ c .before .before .before .before .before .before .before .before .checked .given .1 in
+    let done = sym (c .before .before .before .before .before .before .judge-place .ensures) ∙ c .before .before .before .before .enum-told2 .given .1 in
     restore-good (now (a .card)) _ good (now (a .p)) _ done (c .read .ensures)
 
 pub restore-spec : {M : Type 1} → statement M
@@ -59,13 +59,13 @@ restore-spec =
     check-requires
     (λ c. search needs)
     enum-told
-    empty-mind-requires
+    set-empty-requires
     answer-of-requires
     returns
     judge-place-requires
     (λ c. search needs)
     (λ c. search needs)
-    empty-mind-requires-2
+    set-empty-requires-2
     returns-2
     read-requires
     returns-3)

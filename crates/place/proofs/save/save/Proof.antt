@@ -16,13 +16,6 @@ use lib.ListN.{length, drop}
 use Rattle.place.proofs.save.save.Statement.{statement}
 use Rattle.place.proofs.save.save.Tie as tie
 
--- the sets of the configuration are as long as their types say
-lb : (c : tie.Start) → length (c .args .m .beliefs) ≡ 32
-lb c = search needs
-
-lg : (c : tie.Start) → length (c .args .m .goals) ≡ 32
-lg c = search needs
-
 admit-requires : tie.Need-admit-requires
 admit-requires c κs = search needs
 
@@ -41,8 +34,8 @@ refused-write-requires c κs = search needs
 returns : tie.Need-returns
 unfolding saves saveLeaves
 returns c =
-    let a = c .before .before .before .before .before .before .before .args in
-    refused-written (now (a .card)) (configured (a .m) (now (a .plan))) _ (c .before .before .before .before .admit .ensures .0) _ (c .before .before .enum-told .given .1) _ (c .before .answer-of .ensures) _ (now (a .out)) _ (c .refused-write .ensures)
+    let a = c .before .before .before .before .before .before .before .before .before .before .before .args in
+    refused-written (now (a .card)) (configured (now (a .beliefs)) (now (a .goals)) (a .m) (now (a .plan))) _ (c .before .before .before .before .admit .ensures .0) _ (c .before .before .enum-told .given .1) _ (c .before .answer-of .ensures) _ (now (a .out)) _ (c .refused-write .ensures)
 
 cast-place-size : tie.Need-cast-place-size
 cast-place-size c = search needs
@@ -64,17 +57,19 @@ refused-write-requires-2 c κs = search needs
 
 -- "the lent list or place buffer is too short"
 too-short : (c : tie.After-enum-told3) (w : WrittenInPlace) → w ≡ record { answer = c .before .before .judge-room .result; count = 0 } →
-    let a = c .before .before .before .before .before .before .before .before .before .before .before .args in
-    let d = configured (a .m) (now (a .plan)) in
+    let a = c .before .before .before .before .before .before .before .before .before .before .before .before .before .before .before .args in
+    let d = configured (now (a .beliefs)) (now (a .goals)) (a .m) (now (a .plan)) in
     (writtenWith w d ≡ saves (now (a .card)) d (now (a .out))) × (now (a .out) ≡ saveLeaves (now (a .card)) d (now (a .out)))
 unfolding saves saveLeaves
 too-short c w q =
-    let a = c .before .before .before .before .before .before .before .before .before .before .before .args in
+    let a = c .before .before .before .before .before .before .before .before .before .before .before .before .before .before .before .args in
     let b = now (a .card) in
-    let d = configured (a .m) (now (a .plan)) in
+    let d = configured (now (a .beliefs)) (now (a .goals)) (a .m) (now (a .plan)) in
+    let lb : length (now (a .beliefs)) ≡ 32 = search needs in
+    let lg : length (now (a .goals)) ≡ 32 = search needs in
     let v = c .before .before .before .before .before .before .before .before .admit in
     let g = c .before .before .before .before .before .before .admitted .given .1 in
-    let m = c .before .before .before .place-size .ensures ∙ place-length _ b d (v .ensures .1 _ g) (lb (c .before .before .before .before .before .before .before .before .before .before .before)) (lg (c .before .before .before .before .before .before .before .before .before .before .before)) in
+    let m = c .before .before .before .place-size .ensures ∙ place-length _ b d (v .ensures .1 _ g) lb lg in
     let j = c .before .before .judge-room in
     written-none b d (admitted-good b d _ (v .ensures .0) _ g .0) _ (now (a .out)) _ m (j .result) (j .ensures) _ (c .enum-told3 .given .1) w q
 
@@ -94,7 +89,7 @@ write-place-requires c κs =
     let s = c .before .before .before .before .place-size in
     let j = c .before .before .before .judge-room in
     let r = c .before .before .before .before .before .before .before .before .before .admit .ensures .1 _ (c .before .before .before .before .before .before .before .admitted .given .1) in
-    (r .fits, rw (s .ensures) at (is-room (s .result) (length (now (c .before .before .before .before .before .before .before .before .before .before .before .before .args .out))) (j .result) (j .ensures) (c .before .enum-told2 .given .1)), r .room)
+    (r .fits, rw (s .ensures) at (is-room (s .result) (length (now (c .before .before .before .before .before .before .before .before .before .before .before .before .before .before .before .before .args .out))) (j .result) (j .ensures) (c .before .enum-told2 .given .1)), r .room)
 
 same-length : tie.Need-same-length
 same-length c = search needs
@@ -102,12 +97,14 @@ same-length c = search needs
 returns-3 : tie.Need-returns-3
 unfolding saves saveLeaves
 returns-3 c =
-    let a = c .before .before .before .before .before .before .before .before .before .before .before .before .before .before .before .args in
+    let a = c .before .before .before .before .before .before .before .before .before .before .before .before .before .before .before .before .before .before .before .args in
     let b = now (a .card) in
-    let d = configured (a .m) (now (a .plan)) in
+    let d = configured (now (a .beliefs)) (now (a .goals)) (a .m) (now (a .plan)) in
+    let lb : length (now (a .beliefs)) ≡ 32 = (let k = c .before .before .before .before .before .before .before .before .before .before .before .before .before .before .before .before .size-arg .given in search (needs, k)) in
+    let lg : length (now (a .goals)) ≡ 32 = (let k = c .before .before .before .before .before .before .before .before .before .before .before .before .before .before .size-arg2 .given in search (needs, k)) in
     let v = c .before .before .before .before .before .before .before .before .before .before .before .before .admit in
     let g = c .before .before .before .before .before .before .before .before .before .before .admitted .given .1 in
-    let m = c .before .before .before .before .before .before .before .place-size .ensures ∙ place-length _ b d (v .ensures .1 _ g) (lb (c .before .before .before .before .before .before .before .before .before .before .before .before .before .before .before)) (lg (c .before .before .before .before .before .before .before .before .before .before .before .before .before .before .before)) in
+    let m = c .before .before .before .before .before .before .before .place-size .ensures ∙ place-length _ b d (v .ensures .1 _ g) lb lg in
     let j = c .before .before .before .before .before .before .judge-room in
     written-all b d (admitted-good b d _ (v .ensures .0) _ g .0) _ (now (a .out)) _ m (j .result) (j .ensures) (c .before .before .before .before .enum-told2 .given .1) _
     (c .before .before .write-place .ensures ∙ ap₂ (λ (x : Layout) k. place x (stateOf d) ++ drop k (now (a .out))) (v .ensures .1 _ g .card .layout .says) (sym (c .before .before .before .before .before .before .before .place-size .ensures) ∙ m))
@@ -116,6 +113,8 @@ pub save-spec : {M : Type 1} → statement M
 save-spec =
     tie.close
     (tie.spec
+    (λ c κs. search needs)
+    (λ c κs. search needs)
     admit-requires
     enum-known-admitted
     enum-told
