@@ -81,9 +81,8 @@
  * list 1,280, next 1,200, take 1,048, run 1,096, take_bounded 1,592, run_bounded 1,640,
  * deliberate 1,416, go_on 1,464, save 624, restore 816, text 33,440 (24,928 where nothing nests,
  * 80 more for the first bracket and 272 for each further one), print 1,760, name 656. All but text
- * run on a stack of 2,048. On 64-bit Arm
- * text takes 33,952, and each other call at most 0 more than on x86-64: all but text run on
- * 2,048.
+ * run on a stack of 2,048. On 64-bit Arm text takes 33,952, and each other call at most 8 more than
+ * on x86-64: all but text run on 2,048.
  */
 #ifndef RIGTEMPLE_H
 #define RIGTEMPLE_H
