@@ -30,7 +30,8 @@ enum {
     NO_RULE,
     FRONT,
     CONDITION,
-    PROGRAM = 19
+    PROGRAM = 19,
+    OPEN_OR_HEAVY = 22
 };
 
 enum { SELECT, ACT, REVISE };                                  /* the kinds, in the phases' order */
@@ -503,6 +504,20 @@ uint16_t engine_grade(const uint8_t *card, size_t card_len, uint8_t *verdict, ui
     return answer;
 }
 
+/* Whether a card is open or a plan beside it weighs over 1,024. */
+static int open_or_heavy(const struct card *c, const uint8_t *plan, unsigned length)
+{
+    struct sums s;
+    uint32_t weight = 0;
+    unsigned n;
+    for (unsigned i = 0; i < length; i++)
+        weight += number(c->weight + 2 * plan[i]);
+    if (weight > 1024)
+        return 1;
+    sum_up(&s, c);
+    return first_offender(&s, &n) != NONE;
+}
+
 /* ---- conditions and enabled rules ---- */
 
 /* Judges the first `count` nodes, each after its children: one mark a node. */
@@ -746,6 +761,20 @@ static uint16_t take_revision(const struct card *c, struct parts d, unsigned i, 
     return DONE;
 }
 
+static uint16_t take(const struct card *c, struct parts d, uint16_t choice, uint16_t *node)
+{
+    switch (choice / 256) {
+    case SELECT:
+        return take_selection(c, d, choice % 256u, node);
+    case ACT:
+        return take_action(c, d, choice % 256u, node);
+    case REVISE:
+        return take_revision(c, d, choice % 256u, node);
+    default:
+        return NO_RULE;
+    }
+}
+
 uint16_t engine_take(const uint8_t *card, size_t card_len, uint8_t *beliefs, uint8_t *goals,
                      uint8_t *plan, uint16_t *length, uint8_t *phase, uint16_t *finished,
                      uint16_t choice, uint16_t *node)
@@ -758,16 +787,24 @@ uint16_t engine_take(const uint8_t *card, size_t card_len, uint8_t *beliefs, uin
         return answer;
     if (!known_configuration(&c, beliefs, goals, plan, *length, *phase))
         return CONFIGURATION;
-    switch (choice / 256) {
-    case SELECT:
-        return take_selection(&c, d, choice % 256u, node);
-    case ACT:
-        return take_action(&c, d, choice % 256u, node);
-    case REVISE:
-        return take_revision(&c, d, choice % 256u, node);
-    default:
-        return NO_RULE;
-    }
+    return take(&c, d, choice, node);
+}
+
+uint16_t engine_take_bounded(const uint8_t *card, size_t card_len, uint8_t *beliefs,
+                             uint8_t *goals, uint8_t *plan, uint16_t *length, uint8_t *phase,
+                             uint16_t *finished, uint16_t choice, uint16_t *node)
+{
+    struct card c;
+    struct parts d = {beliefs, goals, plan, length, phase, finished};
+    *node = 0;
+    uint16_t answer = check(card, card_len, &c);
+    if (answer != DONE)
+        return answer;
+    if (!known_configuration(&c, beliefs, goals, plan, *length, *phase))
+        return CONFIGURATION;
+    if (open_or_heavy(&c, plan, *length))
+        return OPEN_OR_HEAVY;
+    return take(&c, d, choice, node);
 }
 
 /* ---- run ---- */
@@ -881,6 +918,28 @@ uint16_t engine_run(const uint8_t *card, size_t card_len, uint8_t *beliefs, uint
         return answer;
     if (!known_configuration(&c, beliefs, goals, plan, *length, *phase))
         return CONFIGURATION;
+    set_out(&w, &c, d);
+    *count = (uint16_t)walk(&w, budget, ending);
+    arrive(&w, d);
+    return DONE;
+}
+
+uint16_t engine_run_bounded(const uint8_t *card, size_t card_len, uint8_t *beliefs, uint8_t *goals,
+                            uint8_t *plan, uint16_t *length, uint8_t *phase, uint16_t *finished,
+                            uint16_t budget, uint16_t *count, uint8_t *ending)
+{
+    struct card c;
+    struct walk w;
+    struct parts d = {beliefs, goals, plan, length, phase, finished};
+    *count = 0;
+    *ending = SPENT;
+    uint16_t answer = check(card, card_len, &c);
+    if (answer != DONE)
+        return answer;
+    if (!known_configuration(&c, beliefs, goals, plan, *length, *phase))
+        return CONFIGURATION;
+    if (open_or_heavy(&c, plan, *length))
+        return OPEN_OR_HEAVY;
     set_out(&w, &c, d);
     *count = (uint16_t)walk(&w, budget, ending);
     arrive(&w, d);

@@ -1,6 +1,6 @@
 /*
- * The engine: the eight calls of document 01, with document 02's wishes 1, 2, 4, 5, 6, 8 and
- * 9, and `next` and `go on`, in hand-written C, with no proofs, as the program that the library is
+ * The engine: the eight calls of document 01, with document 02's wishes 1, 2, 4, 5, 6, 8, 9 and
+ * 10, and `next` and `go on`, in hand-written C, with no proofs, as the program that the library is
  * measured against. The parameters and answers are those of the functions `rigtemple_..._parts` in
  * include/rigtemple.h.
  */
@@ -29,6 +29,14 @@ uint16_t engine_take(const uint8_t *card, size_t card_len, uint8_t *beliefs, uin
 uint16_t engine_run(const uint8_t *card, size_t card_len, uint8_t *beliefs, uint8_t *goals,
                     uint8_t *plan, uint16_t *length, uint8_t *phase, uint16_t *finished,
                     uint16_t budget, uint16_t *count, uint8_t *ending);
+
+uint16_t engine_take_bounded(const uint8_t *card, size_t card_len, uint8_t *beliefs,
+                             uint8_t *goals, uint8_t *plan, uint16_t *length, uint8_t *phase,
+                             uint16_t *finished, uint16_t choice, uint16_t *node);
+
+uint16_t engine_run_bounded(const uint8_t *card, size_t card_len, uint8_t *beliefs, uint8_t *goals,
+                            uint8_t *plan, uint16_t *length, uint8_t *phase, uint16_t *finished,
+                            uint16_t budget, uint16_t *count, uint8_t *ending);
 
 uint16_t engine_next(const uint8_t *card, size_t card_len, const uint8_t *beliefs,
                      const uint8_t *goals, const uint8_t *plan, uint16_t length, uint8_t phase,

@@ -21,7 +21,7 @@
 #include "engine.h"
 
 enum { CHECK, LOAD, GRADE, LIST, TAKE, REFUSED, RUN_1, RUN_9, SAVE, RESTORE, DELIBERATE, TEXT,
-       PRINT, NAME, NEXT, GO_ON_1, GO_ON };
+       PRINT, NAME, NEXT, TAKE_BOUNDED, RUN_BOUNDED, GO_ON_1, GO_ON };
 enum { BEFORE = 3, ENOUGH = 1000 };
 
 /* A revision of the stripe card whose condition is false then. */
@@ -66,6 +66,8 @@ static size_t wrong;
     case RESTORE: return of##restore##parts(CARD, place, place_len, PARTS);                   \
     case DELIBERATE: return of##deliberate##parts(CARD, PROGRAM, PARTS, ENOUGH, LEFT);        \
     case NEXT: return of##next##parts(CARD, PARTS_READ, &coming, &number);                    \
+    case TAKE_BOUNDED: return of##take_bounded##parts(CARD, PARTS, list[0], &node);           \
+    case RUN_BOUNDED: return of##run_bounded##parts(CARD, PARTS, 9, &moves, &ending);         \
     case GO_ON_1: return of##go_on##parts(CARD, PROGRAM, NUMBERS, PARTS, 1, LEFT);            \
     case GO_ON: return of##go_on##parts(CARD, PROGRAM, NUMBERS, PARTS, ENOUGH, LEFT);         \
     case TEXT: return of##text##parts(text.bytes, text.len, made, sizeof made, &number, &wrong); \

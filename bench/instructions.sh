@@ -43,7 +43,7 @@ printf '%-28s %10s %10s %7s\n' instructions ours engine ratio
 for card in 0:stripe 1:typical; do
     for what in 0:check 1:load 2:grade 3:list 4:take 5:'take, with 16' 6:'run of 1' \
         7:'run of 9' 8:save 9:restore 10:deliberate 11:text 12:print 13:name 14:next \
-        15:'go on by 1' 16:'go on to the end'; do
+        15:'take on a bounded card' 16:'run of 9 on a bounded card' 17:'go on by 1' 18:'go on to the end'; do
         [ "$card $what" != '1:typical 5:take, with 16' ] || continue
         ours=$(call 0 "${card%%:*}" "${what%%:*}")
         engine=$(call 1 "${card%%:*}" "${what%%:*}")

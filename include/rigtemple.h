@@ -5,11 +5,11 @@
  * is where a weaver stands in it: what is believed of the warp, which goals are open, the
  * plan of actions still to be done, the phase, and how many plans are finished. A place is a
  * configuration as bytes to keep. A program says in a shed's own words which move comes next. A
- * sheet has a name for each action of a card, in one language. The fourteen calls below check and
+ * sheet has a name for each action of a card, in one language. The sixteen calls below check and
  * grade a card, make the first configuration, list the moves that are possible, tell the one that
- * comes next, take one, run by themselves or by a program, go on with a program, save and restore a
- * place, make a card from a designer's text, print a condition of a card as such text, and find the
- * name of an action.
+ * comes next, take one, run by themselves or by a program, go on with a program, take one and run on
+ * a bounded card, save and restore a place, make a card from a designer's text, print a condition of
+ * a card as such text, and find the name of an action.
  *
  * The rule for an app, so that no pick is skipped and no band is woven twice:
  *
@@ -42,7 +42,7 @@
  *    refusal. Where more than one refusal would fit, the card's come first (1 for a file under 4
  *    bytes, 2, 1 for one shorter than its edition's header, and 3 to 9 in that order), then the
  *    place's (the same, of 1, 2, 3, 4, 8, 9) or those of the program and its numbers (19) and
- *    the configuration's (13), then 14, 15, 16, 11 and 12. A text is refused with 17, 18, 25, then
+ *    the configuration's (13), then 22, 14, 15, 16, 11 and 12. A text is refused with 17, 18, 25, then
  *    with what the card that it would make is refused with, then with 12; a name with 1 to 9, then
  *    20 for the shed's sheet, 20 for the master's, and 21. No call answers 10.
  *  - Every buffer is the caller's. The library keeps no memory, no pointer and no state
@@ -59,6 +59,10 @@
  * in its card's edition, and one of the other edition is refused with 2. A configuration has no
  * edition: its sets are 32 bytes, and under a card of edition 1 an atom from 128 on is unknown.
  *
+ * New in 4.1: rigtemple_take_bounded and rigtemple_run_bounded, for cards that rigtemple_grade calls
+ * bounded and plans that weigh at most 1,024: an app that uses them needs no panel for a plan that
+ * got too long. They are only added: what an app did with 4.0 it does as before.
+ *
  * New in 4.0: cards and places of edition 2, and so sets of 32 bytes in struct
  * rigtemple_configuration, larger cards and places, and refusal 2 before 1 for a file of 4 bytes or
  * more with a wrong mark or edition. Files of edition 1 that were accepted are read as before. An
@@ -73,12 +77,12 @@
  * with it twice that; to print takes RIGTEMPLE_MOST_PRINTED_BYTES; a sheet has
  * RIGTEMPLE_MOST_SHEET_BYTES at most; a text to be read has no limit.
  *
- * Bytes of stack, as tests/stack.sh measures them on x86-64: check 512, load 624, grade 1,664,
- * list 1,280, next 1,200, take 1,200, run 1,232, deliberate 1,416, go_on 1,464, save 624,
- * restore 816, text 33,440 (24,928 where nothing nests, 80 more for the first bracket and 272 for
- * each further one), print 1,760, name 656. All but text run on a stack of 2,048. On 64-bit Arm
- * text takes 33,952, and each other call at most 0 more than on x86-64: all but text run on
- * 2,048.
+ * Bytes of stack, as tests/stack.sh measures them on x86-64: check 512, load 624, grade 1,352,
+ * list 1,280, next 1,200, take 1,048, run 1,096, take_bounded 1,592, run_bounded 1,640,
+ * deliberate 1,416, go_on 1,464, save 624, restore 816, text 33,440 (24,928 where nothing nests,
+ * 80 more for the first bracket and 272 for each further one), print 1,760, name 656. All but text
+ * run on a stack of 2,048. On 64-bit Arm text takes 33,952, and each other call at most 8 more than
+ * on x86-64: all but text run on 2,048.
  */
 #ifndef RIGTEMPLE_H
 #define RIGTEMPLE_H
@@ -92,9 +96,9 @@ extern "C" {
 
 /* The version of this header's interface. The first number rises with a change that an app has
  * to follow, and the second is then 0; the second rises with what is only added. */
-#define RIGTEMPLE_VERSION "4.0"
+#define RIGTEMPLE_VERSION "4.1"
 #define RIGTEMPLE_VERSION_FIRST 4
-#define RIGTEMPLE_VERSION_SECOND 0
+#define RIGTEMPLE_VERSION_SECOND 1
 
 /* Marks an answer that must not be ignored, for the compilers that know it. */
 #if defined(__cplusplus) && __cplusplus >= 201703L
@@ -144,6 +148,7 @@ extern "C" {
 #define RIGTEMPLE_ANSWER_PROGRAM 19
 #define RIGTEMPLE_ANSWER_SHEET 20
 #define RIGTEMPLE_ANSWER_NO_ACTION 21
+#define RIGTEMPLE_ANSWER_OPEN_OR_HEAVY 22
 #define RIGTEMPLE_ANSWER_LARGE 25
 
 /* The name of an answer, for a log: "plan full" for 11. */
@@ -153,11 +158,11 @@ static inline const char *rigtemple_answer_name(uint16_t answer)
         "done",    "short",         "mark",        "count", "offsets",   "weight",
         "node",    "rule",          "action byte", "atom",  "given up",  "plan full",
         "no room", "configuration", "no rule",     "front", "condition", "text",
-        "nested",  "program",       "sheet",       "no action",
+        "nested",  "program",       "sheet",       "no action", "open or heavy",
     };
     if (answer == RIGTEMPLE_ANSWER_LARGE)
         return "large";
-    return answer <= RIGTEMPLE_ANSWER_NO_ACTION ? names[answer] : "no answer of the guide";
+    return answer <= RIGTEMPLE_ANSWER_OPEN_OR_HEAVY ? names[answer] : "no answer of the guide";
 }
 
 /* What an answer says was refused. */
@@ -199,12 +204,13 @@ static inline const char *rigtemple_answer_sentence(uint16_t answer)
         "a sheet's count is not the card's number of actions, an offset is not the required one or "
         "falls, a name is not UTF-8, or a master name is empty; which of the two is told with it",
         "the card has no such action",
+        "the card is open, or the plan weighs more than 1,024",
     };
     if (answer == RIGTEMPLE_ANSWER_LARGE)
         return "a number is too large for its field, or there are more entries, nodes or pool "
                "bytes than a card can have; or a printed condition has more than 256 nodes";
-    return answer <= RIGTEMPLE_ANSWER_NO_ACTION ? sentences[answer]
-                                                : "the guide gives no such answer";
+    return answer <= RIGTEMPLE_ANSWER_OPEN_OR_HEAVY ? sentences[answer]
+                                                    : "the guide gives no such answer";
 }
 
 /* Kinds of moves. */
@@ -228,6 +234,12 @@ static inline const char *rigtemple_answer_sentence(uint16_t answer)
 #define RIGTEMPLE_ENDING_SPENT 0 /* as many moves were taken as the budget allows */
 #define RIGTEMPLE_ENDING_REST 1  /* no move is possible */
 #define RIGTEMPLE_ENDING_FULL 2  /* the next move would leave more than 1,024 actions: not taken */
+
+/* Endings of a run on a bounded card: there is no third. */
+enum rigtemple_bounded_ending {
+    RIGTEMPLE_BOUNDED_SPENT = 0, /* as many moves were taken as the budget allows */
+    RIGTEMPLE_BOUNDED_REST = 1   /* no move is possible */
+};
 
 /* What comes next of the guide's own. */
 #define RIGTEMPLE_NEXT_MOVE 0 /* a move */
@@ -283,7 +295,7 @@ struct rigtemple_configuration {
     uint16_t finished;
 };
 
-/* ---- the functions of the library: the fourteen calls over the parts of a configuration.
+/* ---- the functions of the library: the sixteen calls over the parts of a configuration.
  * `beliefs` and `goals` are 32 bytes each, `plan` is 1,024 bytes, `remaining` is 128 bytes. An app
  * writes rigtemple_..._parts in C and C++; the symbol has the version's first number too. ---- */
 
@@ -294,6 +306,8 @@ struct rigtemple_configuration {
 #define rigtemple_next_parts rigtemple_4_next_parts
 #define rigtemple_take_parts rigtemple_4_take_parts
 #define rigtemple_run_parts rigtemple_4_run_parts
+#define rigtemple_take_bounded_parts rigtemple_4_take_bounded_parts
+#define rigtemple_run_bounded_parts rigtemple_4_run_bounded_parts
 #define rigtemple_deliberate_parts rigtemple_4_deliberate_parts
 #define rigtemple_go_on_parts rigtemple_4_go_on_parts
 #define rigtemple_save_parts rigtemple_4_save_parts
@@ -338,6 +352,18 @@ uint16_t rigtemple_4_run_parts(const uint8_t *card, size_t card_len, uint8_t *be
                                uint8_t *ending);
 
 RIGTEMPLE_LOOK_AT_ANSWER
+uint16_t rigtemple_4_take_bounded_parts(const uint8_t *card, size_t card_len, uint8_t *beliefs,
+                                        uint8_t *goals, uint8_t *plan, uint16_t *length,
+                                        uint8_t *phase, uint16_t *finished, uint16_t choice,
+                                        uint16_t *node);
+
+RIGTEMPLE_LOOK_AT_ANSWER
+uint16_t rigtemple_4_run_bounded_parts(const uint8_t *card, size_t card_len, uint8_t *beliefs,
+                                       uint8_t *goals, uint8_t *plan, uint16_t *length,
+                                       uint8_t *phase, uint16_t *finished, uint16_t budget,
+                                       uint16_t *moves, uint8_t *ending);
+
+RIGTEMPLE_LOOK_AT_ANSWER
 uint16_t rigtemple_4_deliberate_parts(const uint8_t *card, size_t card_len, const uint8_t *program,
                                       size_t program_len, uint8_t *beliefs, uint8_t *goals,
                                       uint8_t *plan, uint16_t *length, uint8_t *phase,
@@ -378,7 +404,7 @@ uint16_t rigtemple_4_name_parts(const uint8_t *card, size_t card_len, const uint
                                 size_t shed_len, const uint8_t *master, size_t master_len,
                                 uint16_t action, uint8_t *sheet, uint16_t *start, uint16_t *length);
 
-/* ---- the fourteen calls ---- */
+/* ---- the sixteen calls ---- */
 
 /* Judges a card.
  * Answers 0 if it is good, and 1 to 9 if it is not. Nothing is written. */
@@ -482,6 +508,43 @@ static inline uint16_t rigtemple_run(const uint8_t *card, size_t card_len,
 {
     return rigtemple_run_parts(card, card_len, c->beliefs, c->goals, c->plan, &c->length,
                                &c->phase, &c->finished, budget, moves, ending);
+}
+
+/* Takes the move that the weaver chose, on a bounded card: as rigtemple_take, but that the plan
+ * never gets too long, so that it never answers 11.
+ * Answers 0, or 1 to 9, 13, then 22 if rigtemple_grade calls the card open or the plan of `c` weighs
+ * more than 1,024 (each action as much as the card says, as often as it stands there), and else 14,
+ * 15 or 16 as rigtemple_take does. What it leaves weighs at most 1,024 again, and so do what
+ * rigtemple_load and rigtemple_run_bounded leave of a bounded card, and what is saved and restored:
+ * a day that begins with one of these never meets 22. A refusal leaves `c` as it came in, and `node`
+ * is written in each case as by rigtemple_take.
+ * The card is graded in each call, which takes longer than the move itself: docs/MEASURED.md. */
+RIGTEMPLE_LOOK_AT_ANSWER
+static inline uint16_t rigtemple_take_bounded(const uint8_t *card, size_t card_len,
+                                              struct rigtemple_configuration *c, uint16_t choice,
+                                              uint16_t *node)
+{
+    return rigtemple_take_bounded_parts(card, card_len, c->beliefs, c->goals, c->plan, &c->length,
+                                        &c->phase, &c->finished, choice, node);
+}
+
+/* Runs by itself on a bounded card: as rigtemple_run, but that it is never full, so that `ending`
+ * has two values.
+ * Answers 0 (with each of the two endings), or 1 to 9, 13, or 22 as rigtemple_take_bounded does. A
+ * refusal leaves `c` as it came in, and writes 0 to `moves` and RIGTEMPLE_BOUNDED_SPENT to `ending`.
+ * The card is graded once, before the first move. */
+RIGTEMPLE_LOOK_AT_ANSWER
+static inline uint16_t rigtemple_run_bounded(const uint8_t *card, size_t card_len,
+                                             struct rigtemple_configuration *c, uint16_t budget,
+                                             uint16_t *moves,
+                                             enum rigtemple_bounded_ending *ending)
+{
+    uint8_t number;
+    uint16_t answer = rigtemple_run_bounded_parts(card, card_len, c->beliefs, c->goals, c->plan,
+                                                  &c->length, &c->phase, &c->finished, budget,
+                                                  moves, &number);
+    *ending = number == 0 ? RIGTEMPLE_BOUNDED_SPENT : RIGTEMPLE_BOUNDED_REST;
+    return answer;
 }
 
 /* Moves by a program of the shed's own, for `budget` moves at most, and changes `c` to the

@@ -21,6 +21,7 @@ import schemes
 import sheets
 import text
 import texts
+import weighed
 import wordings
 
 REQUEST_LIMIT = 50
@@ -31,13 +32,18 @@ CARD_BYTES_LIMIT = 65535
 CALL_NAMES = ("check", "load", "grade", "list", "take", "run", "save", "restore")
 CALL_NAMES += ("text", "print", "deliberate", "name", "go on", "next")
 CALL_KINDS = (*range(drill.CHECK, drill.NAME + 1), drill.GO_ON, drill.NEXT)
-ANSWER_NUMBERS = (*range(22), 25)
+ANSWER_NUMBERS = (*range(23), 25)
 CALLS_ON_CONFIGURATIONS = (drill.LIST, drill.TAKE, drill.RUN, drill.SAVE)
+
+# The calls of the requests from 10 on, of which the drill may not have all yet.
+LATER_CALLS = {drill.BOUNDED_TAKE: "bound take", drill.BOUNDED_RUN: "bound run"}
+CALL_NAMES += tuple(name for kind, name in LATER_CALLS.items() if kind in drill.ANSWERS)
+CALL_KINDS += tuple(kind for kind in LATER_CALLS if kind in drill.ANSWERS)
 
 
 class Case(NamedTuple):
     """A case: its name (which clause or shape), a card, and requests about it
-    (kinds 1 to 12, 21 and 22 of the drill). A text is read whatever the card is."""
+    (kinds 1 to 14, 21 and 22 of the drill). A text is read whatever the card is."""
 
     name: str
     card: bytes
@@ -70,9 +76,16 @@ def request_about(random, kind, configuration, value):
 
 
 def read_about(request):
-    """The kind, the configuration and the number of a request 4 to 7."""
+    """The kind, the configuration and the number of a request 4 to 7, 13 or 14."""
     reader = drill.Reader(request)
     return reader.byte(), reader.image(), reader.number()
+
+
+def on_a_bounded_card(request):
+    """13 "as 5", 14 "as 6": the same request of the call for bounded cards; None where there
+    is no such call."""
+    kind = {drill.TAKE: drill.BOUNDED_TAKE, drill.RUN: drill.BOUNDED_RUN}.get(request[0])
+    return None if kind is None else bytes([kind]) + request[1:]
 
 
 def request_restore(place):
@@ -784,6 +797,79 @@ def generate_next(seed, count, largest=cards.CARD_LIMIT):
         yield Case("next moves", card, asked)
 
 
+# --- cases of bounded cards -------------------------------------------------
+
+
+def weighed_configurations(random, accepted):
+    """Configurations with plans that weigh just so much: around 1,024, and light ones."""
+    weights = random.sample(weighed.WEIGHTS, 4) + [random.randint(1, 1024)]
+    found = [weighed.weighing(random, accepted, weight) for weight in weights]
+    return [held for held in found if held is not None]
+
+
+def bounded_requests_on(random, card, accepted, held):
+    """Takes of enabled choices and of refused ones, and a run."""
+    _, _, codes = guide.list_choices(card, held, 1024)
+    made = take_requests(random, accepted, held, codes, 3)
+    budget = some_budget(random, card, held)
+    return made + [request_about(random, drill.RUN, held, budget)]
+
+
+def damaged_bounded_requests(random, accepted, held):
+    """A take or a run on damaged configurations, and on one just inside a range."""
+    chosen = [random.choice(damage.CONFIGURATION_DAMAGES) for _ in range(2)]
+    chosen.append(random.choice(damage.CONFIGURATION_RANGES))
+    made = [one.change(random, accepted, random.choice(held)) for one in chosen]
+    kinds = drill.TAKE, drill.RUN
+    return [call_of_kind(random, random.choice(kinds), one) for one in made if one is not None]
+
+
+def bounded_requests(random, card):
+    """The requests about a good card, bounded or open, 50 at most: from plans that weigh
+    just so much, from plans that are nearly full, from those that the card comes to, and
+    from damaged configurations."""
+    _, accepted = guide.judge(card)
+    held = weighed_configurations(random, accepted) + some_configurations(random, card, accepted)
+    made = damaged_bounded_requests(random, accepted, held)
+    made += full_requests(random, accepted) + closed_requests(random, accepted)
+    made += emptying_requests(random, accepted) + believed_requests(random, accepted)
+    for one in held:
+        made += bounded_requests_on(random, card, accepted, one)
+    asked = [on_a_bounded_card(request) for request in made]
+    return [request for request in asked if request is not None][:REQUEST_LIMIT]
+
+
+def refused_bounded_requests(random, count):
+    """So many requests about a refused card, from configurations of another one, light and
+    heavy."""
+    base = weighed.some_card(random, 700)
+    _, accepted = guide.judge(base)
+    held = weighed_configurations(random, accepted) + [random_configuration(random, accepted)]
+    held.append(held[0]._replace(phase=3))
+    kinds = drill.TAKE, drill.RUN
+    made = [call_of_kind(random, random.choice(kinds), random.choice(held)) for _ in range(count)]
+    return [on_a_bounded_card(request) for request in made]
+
+
+def bounded_case(random, items, largest):
+    """A case of the calls for bounded cards, one in eight about a damaged one."""
+    if random.random() < 0.125:
+        card = next_damaged_case(random, items, largest).card
+    else:
+        card = weighed.some_card(random, largest)
+    if guide.check(card) != guide.DONE:
+        return Case("bounded cards", card, refused_bounded_requests(random, 4))
+    return Case("bounded cards", card, bounded_requests(random, card))
+
+
+def generate_bounded(seed, count, largest=cards.CARD_LIMIT):
+    """So many cases of the calls for bounded cards, by seed: no card of more than `largest`
+    bytes."""
+    items = itertools.cycle(damage_order(seed))
+    for index in range(count):
+        yield bounded_case(Random("%s bounded %d" % (seed, index)), items, largest)
+
+
 # --- cases of names ---------------------------------------------------------
 
 # How many actions the cards of these cases have.
@@ -846,6 +932,10 @@ def generate_names(seed, count, largest=cards.CARD_LIMIT):
 
 # --- the command ------------------------------------------------------------
 
+# The sorts of cases of the requests from 10 on: the request, the option that says how many,
+# what is counted, and what makes so many of them.
+LATER_SORTS = ((10, "bounded", "cases of takes and runs on bounded cards", generate_bounded),)
+LANDED_SORTS = tuple(sort for sort in LATER_SORTS if sort[0] in drill.LANDED)
 
 # The width of a column of the table.
 COLUMN = 11
@@ -894,6 +984,8 @@ def main():
     parser.add_argument("--names", type=int, default=0)
     parser.add_argument("--cuts", type=int, default=0)
     parser.add_argument("--next", type=int, default=0)
+    for _, option, counted, _ in LANDED_SORTS:
+        parser.add_argument("--" + option, type=int, default=0, help="how many " + counted)
     parser.add_argument("--largest", type=int, default=cards.CARD_LIMIT)
     parser.add_argument("--requests", required=True)
     parser.add_argument("--answers", required=True)
@@ -906,6 +998,7 @@ def main():
         generate_names(asked.seed, asked.names, largest),
         generate_cuts(asked.seed, asked.cuts, largest),
         generate_next(asked.seed, asked.next, largest),
+        *(make(asked.seed, getattr(asked, option), largest) for _, option, _, make in LANDED_SORTS),
     )
     with open(asked.requests, "wb") as requests, open(asked.answers, "wb") as answers:
         met = count_answers(cases, requests, answers)

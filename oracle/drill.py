@@ -1,20 +1,27 @@
 """The drill: requests on standard input, an answer for each on standard output.
 
 The requests and answers are those of drill.md, with what the requests 1, 2, 4, 6, 8 and 9 of
-document 02 add to them, and with 21 "go on" and 22 "next"; numbers of two or four bytes are
-low byte first.
+document 02 add to them, with 21 "go on" and 22 "next", and with what `LANDED` names; numbers
+of two or four bytes are low byte first.
 """
 
 import struct
 import sys
 
+import bounded
 import deliberation
 import guide
 import names
 import text
 
+# The requests of document 02 from 10 on that the drill of this tree has: "what the change
+# requests add, each from its landing on". What is not in this set is not answered, and no
+# case of it is made, stored or compared.
+LANDED = {10}
+
 CARD, CHECK, LOAD, GRADE, LIST, TAKE, RUN, SAVE, RESTORE, TEXT, PRINT = range(11)
 DELIBERATE, NAME = 11, 12
+BOUNDED_TAKE, BOUNDED_RUN = 13, 14
 GO_ON, NEXT = 21, 22
 
 IMAGE_LIMIT = 1024
@@ -121,15 +128,21 @@ def answer_list(card, reader):
 def answer_take(card, reader):
     """5 take: number (2), "the node (2: with 16 the one that settled it, else
     0)", image."""
-    configuration, choice = reader.image(), reader.number()
-    number, node, configuration = guide.take(card, configuration, choice)
+    return taken(*guide.take(card, reader.image(), reader.number()))
+
+
+def taken(number, node, configuration):
+    """What 5 and 13 answer."""
     return two(number) + two(node) + image(configuration)
 
 
 def answer_run(card, reader):
     """6 run: number (2), image, count (2), ending (1)."""
-    configuration, budget = reader.image(), reader.number()
-    number, configuration, count, ending = guide.run(card, configuration, budget)
+    return ran(*guide.run(card, reader.image(), reader.number()))
+
+
+def ran(number, configuration, count, ending):
+    """What 6 and 14 answer."""
     return two(number) + image(configuration) + two(count) + bytes([ending])
 
 
@@ -185,6 +198,16 @@ def answer_name(card, reader):
     return two(number) + bytes([sheet]) + two(start) + two(length)
 
 
+def answer_bounded_take(card, reader):
+    """13 take on a bounded card: "as 5"."""
+    return taken(*bounded.take(card, reader.image(), reader.number()))
+
+
+def answer_bounded_run(card, reader):
+    """14 run on a bounded card: "as 6"."""
+    return ran(*bounded.run(card, reader.image(), reader.number()))
+
+
 def answer_go_on(card, reader):
     """21 go on: "as 11; with a refusal m is 0"."""
     program = reader.next_bytes(reader.number(PROGRAM_LIMIT))
@@ -220,6 +243,13 @@ ANSWERS = {
     GO_ON: answer_go_on,
     NEXT: answer_next,
 }
+
+# What the requests of document 02 from 10 on add, by their number.
+LATER_ANSWERS = {
+    10: {BOUNDED_TAKE: answer_bounded_take, BOUNDED_RUN: answer_bounded_run},
+}
+for landed in LANDED:
+    ANSWERS.update(LATER_ANSWERS[landed])
 
 
 def answer_request(card, reader):

@@ -9,7 +9,8 @@ Both files follow from a fixed seed and hold every clause of document 01's refus
 table and of those of the requests 1, 2, 6, 8 and 9, every range just inside, the edges of
 plans, rooms and budgets, the finished count of request 4, the goals struck by request 5,
 programs of request 6, deliberations that are gone on with, next moves and names of request
-8; all of it for cards of edition 1 and, but for what knows no set, of edition 2.
+8; all of it for cards of edition 1 and, but for what knows no set, of edition 2. What the
+requests from 10 on add stands behind it, of those that are in `drill.LANDED`.
 """
 
 import argparse
@@ -38,6 +39,7 @@ import slips
 import struck
 import text
 import texts
+import weighed
 import wordings
 from cases import Case
 
@@ -1042,7 +1044,84 @@ def name_cases():
     yield from seeded_names()
 
 
+# --- bounded cards ----------------------------------------------------------
+
+# Of the requests by seed, longer ones are left out.
+LONG_BOUNDED = 300
+
+
+def bounded_by_hand():
+    """Takes and runs on bounded cards by hand, all those about one card together."""
+    asked = [(one.card, drill.TAKE, one.held, one.choice) for one in weighed.ALL_TAKES]
+    asked += [(one.card, drill.RUN, one.held, one.budget) for one in weighed.ALL_RUNS]
+    for card, some in itertools.groupby(asked, key=lambda one: one[0]):
+        random = random_of("bounded by hand", card)
+        made = [cases.request_about(random, *about) for _, *about in some]
+        yield Case("bounded by hand", card, list(map(cases.on_a_bounded_card, made)))
+
+
+def bounded_configurations(name, card):
+    """Each clause of 13 and each range just inside, with a take and a run, of a bounded card
+    and of an open one: 22 is "after 13"."""
+    random, made = random_of("bounded configurations", name), []
+    _, accepted = guide.judge(card)
+    held = closed.configuration((1,), (2,), (0, 3), 1, 300)
+    for one in damage.CONFIGURATION_DAMAGES + damage.CONFIGURATION_RANGES:
+        changed = one.change(random, accepted, held)
+        if changed is not None:
+            for kind, value in ((drill.TAKE, 256), (drill.RUN, 3)):
+                made.append(cases.request_about(random, kind, changed, value))
+    return Case("bounded configurations, %s" % name, card, list(map(cases.on_a_bounded_card, made)))
+
+
+def bounded_cards():
+    """A take and a run about cards of each refusal, from a good configuration and from one
+    that is wrong."""
+    for number in range(1, 10):
+        one = damage.damages_of(number)[0]
+        name = "bounded and " + one.name
+        random, made = random_of(name), []
+        for held in (GOOD_HELD, GOOD_HELD._replace(phase=3)):
+            made.append(cases.request_about(random, drill.TAKE, held, 0))
+            made.append(cases.request_about(random, drill.RUN, held, 3))
+        made = list(map(cases.on_a_bounded_card, made))
+        yield Case(name, damaged_case(one.name, (one,)).card, made)
+
+
+def seeded_bounded():
+    """Takes and runs on bounded cards by seed, the shorter ones; and a few from long
+    plans."""
+    for index in range(50):
+        random = random_of("bounded", index)
+        card = weighed.some_card(random, SMALL[2])
+        made = [narrowed(request) for request in cases.bounded_requests(random, card)]
+        short = [request for request in made if len(request) <= LONG_BOUNDED]
+        long = [request for request in made if len(request) > LONG_BOUNDED]
+        random.shuffle(short)
+        yield Case("bounded %d" % index, card, short[:9] + long[:index % 5 == 0])
+
+
+def bounded_cases():
+    """Request 10: takes and runs by hand, each clause of 13 and its place before 22, cards of
+    each refusal, and others by seed."""
+    yield from bounded_by_hand()
+    yield bounded_configurations("bounded", STRIPE)
+    yield bounded_configurations("open", weighed.OPEN_REVISION)
+    yield from bounded_cards()
+    yield from seeded_bounded()
+
+
 # --- all --------------------------------------------------------------------
+
+# What the requests of document 02 from 10 on add, by their number.
+LATER_CASES = {10: bounded_cases}
+
+
+def later_cases():
+    """The cases of the requests from 10 on that the drill has."""
+    return itertools.chain.from_iterable(
+        make() for request, make in sorted(LATER_CASES.items()) if request in drill.LANDED
+    )
 
 
 def seeded_cases():
@@ -1064,7 +1143,8 @@ def narrowed(request):
         return first + drill.image(held) + drill.two(budget)
     if request[0] == drill.NEXT:
         return request[:1] + drill.image(cases.read_next(request))
-    if request[0] not in cases.CALLS_ON_CONFIGURATIONS:
+    bounded = drill.BOUNDED_TAKE, drill.BOUNDED_RUN
+    if request[0] not in cases.CALLS_ON_CONFIGURATIONS + bounded:
         return request
     kind, held, value = cases.read_about(request)
     return bytes([kind]) + drill.image(held) + drill.two(value)
@@ -1095,6 +1175,7 @@ def all_cases():
         program_cases(),
         name_cases(),
         going_on_cases(),
+        later_cases(),
     )
 
 

@@ -4,7 +4,7 @@ struck goals of request 5, the drill's bytes, that a seed gives the same bytes, 
 the stored requests hold. Those of request 2 are in `test_text.py`, those of request 6 in
 `test_deliberation.py`, those of going on in `test_going_on.py`, those of the next move in
 `test_next.py`, those of request 8 in `test_names.py`, those of request 9 in
-`test_editions.py`; they run with these."""
+`test_editions.py`, those of request 10 in `test_bounded.py`; they run with these."""
 
 import itertools
 import time
@@ -29,6 +29,7 @@ import sheets
 import slips
 import stored
 import struck
+import test_bounded
 import test_deliberation
 import test_editions
 import test_going_on
@@ -778,6 +779,8 @@ class Stored(unittest.TestCase):
         "name": set(range(10)) | {20, 21},
         "go on": set(range(10)) | {13, 19},
         "next": set(range(10)) | {13},
+        "bound take": set(range(10)) | {13, 14, 15, 16, 22},
+        "bound run": set(range(10)) | {13, 22},
     }
 
     @classmethod
@@ -1333,6 +1336,22 @@ class DrillBytes(unittest.TestCase):
         found = self.answers(*(b"\x16" + held for held in (self.LOADED, second, rest, wrong)))
         self.assertEqual(found, bytes.fromhex("0000 00 0000 0000 00 0002 0000 01 0000 0D00 00 0000"))
 
+    @unittest.skipUnless(10 in drill.LANDED, "the drill has no request 10 yet")
+    def test_bounded(self):
+        """13 and 14 on the stripe card, which is bounded: selection 0; a code that is none;
+        two steps. With revision 1's body made its head (P10) the card is open: 22, and the
+        configuration as it came in."""
+        after = self.LOADED[:64] + bytes([1, 0, 1, 0, 0, 1, 0, 4])
+        taken, run = b"\x0d" + self.LOADED, b"\x0e" + self.LOADED
+        found = self.answers(taken + b"\x00\x00", taken + b"\x00\x03")
+        self.assertEqual(found, b"\0\0\0\0" + after + b"\x0e\0\0\0" + self.LOADED)
+        second = self.LOADED[:64] + bytes([2, 0, 0, 0, 0, 2, 0, 1, 3])
+        self.assertEqual(self.answers(run + b"\x02\0"), b"\0\0" + second + b"\x02\0\0")
+        heads = bytes.fromhex("0200 0200 0100 0300 0200"), bytes.fromhex("0200 0200 0100 0200 0100")
+        card = b"\x00\xff\x00" + STRIPE_BYTES.replace(*heads)
+        found = drill.answers(card + taken + b"\x00\x03" + run + b"\0\0")
+        self.assertEqual(found, b"\x16\0\0\0" + self.LOADED + b"\x16\0" + self.LOADED + bytes(3))
+
     def test_name(self):
         """The stripe card's third move in two languages, of which the shed's has none;
         its second, which it has; an unknown one; and a shed's sheet of one byte."""
@@ -1359,10 +1378,16 @@ class DrillBytes(unittest.TestCase):
             b"\x15\x01\x04" + bytes(1025) + b"\0\0" + image + b"\0\0",
             b"\x15\0\0\x01\x02" + bytes(513) + image + b"\0\0",
             b"\x16" + image[:-2] + b"\x01\x04" + bytes(1025),
-            b"\x0d" + image + b"\0\0",
+            b"\x0d" + image[:-2] + b"\x01\x04" + bytes(1025) + b"\0\0",
+            b"\x0f" + image + b"\0\0",
             b"\x14" + image,
             b"\x17\0\0",
         ]
+        later = {
+            10: [b"\x0d" + image + b"\0\0", b"\x0e" + image + b"\0\0"],
+        }
+        for number, requests in later.items():
+            broken += [] if number in drill.LANDED else requests
         for request in broken:
             self.assertEqual(self.answers(b"\x01", request, b"\x01"), b"\0\0")
 
@@ -1375,9 +1400,10 @@ class DrillBytes(unittest.TestCase):
 
 
 def load_tests(loader, tests, pattern):
-    """The tests of this file, and those of the requests 2, 6 and 8, of going on and of the
-    next move."""
-    modules = test_text, test_deliberation, test_going_on, test_next, test_names, test_editions
+    """The tests of this file, and those of the requests 2, 6, 8, 9 and 10, of going on and of
+    the next move."""
+    modules = [test_text, test_deliberation, test_going_on, test_next, test_names, test_editions]
+    modules += [test_bounded]
     for module in modules:
         tests.addTests(loader.loadTestsFromModule(module))
     return tests

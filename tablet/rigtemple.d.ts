@@ -17,6 +17,7 @@ export declare const NO_CHOICE: 65535;
 
 export type Kind = "selection" | "action" | "revision";
 export type Ending = "spent" | "rest" | "full";
+export type BoundedEnding = "spent" | "rest";
 export type Coming = "move" | "rest" | "full";
 export type DeliberationEnding = "spent" | "finished" | "stuck" | "full";
 export type Verdict = "bounded" | "open";
@@ -25,6 +26,7 @@ export type Sheet = "master" | "shed";
 
 export declare const KINDS: readonly Kind[];
 export declare const ENDINGS: readonly Ending[];
+export declare const BOUNDED_ENDINGS: readonly BoundedEnding[];
 export declare const COMINGS: readonly Coming[];
 export declare const DELIBERATION_ENDINGS: readonly DeliberationEnding[];
 export declare const VERDICTS: readonly Verdict[];
@@ -91,6 +93,17 @@ export interface Ran extends Reached {
   moves: number;
   ending: Ending;
 }
+/** The numbers that takeBounded may answer: 11 is not among them. */
+export type BoundedNumber = 0 | 1 | 2 | 3 | 4 | 5 | 6 | 7 | 8 | 9 | 13 | 14 | 15 | 16 | 22;
+export interface BoundedTaken extends Taken {
+  answer: BoundedNumber;
+}
+/** A run on a bounded card: "full" is no ending of it. */
+export interface BoundedRan extends Reached {
+  answer: 0 | 1 | 2 | 3 | 4 | 5 | 6 | 7 | 8 | 9 | 13 | 22;
+  moves: number;
+  ending: BoundedEnding;
+}
 export interface Deliberated extends Reached {
   /** Moves made, idle ones too. */
   moves: number;
@@ -134,6 +147,9 @@ export interface Guide {
   next(card: Uint8Array, c: Configuration): Next;
   take(card: Uint8Array, c: Configuration, choice: number): Taken;
   run(card: Uint8Array, c: Configuration, budget: number): Ran;
+  /** On a bounded card, from a plan that weighs at most 1,024; else 22. */
+  takeBounded(card: Uint8Array, c: Configuration, choice: number): BoundedTaken;
+  runBounded(card: Uint8Array, c: Configuration, budget: number): BoundedRan;
   deliberate(card: Uint8Array, program: Uint8Array, c: Configuration, budget: number): Deliberated;
   /** From the numbers that remain of the program, as `remaining` has them. */
   goOn(card: Uint8Array, program: Uint8Array, numbers: Uint8Array, c: Configuration, budget: number): Deliberated;

@@ -11,7 +11,7 @@
  * be any; what is not a Uint8Array, or a number that its field cannot hold, is a mistake of the page, and throws.
  */
 
-export const VERSION = "4.0";
+export const VERSION = "4.1";
 
 /* Sizes, as rigtemple.h has them. */
 export const SET_BYTES = 32;
@@ -30,6 +30,7 @@ export const MOST_SHEET_BYTES = 65535;
 /* What an answer's numbers stand for, by their place from 0. */
 export const KINDS = ["selection", "action", "revision"];
 export const ENDINGS = ["spent", "rest", "full"];
+export const BOUNDED_ENDINGS = ["spent", "rest"];
 export const COMINGS = ["move", "rest", "full"];
 export const DELIBERATION_ENDINGS = ["spent", "finished", "stuck", "full"];
 export const VERDICTS = ["bounded", "open"];
@@ -39,7 +40,7 @@ export const SHEETS = ["master", "shed"];
 const NAMES = {
   0: "done", 1: "short", 2: "mark", 3: "count", 4: "offsets", 5: "weight", 6: "node", 7: "rule", 8: "action byte", 9: "atom",
   10: "given up", 11: "plan full", 12: "no room", 13: "configuration", 14: "no rule", 15: "front", 16: "condition", 17: "text",
-  18: "nested", 19: "program", 20: "sheet", 21: "no action", 25: "large",
+  18: "nested", 19: "program", 20: "sheet", 21: "no action", 22: "open or heavy", 25: "large",
 };
 
 /* The name of an answer: "plan full" for 11. */
@@ -198,6 +199,31 @@ export function guideOf(instance) {
     };
   }
 
+  /* A chosen move by the function of that name. */
+  function taken(name, card, c, choice) {
+    const lent = new Lent(exports);
+    const given = pair(lent, asBytes(card, "the card"));
+    const changed = lend(lent, c);
+    const node = lent.room(2);
+    const said = ask(name, ...given, ...changed, asNumber(choice, "the choice", 65535), node);
+    return { ...said, configuration: configurationAt(lent, changed), node: lent.numberAt(node) };
+  }
+
+  /* A run by the function of that name, with the words of its endings. */
+  function ran(name, endings, card, c, budget) {
+    const lent = new Lent(exports);
+    const given = pair(lent, asBytes(card, "the card"));
+    const changed = lend(lent, c);
+    const [moves, ending] = [lent.room(2), lent.room(1)];
+    const said = ask(name, ...given, ...changed, asNumber(budget, "the budget", 65535), moves, ending);
+    return {
+      ...said,
+      configuration: configurationAt(lent, changed),
+      moves: lent.numberAt(moves),
+      ending: endings[lent.byteAt(ending)],
+    };
+  }
+
   /* A deliberation by the function of that name, with what is given before the configuration. */
   function deliberated(name, lent, given, c, budget) {
     const changed = lend(lent, c);
@@ -264,27 +290,20 @@ export function guideOf(instance) {
 
     /* The configuration after a chosen move; or why the move is closed, with the node that settled its condition. */
     take(card, c, choice) {
-      const lent = new Lent(exports);
-      const given = pair(lent, asBytes(card, "the card"));
-      const changed = lend(lent, c);
-      const node = lent.room(2);
-      const said = ask("take", ...given, ...changed, asNumber(choice, "the choice", 65535), node);
-      return { ...said, configuration: configurationAt(lent, changed), node: lent.numberAt(node) };
+      return taken("take", card, c, choice);
     },
 
     /* The configuration after at most `budget` moves of the guide's own. */
     run(card, c, budget) {
-      const lent = new Lent(exports);
-      const given = pair(lent, asBytes(card, "the card"));
-      const changed = lend(lent, c);
-      const [moves, ending] = [lent.room(2), lent.room(1)];
-      const said = ask("run", ...given, ...changed, asNumber(budget, "the budget", 65535), moves, ending);
-      return {
-        ...said,
-        configuration: configurationAt(lent, changed),
-        moves: lent.numberAt(moves),
-        ending: ENDINGS[lent.byteAt(ending)],
-      };
+      return ran("run", ENDINGS, card, c, budget);
+    },
+
+    /* The same two on a bounded card, from a plan that weighs at most 1,024: never 11, and never "full". */
+    takeBounded(card, c, choice) {
+      return taken("take_bounded", card, c, choice);
+    },
+    runBounded(card, c, budget) {
+      return ran("run_bounded", BOUNDED_ENDINGS, card, c, budget);
     },
 
     /* The configuration after at most `budget` moves of a program, and what remains of it. */

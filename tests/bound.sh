@@ -30,10 +30,10 @@ hold() { # WANTED CALL BYTES
     "$1"*) passed=$((passed + 1)) fault= ;;
     *) failed=$((failed + 1)) fault="; failed: wanted is '$1'" ;;
     esac
-    printf '%-10s %6d bytes of stack: %s%s\n' "$2" "$3" "${said:-nothing is said}" "$fault"
+    printf '%-12s %6d bytes of stack: %s%s\n' "$2" "$3" "${said:-nothing is said}" "$fault"
 }
 
-for call in check load grade list next take run save restore deliberate go_on print name; do
+for call in check load grade list next take run take_bounded run_bounded save restore deliberate go_on print name; do
     hold ok "$call" 2048
 done
 hold ok text "$text"

@@ -66,6 +66,17 @@ static uint16_t call_run(void)
     return rigtemple_run(card.bytes, card.len, &lent.c, 500, &lent.moves, &lent.ending);
 }
 
+static uint16_t call_take_bounded(void)
+{
+    return rigtemple_take_bounded(card.bytes, card.len, &lent.c, choice, &lent.node);
+}
+
+static uint16_t call_run_bounded(void)
+{
+    return rigtemple_run_bounded(card.bytes, card.len, &lent.c, 500, &lent.moves,
+                                 &lent.bounded_ending);
+}
+
 static uint16_t call_deliberate(void)
 {
     return rigtemple_deliberate(card.bytes, card.len, program.bytes, program.len, &lent.c, 500,
@@ -109,8 +120,8 @@ static uint16_t call_name(void)
                           named_action, &lent.name, &lent.bytes, &lent.sheet);
 }
 
-enum { CHECK, LOAD, GRADE, LIST, NEXT, TAKE, RUN, SAVE, RESTORE, DELIBERATE, GO_ON, TEXT, PRINT,
-       NAME };
+enum { CHECK, LOAD, GRADE, LIST, NEXT, TAKE, RUN, TAKE_BOUNDED, RUN_BOUNDED, SAVE, RESTORE,
+       DELIBERATE, GO_ON, TEXT, PRINT, NAME };
 
 const struct call calls[CALLS] = {
     [CHECK] = {"check", call_check}, [LOAD] = {"load", call_load},
@@ -120,6 +131,8 @@ const struct call calls[CALLS] = {
     [TEXT] = {"text", call_text},    [RESTORE] = {"restore", call_restore},
     [PRINT] = {"print", call_print}, [DELIBERATE] = {"deliberate", call_deliberate},
     [NAME] = {"name", call_name},    [GO_ON] = {"go_on", call_go_on},
+    [TAKE_BOUNDED] = {"take_bounded", call_take_bounded},
+    [RUN_BOUNDED] = {"run_bounded", call_run_bounded},
 };
 
 /* ---- the cases ---- */
@@ -182,11 +195,12 @@ static void each_of_these(void (*visit)(unsigned call), const char *with)
     made_with = with;
     each_program(visit);
     for (unsigned call = CHECK; call <= RESTORE; call++)
-        if (call != TAKE)
+        if (call != TAKE && call != TAKE_BOUNDED)
             visit(call);
     for (unsigned i = 0; i < sizeof choices / sizeof choices[0]; i++) {
         choice = choices[i];
         visit(TAKE);
+        visit(TAKE_BOUNDED);
     }
 }
 

@@ -1,5 +1,5 @@
 /*
- * The fourteen calls of include/rigtemple.h, each as a function without arguments, and the cases in
+ * The sixteen calls of include/rigtemple.h, each as a function without arguments, and the cases in
  * which they are made: tests/stack.c measures the stack of these, and tests/bound.c holds these to
  * their bounds.
  */
@@ -8,7 +8,7 @@
 
 #include "../include/rigtemple.h"
 
-enum { CALLS = 14 };
+enum { CALLS = 16 };
 
 /* A call through the header: `make` answers what it answers. */
 struct call {
@@ -22,6 +22,7 @@ struct lent {
     struct rigtemple_configuration c, made;
     uint16_t list[RIGTEMPLE_MOST_LIST_ENTRIES], entries;
     uint8_t verdict, offender, ending, coming;
+    enum rigtemple_bounded_ending bounded_ending;
     uint16_t number, node, moves, choice;
     uint8_t place[RIGTEMPLE_MOST_PLACE_BYTES];
     uint8_t card[RIGTEMPLE_MOST_CARD_BYTES];
@@ -40,8 +41,8 @@ void lend(void);
 /* The case at hand, in words: the card or text, and what else is given with it. */
 extern const char *made_on, *made_with;
 
-/* Visits every call, by its number in `calls`, in each of its cases. For the eight calls and next
- * these are the stripe card, that one made endless, the typical card, the two worst, the card of
+/* Visits every call, by its number in `calls`, in each of its cases. For the eight calls, next
+ * and the two for bounded cards these are the stripe card, that one made endless, the typical card, the two worst, the card of
  * shared nodes, the deepest card and a refused one, and of edition 2 the high stripe card, the
  * typical one, the two widest and a refused one, each with its first configuration, with no plan
  * and with one of 1,024 actions, in each phase, with beliefs and without, and with a configuration

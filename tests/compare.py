@@ -9,7 +9,9 @@ and five nodes each; with --programs so many cases of programs to deliberate by,
 one; with --names so many cases of names asked for, most of them sixteen. With --cuts so many deliberations are cut at random places,
 once to three times, and gone on with, each with the same deliberation in one beside it and with other numbers to go on with, right and
 wrong ones; with --next so many next moves are asked for, each with a run with budget 1 beside it. The oracle's parts of a deliberation
-have to be its one deliberation, and its next moves what its runs make, or nothing is compared.
+have to be its one deliberation, and its next moves what its runs make, or nothing is compared. With --bounded so many cases of takes and
+runs on bounded cards are added, about forty about a good card and four about a damaged one. A sort of cases whose request of document 02
+is not in drill.LANDED of oracle/ has no option here.
 
 The cases and the answers to them come from oracle/ by the seed. Each request goes through target/bin/drill, and the answer is compared
 byte for byte; each card that the program of document 01 can read whole goes through target/bin/rigtemple too, and the lines are compared
@@ -65,7 +67,7 @@ SORTS = (
     Sort("names", "name", cases.generate_names, CARD_LIMIT, "cases of names"),
     Sort("cuts", "cut", cases.generate_cuts, CARD_LIMIT, "deliberations cut and gone on with"),
     Sort("next", "next", cases.generate_next, CARD_LIMIT, "next moves"),
-)
+) + tuple(Sort(option, option, make, CARD_LIMIT, counted) for _, option, counted, make in cases.LANDED_SORTS)
 
 
 class Job(NamedTuple):

@@ -1,7 +1,8 @@
 #!/bin/sh
 # The example that an app's programmer is handed, examples/turned_screen.c, built from the folder of
 # ./library with nothing but what is in it: by the kit's compiler, and by the machine's own where
-# there is one. Every case is run with each. The last line is 'N passed, M failed'.
+# there is one. Every case is run with each; examples/bounded_screen.c beside it. The last line is
+# 'N passed, M failed'.
 #
 #   tests/example.sh
 set -eu
@@ -177,6 +178,15 @@ cards() {
     expect 'a file longer than any card' 1 'refused: offsets: ' '' "$room/long.card" "$kept"
 }
 
+# The screen for bounded cards: how a run ends, a choice, why one is closed, and an open card.
+bounded() { # COMMAND...
+    example=$*
+    expect 'a run on a bounded card rests' 0 'rests after 6 moves, bands finished: 1' '' "$stripe"
+    expect 'a choice on a bounded card' 0 'took 0: 1 actions are left' '' "$stripe" 0
+    expect 'a closed choice' 1 'refused: front: ' '' "$stripe" 256
+    expect 'an open card' 1 'refused: open or heavy: ' '' "$room/growing.card"
+}
+
 try_all() { # COMMAND...
     example=$* kept=$room/kept
     rm -rf "$room/kept"*
@@ -197,6 +207,9 @@ folder=$room/handed
 CFLAGS="-I $folder" "$tests/build_c.sh" "$room/kit" "$folder/turned_screen.c" \
     "$folder/librigtemple.a"
 try_all "$tests/run_c.sh" "$room/kit"
+CFLAGS="-I $folder" "$tests/build_c.sh" "$room/bounded" "$root/examples/bounded_screen.c" \
+    "$folder/librigtemple.a"
+bounded "$tests/run_c.sh" "$room/bounded"
 printf "by the kit's compiler with the library: %d passed, %d failed\n" "$passed" "$failed"
 
 # shellcheck source=tests/machine.sh
@@ -205,6 +218,9 @@ if [ -n "$linked" ]; then
     cc -std=c99 -Wall -Wextra -Werror -I "$folder" "$folder/turned_screen.c" \
         "$linked/librigtemple.a" -o "$room/machine"
     try_all "$room/machine"
+    cc -std=c99 -Wall -Wextra -Werror -I "$folder" "$root/examples/bounded_screen.c" \
+        "$linked/librigtemple.a" -o "$room/bounded"
+    bounded "$room/bounded"
     printf "and by the machine's compiler with %s\n" "$what"
 fi
 printf '%d passed, %d failed\n' "$passed" "$failed"

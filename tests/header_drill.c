@@ -20,6 +20,8 @@
  *                                       remaining program: m numbers (1)
  *  12 name     length (2), bytes of the shed's sheet, length (2), bytes of the master's, action (2)
  *                                       number (2), sheet (1), start (2), length (2)
+ *  13 take on a bounded card            as 5
+ *  14 run on a bounded card             as 6
  *  21 go on    length (2), bytes of program, m (2), m numbers (1), image, budget (2)
  *                                       as 11
  *  22 next     image                    number (2), ending (1), code (2)
@@ -44,7 +46,8 @@
 
 #include "../include/rigtemple.h"
 
-enum { CARD, CHECK, LOAD, GRADE, LIST, TAKE, RUN, SAVE, RESTORE, TEXT, PRINT, DELIBERATE, NAME };
+enum { CARD, CHECK, LOAD, GRADE, LIST, TAKE, RUN, SAVE, RESTORE, TEXT, PRINT, DELIBERATE, NAME,
+       TAKE_BOUNDED, RUN_BOUNDED };
 enum { GO_ON = 21, NEXT };
 enum { LIST_LIMIT = 1024, SAVE_LIMIT = 2048, PLACE_LIMIT = 4096, LENT = 0xEE };
 enum { TEXT_LIMIT = 65536, CARD_ROOM_LIMIT = 24200, PRINT_LIMIT = 2048, PROGRAM_LIMIT = 1024 };
@@ -288,6 +291,26 @@ static void answer_run(void)
     put_byte(*ending);
 }
 
+static void answer_take_bounded(void)
+{
+    struct rigtemple_configuration *c = get_image();
+    uint16_t *node = lend(2);
+    put_number(rigtemple_take_bounded(card, card_len, c, get_number(65535), node));
+    put_number(*node);
+    put_image(c);
+}
+
+static void answer_run_bounded(void)
+{
+    struct rigtemple_configuration *c = get_image();
+    uint16_t *count = lend(2);
+    enum rigtemple_bounded_ending *ending = lend(sizeof *ending);
+    put_number(rigtemple_run_bounded(card, card_len, c, get_number(65535), count, ending));
+    put_image(c);
+    put_number(*count);
+    put_byte((uint8_t)*ending);
+}
+
 /* The count is not in the answer: one that is wrong ends the program. */
 static void answer_save(void)
 {
@@ -481,6 +504,12 @@ static void answer(uint8_t request)
         break;
     case NAME:
         answer_name();
+        break;
+    case TAKE_BOUNDED:
+        answer_take_bounded();
+        break;
+    case RUN_BOUNDED:
+        answer_run_bounded();
         break;
     case GO_ON:
         answer_go_on();

@@ -177,6 +177,19 @@ const requests = {
     putNumber(start);
     putNumber(length);
   },
+  13() {
+    const { answer, node, configuration } = guide.takeBounded(card, getImage(), getNumber());
+    putNumber(answer);
+    putNumber(node);
+    putImage(configuration);
+  },
+  14() {
+    const { answer, configuration, moves, ending } = guide.runBounded(card, getImage(), getNumber());
+    putNumber(answer);
+    putImage(configuration);
+    putNumber(moves);
+    putWord(page.BOUNDED_ENDINGS, ending);
+  },
   21() {
     putDeliberated(guide.goOn(card, getBytes(getNumber(1024)), getBytes(getNumber(512)), getImage(), getNumber()));
   },

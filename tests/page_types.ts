@@ -1,6 +1,6 @@
 /* The types of rigtemple.d.ts, as a page uses them: the compiler accepts every line, and tells each that is marked. */
 import { choice, guideOf, kindOf, numberOf, open } from "./rigtemple.js";
-import type { Coming, Configuration, Ending, Guide, Kind, Named, Next, Sheet } from "./rigtemple.js";
+import type { BoundedEnding, Coming, Configuration, Ending, Guide, Kind, Named, Next, Sheet } from "./rigtemple.js";
 
 export async function moves(card: Uint8Array): Promise<[Ending, number, string]> {
   const guide: Guide = await open(fetch("rigtemple.wasm"));
@@ -23,6 +23,11 @@ export function shown(guide: Guide, card: Uint8Array, program: Uint8Array, numbe
   return [own.ending === "stuck" || kept.length === 0 ? "rest" : next.coming, next.choice];
 }
 
+export function bounded(guide: Guide, card: Uint8Array, c: Configuration): BoundedEnding {
+  const taken = guide.takeBounded(card, c, 0);
+  return guide.runBounded(card, taken.answer === 22 ? c : taken.configuration, 1000).ending;
+}
+
 export function inTwoLanguages(guide: Guide, card: Uint8Array, shed: Uint8Array | null, master: Uint8Array): [string, Sheet, Uint8Array] {
   const named: Named = guide.name(card, shed, master, 0);
   const whole: number = guide.name(card, undefined, master, 0).start + named.length;
@@ -37,6 +42,10 @@ export async function wrong(module: WebAssembly.Module, card: Uint8Array) {
   guide.list(card, { length: 0, phase: 0, finished: 0 });
   // @ts-expect-error a run has no ending "stuck"
   if (guide.run(card, guide.load(card).configuration, 1).ending === "stuck") return;
+  // @ts-expect-error a run on a bounded card has no ending "full"
+  if (guide.runBounded(card, guide.load(card).configuration, 1).ending === "full") return;
+  // @ts-expect-error a chosen move on a bounded card never leaves too long a plan
+  if (guide.takeBounded(card, guide.load(card).configuration, 0).answer === 11) return;
   // @ts-expect-error nothing comes that is "spent"
   if (guide.next(card, guide.load(card).configuration).coming === "spent") return;
   // @ts-expect-error numbers are bytes

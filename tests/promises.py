@@ -38,6 +38,7 @@ READING = (
                               "demands/specs/AcceptedAgain.antt", "demands/specs/Struck.antt", "demands/specs/Shown.antt", "demands/specs/Closed.antt")),
     ("the turned screen", ("demands/specs/TurnedScreen.antt",)),
     ("what comes next, and the rule for an app", ("demands/specs/Next.antt",)),
+    ("a run and a chosen move on bounded cards", ("meaning/specs/BoundedCalls.antt", "demands/specs/BoundedCalls.antt", "demands/specs/BoundedTurns.antt")),
     ("our own deliberation", ("deliberation/src/lib.rt", "deliberation/specs/Programs.antt", "deliberation/specs/MetaTransitions.antt",
                               "deliberation/specs/FirstMove.antt", "deliberation/specs/Kinds.antt", "deliberation/specs/Entries.antt", "deliberation/specs/Deliberate.antt",
                               "deliberation/specs/Interpreter.antt")),
@@ -51,11 +52,11 @@ READING = (
     ("every call, the count since load, a deliberation turned", ("every_call/specs/EveryCall.antt", "every_call/specs/SinceLoad.antt",
                                                                 "every_call/specs/TurnedDeliberation.antt")),
     ("the cases", ("paper/specs/Cases.antt", "meaning/specs/Stripe.antt", "meaning/specs/Cases.antt", "notation/specs/Cases.antt",
-                   "deliberation/specs/Cases.antt", "editions/specs/Cases.antt")),
+                   "deliberation/specs/Cases.antt", "editions/specs/Cases.antt", "cases/specs/BoundedCases.antt")),
 )
 # Definitions that only contracts of inner functions cite, and that a theorem ties to those above.
 INNER = ("notation/specs/Scanning.antt", "notation/specs/Values.antt", "notation/specs/Making.antt", "deliberation/specs/Stacked.antt")
-READ_CRATES = ("paper", "runs", "meaning", "editions", "demands", "notation", "deliberation", "utf8", "every_call")
+READ_CRATES = ("paper", "runs", "meaning", "editions", "demands", "notation", "deliberation", "utf8", "cases", "every_call")
 
 
 class Piece(NamedTuple):

@@ -28,7 +28,7 @@ while read -r call bytes; do
     [ "$bytes" -le $most ] || fault=", which is over $most"
     [ $# -gt 0 ] || [ "$bytes" = "$(stated "$call")" ] || fault="$fault, not as the header states"
     if [ -z "$fault" ]; then passed=$((passed + 1)); else failed=$((failed + 1)); fi
-    printf '%-10s %6d bytes of stack%s\n' "$call" "$bytes" "$fault"
+    printf '%-12s %6d bytes of stack%s\n' "$call" "$bytes" "$fault"
 done <"$work/stack.out"
 printf '%d passed, %d failed\n' "$passed" "$failed"
-[ "$passed" -eq 14 ]
+[ "$passed" -eq 16 ]

@@ -7,9 +7,9 @@
 # last line is 'N passed, M failed'.
 #
 #   tests/tablets.sh [--seed N] [--cases N] [--texts N] [--programs N] [--names N] [--cuts N]
-#                    [--next N] [--emulated]
+#                    [--next N] [--bounded N] [--emulated]
 #
-# --cases, --texts, --programs, --names, --cuts and --next are those of tests/compare.py. --emulated
+# --cases, --texts, --programs, --names, --cuts, --next and --bounded are those of tests/compare.py. --emulated
 # takes Debian's compiler and emulator for 64-bit Arm on an Arm machine too. Beside the kit and
 # Python 3 it needs Debian's packages nodejs and, on an Arm machine, gcc, elsewhere
 # gcc-aarch64-linux-gnu, libc6-dev-arm64-cross and qemu-user. Where there are tsc (node-typescript)
@@ -25,6 +25,7 @@ programs=50
 names=50
 cuts=200
 next=200
+bounded=20
 emulated=
 while [ $# -gt 0 ]; do
     case $1 in
@@ -35,9 +36,10 @@ while [ $# -gt 0 ]; do
     --names) names=${2:?--names takes a number}; shift ;;
     --cuts) cuts=${2:?--cuts takes a number}; shift ;;
     --next) next=${2:?--next takes a number}; shift ;;
+    --bounded) bounded=${2:?--bounded takes a number}; shift ;;
     --emulated) emulated=yes ;;
     *) die "usage: tablets.sh [--seed N] [--cases N] [--texts N] [--programs N] [--names N]" \
-        "[--cuts N] [--next N] [--emulated]" ;;
+        "[--cuts N] [--next N] [--bounded N] [--emulated]" ;;
     esac
     shift
 done
@@ -164,7 +166,7 @@ run_arm() { # PROGRAM ARGUMENT...
 build_arm arm_drill "$tests/header_drill.c"
 stored_arm() { run_arm arm_drill <"$root/crates/drill/stdin" | cmp - "$root/crates/drill/stdout"; }
 expect 'the stored requests on 64-bit Arm' stored_arm
-for program in eight_calls edition_calls next_calls text_calls deliberate_calls name_calls; do
+for program in eight_calls edition_calls next_calls bounded_calls text_calls deliberate_calls name_calls; do
     build_arm "$program" "$tests/$program.c" "$tests/cards.c" "$tests/programs.c" "$tests/sheets.c"
     count "$program on 64-bit Arm" run_arm "$program"
 done
@@ -261,7 +263,7 @@ expect 'stack and room in a page' within page
 
 count "seed $seed, fresh requests through both" python3 -B "$tests/compare.py" --seed "$seed" \
     --cases "$cases" --texts "$texts" --programs "$programs" --names "$names" \
-    --cuts "$cuts" --next "$next" \
+    --cuts "$cuts" --next "$next" --bounded "$bounded" \
     --drill "${arm_run:+$arm_run }'$room/arm_drill'" --drill "node '$tests/page_drill.mjs' '$folder'"
 grep ' requests about ' "$room/said" || :
 

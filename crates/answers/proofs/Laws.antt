@@ -14,6 +14,9 @@ use Rattle.runs.specs.declared.Verdict.{Verdict}
 use Rattle.runs.specs.Weight.{light, lowers, firstOffender, verdict}
 use Rattle.meaning.specs.declared.Refusal.{Refusal}
 use Rattle.meaning.proofs.Refusal.{the-type}
+use Rattle.meaning.specs.declared.BoundedRefusal.{BoundedRefusal}
+use Rattle.meaning.proofs.BoundedRefusal as Bounded
+use Rattle.meaning.specs.BoundedCalls.{asRefusal}
 use Rattle.meaning.specs.declared.Answer.{Answer}
 use Rattle.meaning.specs.declared.Answer.the-variants.{Done, Refused}
 use Rattle.meaning.specs.declared.Graded.{Graded}
@@ -58,7 +61,7 @@ grades-narrow b = go (cardAnswer b) refl
 -- ---- the variants but those of 16, 17 and 20, by their tags
 
 abbrev others : List ℕ
-others = 0 ∷ 1 ∷ 2 ∷ 3 ∷ 4 ∷ 5 ∷ 6 ∷ 7 ∷ 8 ∷ 9 ∷ 10 ∷ 11 ∷ 13 ∷ 14 ∷ 16 ∷ 17 ∷ 18 ∷ 20 ∷ []
+others = 0 ∷ 1 ∷ 2 ∷ 3 ∷ 4 ∷ 5 ∷ 6 ∷ 7 ∷ 8 ∷ 9 ∷ 10 ∷ 11 ∷ 13 ∷ 14 ∷ 16 ∷ 17 ∷ 18 ∷ 20 ∷ 21 ∷ []
 
 pub carries-nothing : (r : Refusal) → OneOf others (tagOf the-type r) → carried r ≡ 0
 carries-nothing r = go (carries r)
@@ -68,3 +71,25 @@ carries-nothing r = go (carries r)
     go a-node h = absurd (miss others 12 tt h)
     go a-place h = absurd (miss others 15 tt h)
     go a-sheet h = absurd (miss others 19 tt h)
+
+-- ---- the same of the refusals of the calls for bounded cards, but that of 16
+
+abbrev boundedOthers : List ℕ
+boundedOthers = 0 ∷ 1 ∷ 2 ∷ 3 ∷ 4 ∷ 5 ∷ 6 ∷ 7 ∷ 8 ∷ 9 ∷ 10 ∷ 11 ∷ 12 ∷ []
+
+pub bounded-nothing : (r : BoundedRefusal) → OneOf boundedOthers (tagOf Bounded.the-type r) → carried (asRefusal r) ≡ 0
+unfolding carried asRefusal
+bounded-nothing (BoundedRefusal.Condition n) h = absurd (miss boundedOthers 13 tt h)
+bounded-nothing BoundedRefusal.Short h = refl
+bounded-nothing BoundedRefusal.Mark h = refl
+bounded-nothing BoundedRefusal.Count h = refl
+bounded-nothing BoundedRefusal.Offsets h = refl
+bounded-nothing BoundedRefusal.Weight h = refl
+bounded-nothing BoundedRefusal.Node h = refl
+bounded-nothing BoundedRefusal.Rule h = refl
+bounded-nothing BoundedRefusal.ActionByte h = refl
+bounded-nothing BoundedRefusal.Atom h = refl
+bounded-nothing BoundedRefusal.Configuration h = refl
+bounded-nothing BoundedRefusal.OpenOrHeavy h = refl
+bounded-nothing BoundedRefusal.NoRule h = refl
+bounded-nothing BoundedRefusal.Front h = refl

@@ -4,9 +4,13 @@ ghost use Prim.Native.Nat.{_<_};
 ghost use Rattle.meaning.specs.Refusals.{numberOf, answerNumber, carried, answerCarried};
 ghost use Rattle.meaning.specs.Numbers.{sheetNumber, endingNumber, comingNumber, comingChoice};
 ghost use Rattle.meaning.specs.Numbers.{verdictNumber, offenderNumber, offenderRule, verdictOffender, verdictRule};
+ghost use Rattle.meaning.specs.BoundedCalls.{asRefusal, asAnswer, asEnding};
 ghost use Rattle.deliberation.specs.Deliberate.{deliberationEndingNumber};
 use deliberation::DeliberationEnding;
 use meaning::Answer;
+use meaning::BoundedAnswer;
+use meaning::BoundedEnding;
+use meaning::BoundedRefusal;
 use meaning::Coming;
 use meaning::Refusal;
 use runs::Ending;
@@ -39,6 +43,7 @@ pub fn refusal_number(r: Refusal) -> u16
         Refusal::Program => 19,
         Refusal::Sheet(_) => 20,
         Refusal::NoAction => 21,
+        Refusal::OpenOrHeavy => 22,
     }
 }
 
@@ -94,6 +99,68 @@ pub fn ending_number(e: Ending) -> u8
         Ending::Spent => 0,
         Ending::Rest => 1,
         Ending::Full => 2,
+    }
+}
+
+// The number of a refusal of the calls for bounded cards: the table's.
+fn bounded_refusal_number(r: BoundedRefusal) -> u16
+    ensures { λ n. ⌜ n ≡ numberOf (asRefusal r) ⌝ }
+{
+    match r {
+        BoundedRefusal::Short => 1,
+        BoundedRefusal::Mark => 2,
+        BoundedRefusal::Count => 3,
+        BoundedRefusal::Offsets => 4,
+        BoundedRefusal::Weight => 5,
+        BoundedRefusal::Node => 6,
+        BoundedRefusal::Rule => 7,
+        BoundedRefusal::ActionByte => 8,
+        BoundedRefusal::Atom => 9,
+        BoundedRefusal::Configuration => 13,
+        BoundedRefusal::OpenOrHeavy => 22,
+        BoundedRefusal::NoRule => 14,
+        BoundedRefusal::Front => 15,
+        BoundedRefusal::Condition(_) => 16,
+    }
+}
+
+// The number of their answer: 0 for done.
+pub fn bounded_answer_number(a: BoundedAnswer) -> u16
+    ensures { λ n. ⌜ n ≡ answerNumber (asAnswer a) ⌝ }
+{
+    match a {
+        BoundedAnswer::Done => 0,
+        BoundedAnswer::Refused(r) => bounded_refusal_number(r),
+    }
+}
+
+// The node that a refusal of theirs carries, 0 where it carries none.
+fn bounded_refusal_carried(r: BoundedRefusal) -> usize
+    ensures { λ n. ⌜ n ≡ carried (asRefusal r) ⌝ }
+{
+    let BoundedRefusal::Condition(node) = r else {
+        return 0;
+    };
+    node
+}
+
+// The node that their answer carries, 0 where it carries none.
+pub fn bounded_answer_carried(a: BoundedAnswer) -> usize
+    ensures { λ n. ⌜ n ≡ answerCarried (asAnswer a) ⌝ }
+{
+    match a {
+        BoundedAnswer::Done => 0,
+        BoundedAnswer::Refused(r) => bounded_refusal_carried(r),
+    }
+}
+
+// The number of the bounded run's ending: that which it has as an ending of run.
+pub fn bounded_ending_number(e: BoundedEnding) -> u8
+    ensures { λ n. ⌜ n ≡ endingNumber (asEnding e) ⌝ }
+{
+    match e {
+        BoundedEnding::Spent => 0,
+        BoundedEnding::Rest => 1,
     }
 }
 

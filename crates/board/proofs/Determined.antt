@@ -15,6 +15,8 @@ determined =
       list = λ card d list left left′ n n′ k k′ e f. (same (e .0) (f .0), same (e .2) (f .2), same (e .1) (f .1));
       take = λ card d choice n n′ c c′ k k′ e f. (same (e .0) (f .0), same (e .1) (f .1), same (e .2) (f .2));
       run = λ card d budget n n′ c c′ k k′ a a′ e f. (same (e .0) (f .0), same (e .1) (f .1), same (e .2) (f .2), same (e .3) (f .3));
+      take-bounded = λ card d choice n n′ c c′ k k′ e f. (same (e .0) (f .0), same (e .1) (f .1), same (e .2) (f .2));
+      run-bounded = λ card d budget n n′ c c′ k k′ a a′ e f. (same (e .0) (f .0), same (e .1) (f .1), same (e .2) (f .2), same (e .3) (f .3));
       next = λ card d n n′ k k′ a a′ e f. (same (e .0) (f .0), same (e .1) (f .1), same (e .2) (f .2));
       deliberate = λ card program d budget lent n n′ c c′ k k′ a a′ ns ns′ l l′ e f. (
         same (e .0) (f .0),

@@ -1,4 +1,4 @@
--- The contract of each of the fourteen functions for C, by the one name that its `ensures` cites, and that it leaves one answer
+-- The contract of each of the sixteen functions for C, by the one name that its `ensures` cites, and that it leaves one answer
 -- (proved in proofs/). n is the return value. What is lent to be written is named as it is left: c for a configuration's six
 -- parts, left for a list, a place, a card or a text, the others as in include/rigtemple.h. What is lent to be read stays as it is.
 use mathlib.Core.Path.{_≡_}
@@ -8,6 +8,7 @@ use Rattle.meaning.specs.declared.Answer.{Answer}
 use Rattle.meaning.specs.declared.Configuration.{Configuration}
 use Rattle.meaning.specs.Card.{Bytes}
 use Rattle.meaning.specs.Calls.{checks, loads, grades, lists, listLeaves, takes, runs, nexts, saves, saveLeaves, restores}
+use Rattle.meaning.specs.BoundedCalls.{boundedTakes, boundedRuns}
 use Rattle.meaning.specs.Refusals.{answerNumber}
 use Rattle.meaning.specs.Numbers.{checkedNumber}
 use Rattle.notation.specs.Reading.{Reads}
@@ -44,6 +45,16 @@ Takes card d choice n c node = took (takes card d choice) n c node
 -- taken, and one of three endings"
 abbrev pub Runs : Bytes → Configuration → ℕ → ℕ → Configuration → ℕ → ℕ → Type 0
 Runs card d budget n c count ending = ranTo (runs card d budget) n c count ending
+
+-- 02, Wish 10: "a chosen move for bounded cards": from a configuration d. In the header's numbers 11 has one, which no answer of
+-- these calls is (demands/specs/BoundedCalls.antt `take-listed`).
+abbrev pub BoundedTakes : Bytes → Configuration → ℕ → ℕ → Configuration → ℕ → Type 0
+BoundedTakes card d choice n c node = took (boundedTakes card d choice) n c node
+
+-- 02, Wish 10: "a run … for bounded cards": from a configuration d. "the configuration reached, how many transitions were taken",
+-- and one of two endings.
+abbrev pub BoundedRuns : Bytes → Configuration → ℕ → ℕ → Configuration → ℕ → ℕ → Type 0
+BoundedRuns card d budget n c count ending = ranTo (boundedRuns card d budget) n c count ending
 
 -- 00, the card: "The guide shows the next move.": of a configuration d, and which it is.
 abbrev pub Nexts : Bytes → Configuration → ℕ → ℕ → ℕ → Type 0
@@ -100,6 +111,11 @@ pub record DeterminedParts : Type 0 where
       → Takes card d choice n c node → Takes card d choice n′ c′ node′ → (n ≡ n′) × (c ≡ c′) × (node ≡ node′)
   pub run : (card : Bytes) (d : Configuration) (budget n n′ : ℕ) (c c′ : Configuration) (count count′ ending ending′ : ℕ)
       → Runs card d budget n c count ending → Runs card d budget n′ c′ count′ ending′
+      → (n ≡ n′) × (c ≡ c′) × (count ≡ count′) × (ending ≡ ending′)
+  pub take-bounded : (card : Bytes) (d : Configuration) (choice n n′ : ℕ) (c c′ : Configuration) (node node′ : ℕ)
+      → BoundedTakes card d choice n c node → BoundedTakes card d choice n′ c′ node′ → (n ≡ n′) × (c ≡ c′) × (node ≡ node′)
+  pub run-bounded : (card : Bytes) (d : Configuration) (budget n n′ : ℕ) (c c′ : Configuration) (count count′ ending ending′ : ℕ)
+      → BoundedRuns card d budget n c count ending → BoundedRuns card d budget n′ c′ count′ ending′
       → (n ≡ n′) × (c ≡ c′) × (count ≡ count′) × (ending ≡ ending′)
   pub next : (card : Bytes) (d : Configuration) (n n′ coming coming′ choice choice′ : ℕ)
       → Nexts card d n coming choice → Nexts card d n′ coming′ choice′ → (n ≡ n′) × (coming ≡ coming′) × (choice ≡ choice′)

@@ -1,4 +1,4 @@
-// The board: the guide's fourteen calls for C, as include/rigtemple.h declares them. A configuration is lent in its six parts;
+// The board: the guide's sixteen calls for C, as include/rigtemple.h declares them. A configuration is lent in its six parts;
 // the return value is the answer's number.
 ghost use mathlib.Core.Path.{_≡_};
 ghost use Rattle.meaning.specs.Refusals.{answerNumber};
@@ -6,9 +6,12 @@ ghost use Rattle.deliberation.specs.Deliberate.{deliberationEndingNumber};
 ghost use Rattle.names.specs.Naming.{asked};
 ghost use Rattle.board.specs.Header.{whole};
 ghost use Rattle.board.specs.Determined.{Checks, Loads, Grades, Lists, Takes, Runs, Nexts, Deliberates, GoesOn, Saves, Restores};
-ghost use Rattle.board.specs.Determined.{ReadsText, Prints, Names};
+ghost use Rattle.board.specs.Determined.{BoundedTakes, BoundedRuns, ReadsText, Prints, Names};
 use answers::answer_carried;
 use answers::answer_number;
+use answers::bounded_answer_carried;
+use answers::bounded_answer_number;
+use answers::bounded_ending_number;
 use answers::coming_choice;
 use answers::coming_number;
 use answers::deliberation_ending_number;
@@ -163,6 +166,80 @@ pub extern "C" fn rigtemple_4_run_parts(
     *ending = ending_number(e);
     let a = ran.answer;
     answer_number(a)
+}
+
+// The configuration after the chosen move on a bounded card; as it came in, in a refusal. With 16 the node that settled the
+// condition.
+#[no_mangle]
+pub extern "C" fn rigtemple_4_take_bounded_parts(
+    card: &[u8],
+    beliefs: &mut Set,
+    goals: &mut Set,
+    plan: &mut Plan,
+    length: &mut u16,
+    phase: &mut u8,
+    finished: &mut u16,
+    choice: u16,
+    node: &mut u16,
+) -> u16
+    ensures { λ r. ⌜ BoundedTakes (now (card .entry))
+        (whole (now (beliefs .entry)) (now (goals .entry)) (now (plan .entry)) (now (length .entry)) (now (phase .entry))
+        (now (finished .entry))) choice r
+        (whole (now (beliefs .exit)) (now (goals .exit)) (now (plan .exit)) (now (length .exit)) (now (phase .exit))
+        (now (finished .exit)))
+        (now (node .exit)) ⌝ }
+{
+    let taken = bounded::take::take(
+        card,
+        beliefs,
+        goals,
+        standing(*length, *phase, *finished),
+        plan,
+        choice,
+    );
+    let m = taken.standing;
+    put(m, length, phase, finished);
+    let a = taken.answer;
+    *node = bounded_answer_carried(a) as u16;
+    bounded_answer_number(a)
+}
+
+// The configuration after at most budget moves of the guide's own on a bounded card, how many they were, and how the run ended.
+#[no_mangle]
+pub extern "C" fn rigtemple_4_run_bounded_parts(
+    card: &[u8],
+    beliefs: &mut Set,
+    goals: &mut Set,
+    plan: &mut Plan,
+    length: &mut u16,
+    phase: &mut u8,
+    finished: &mut u16,
+    budget: u16,
+    count: &mut u16,
+    ending: &mut u8,
+) -> u16
+    ensures { λ r. ⌜ BoundedRuns (now (card .entry))
+        (whole (now (beliefs .entry)) (now (goals .entry)) (now (plan .entry)) (now (length .entry)) (now (phase .entry))
+        (now (finished .entry))) budget r
+        (whole (now (beliefs .exit)) (now (goals .exit)) (now (plan .exit)) (now (length .exit)) (now (phase .exit))
+        (now (finished .exit)))
+        (now (count .exit)) (now (ending .exit)) ⌝ }
+{
+    let ran = bounded::run::run(
+        card,
+        beliefs,
+        goals,
+        standing(*length, *phase, *finished),
+        plan,
+        budget,
+    );
+    let m = ran.standing;
+    put(m, length, phase, finished);
+    *count = ran.count;
+    let e = ran.ending;
+    *ending = bounded_ending_number(e);
+    let a = ran.answer;
+    bounded_answer_number(a)
 }
 
 // The configuration after at most budget moves of a deliberation program, how many they were, how it ended, and the numbers that

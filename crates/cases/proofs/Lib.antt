@@ -1,2 +1,3 @@
 pub mod Stripe
 pub mod Deliberation
+pub mod Bounded

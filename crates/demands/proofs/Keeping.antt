@@ -16,6 +16,7 @@ use Rattle.runs.proofs.Run.{run-law}
 use Rattle.meaning.specs.declared.Answer.the-variants.{Done}
 use Rattle.meaning.specs.declared.Layout.{Layout}
 use Rattle.meaning.specs.declared.Configuration.{Configuration}
+use Rattle.meaning.specs.declared.Reply.{Reply}
 use Rattle.meaning.specs.declared.Ran.{Ran}
 use Rattle.meaning.specs.Sizes.{setBytes, goalsAt}
 use Rattle.meaning.specs.Card.{Bytes, layout, agent, initialBeliefs, initialGoals, start}
@@ -27,7 +28,7 @@ use Rattle.demands.specs.Demands.{OnAccepted}
 use Rattle.demands.proofs.Codes.{card-accepted}
 use Rattle.demands.proofs.Known.{KnownAgent, known-agent, known-start, known-after}
 use Rattle.demands.proofs.Saving.{Kept, Sized, handed-out}
-use Rattle.demands.proofs.Ways.{Running, refused, done}
+use Rattle.demands.proofs.Ways.{Taking, Running, refused, is-closed, plan-full, done}
 
 -- what a card starts with
 pub kept-start : (b : Bytes) → cardAnswer b ≡ Done → Kept (layout b) (start b)
@@ -61,7 +62,13 @@ module _ {l : Layout} {A : Agent} (known : KnownAgent l A) where
   kept-guided ends h = h
   kept-guided (goes {s} e x f r) h = kept-guided r (kept-after s h x f)
 
--- ---- and so does a run
+-- ---- and so do a chosen move and a run
+
+pub taken-sized : (b : Bytes) (c : Configuration) (n : ℕ) (r : Reply) → Taking b c n r → Sized b c → Sized b (r .configuration)
+taken-sized b c n r (refused e) h = h
+taken-sized b c n r (is-closed on e w x) h = h
+taken-sized b c n r (plan-full on k c′ m l) h = h
+taken-sized b c n r (done on k c′ m l) h = handed-out b _ (kept-after (known-agent b (card-accepted b c on)) (stateOf c) (h .keeps on) (m .transition) l)
 
 pub ran-kept : (b : Bytes) (c : Configuration) → OnAccepted b c → Sized b c → (budget : ℕ) → Kept (layout b) (run (agent b) budget (stateOf c) .state)
 ran-kept b c on h budget = kept-guided (known-agent b (card-accepted b c on)) (run-law (agent b) budget (stateOf c) .guided) (h .keeps on)

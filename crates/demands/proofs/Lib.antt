@@ -21,3 +21,7 @@ pub mod Demands
 pub mod Turning
 pub mod Telling
 pub mod Weaving
+pub mod OnBounded
+pub mod BoundedWords
+pub mod BoundedCalls
+pub mod BoundedTurns

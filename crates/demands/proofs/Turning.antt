@@ -130,7 +130,7 @@ module _ (b : Bytes) (c : Configuration) (keeps : Sized b c) (j k : ℕ) (least 
 -- ---- runs with turns between them
 
 -- one run more before runs that are as one
-one-before : (first last second one : Ran) (n : ℕ) → AsOneRun last n second → AsOneRun second (first .count + second .count) one
+pub one-before : (first last second one : Ran) (n : ℕ) → AsOneRun last n second → AsOneRun second (first .count + second .count) one
     → AsOneRun last (first .count + n) one
 one-before first last second one n x y = record {
   answer = x .answer ∙ y .answer;

@@ -24,7 +24,7 @@ use Rattle.demands.proofs.Turning.{turn-done, same-held, run-accepted, 
 use Rattle.demands.proofs.Telling.{Telling, at-rest, is-full, moves, telling, by-rest, by-full, back, run-at-rest, run-full, beside-one}
 
 -- a save hands back what it was given
-saved-back : (b : Bytes) (c : Configuration) (out left : Bytes) (r : Written) → Saves b c out r left → r .configuration ≡ c
+pub saved-back : (b : Bytes) (c : Configuration) (out left : Bytes) (r : Written) → Saves b c out r left → r .configuration ≡ c
 unfolding saves writes
 saved-back b c out left r (e, f) = ap (λ (x : Written). x .configuration) e
 

@@ -1,5 +1,5 @@
--- What the contract of each of the eight calls and of next says of an answer r, and of what a lent buffer holds afterwards (left).
--- The definitions are meaning's.
+-- What the contract of each of the eight calls, of next and of the two calls for bounded cards says of an answer r, and of what a
+-- lent buffer holds afterwards (left). The definitions are meaning's.
 use mathlib.Core.Path.{_≡_}
 use mathlib.Core.List.{List}
 use Prim.Native.Nat.{ℕ, _≤_}
@@ -13,9 +13,12 @@ use Rattle.meaning.specs.declared.Graded.{Graded}
 use Rattle.meaning.specs.declared.Written.{Written}
 use Rattle.meaning.specs.declared.Ran.{Ran}
 use Rattle.meaning.specs.declared.Next.{Next}
+use Rattle.meaning.specs.declared.BoundedReply.{BoundedReply}
+use Rattle.meaning.specs.declared.BoundedRan.{BoundedRan}
 use Rattle.meaning.specs.Sizes.{edition2Set}
 use Rattle.meaning.specs.Card.{Bytes}
 use Rattle.meaning.specs.Calls.{checks, loads, grades, lists, listLeaves, takes, runs, nexts, saves, saveLeaves, restores}
+use Rattle.meaning.specs.BoundedCalls.{asReply, asRan, boundedTakes, boundedRuns}
 
 -- 01, "What the guide does": "check a card"
 abbrev pub Checks : Bytes → Checked → Type 0
@@ -53,8 +56,18 @@ Restores b p r = r ≡ restores b p
 abbrev pub Nexts : Bytes → Configuration → Next → Type 0
 Nexts b c r = r ≡ nexts b c
 
+-- 02, Wish 10: "a chosen move for bounded cards": an answer that has no word for 11, in the table's words (docs/DECISIONS.md,
+-- "Answers without 11 and full").
+abbrev pub BoundedTakes : Bytes → Configuration → ℕ → BoundedReply → Type 0
+BoundedTakes b c n r = asReply r ≡ boundedTakes b c n
+
+-- 02, Wish 10: "a run … for bounded cards": an answer that has no word for "full", in the table's words.
+abbrev pub BoundedRuns : Bytes → Configuration → ℕ → BoundedRan → Type 0
+BoundedRuns b c budget r = asRan r ≡ boundedRuns b c budget
+
 -- What the types of its fields say of any configuration: how long its sets and its plan are, that the sets are bytes, and that the
--- count is a number of two bytes. Load, take, run and restore ensure it of what they answer, and save of what it is handed.
+-- count is a number of two bytes. Load, take, run, both calls for bounded cards and restore ensure it of what they answer, and save
+-- of what it is handed.
 pub record Shaped (c : Configuration) : Type 0 where
   -- 02, Wish 9: "sets of 32 bytes" (docs/DECISIONS.md, "A configuration has no edition")
   pub beliefs : length (c .mind .beliefs) ≡ edition2Set

@@ -7,3 +7,5 @@ pub mod Closed
 pub mod TestOrder
 pub mod TurnedScreen
 pub mod Next
+pub mod BoundedCalls
+pub mod BoundedTurns

@@ -68,21 +68,26 @@ module _ (b : Bytes) (c : Configuration) where
 
 -- ---- what an answer of the door tells
 
-abbrev Answers : Bytes → Configuration → Checked → Type 0
-Answers b c (Checked.Good l) = (configurationAnswer b c ≡ Done) × (l ≡ layout b)
-Answers b c (Checked.Refused r) = configurationAnswer b c ≡ Refused r
+-- by the answer of its rows
+abbrev Answers : Answer → Layout → Checked → Type 0
+Answers a k (Checked.Good l) = (a ≡ Done) × (l ≡ k)
+Answers a k (Checked.Refused r) = a ≡ Refused r
 
-answers : (b : Bytes) (c : Configuration) → Answers b c (admitted b c)
-answers b c = go (configurationAnswer b c) refl
-  where
-    go : (a : Answer) → configurationAnswer b c ≡ a → Answers b c (checkedBy a (layout b))
-    go Done e = (e, refl)
-    go (Refused r) e = e
+answers : (a : Answer) (k : Layout) → Answers a k (checkedBy a k)
+answers Done k = (refl, refl)
+answers (Refused r) k = refl
+
+module _ (a : Answer) (k : Layout) (v : Checked) (so : v ≡ checkedBy a k) where
+  pub let-in : (l : Layout) → v ≡ Checked.Good l → (a ≡ Done) × (l ≡ k)
+  let-in l e = subst (Answers a k) (sym so ∙ e) (answers a k)
+
+  -- with the refusal that is told of it
+  pub kept-out : (r : Refusal) → v ≡ Checked.Refused r → (x : Answer) → x ≡ answerOf v → (a ≡ Refused r) × (x ≡ Refused r)
+  kept-out r e x t = (subst (Answers a k) (sym so ∙ e) (answers a k), t ∙ ap answerOf e)
 
 module _ (b : Bytes) (c : Configuration) (v : Checked) (so : v ≡ admitted b c) where
   pub admitted-good : (l : Layout) → v ≡ Checked.Good l → (configurationAnswer b c ≡ Done) × (l ≡ layout b)
-  admitted-good l e = subst (Answers b c) (sym so ∙ e) (answers b c)
+  admitted-good = let-in (configurationAnswer b c) (layout b) v so
 
-  -- with the refusal that is told of it
   pub admitted-refused : (r : Refusal) → v ≡ Checked.Refused r → (a : Answer) → a ≡ answerOf v → (configurationAnswer b c ≡ Refused r) × (a ≡ Refused r)
-  admitted-refused r e a t = (subst (Answers b c) (sym so ∙ e) (answers b c), t ∙ ap answerOf e)
+  admitted-refused = kept-out (configurationAnswer b c) (layout b) v so

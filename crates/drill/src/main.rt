@@ -1,11 +1,14 @@
 // The drill: requests on standard input, an answer for each on standard output, so that any other program can be compared with the
-// fourteen calls byte for byte. Numbers of two or four bytes are low byte first. "A request that breaks these rules, or is not
+// sixteen calls byte for byte. Numbers of two or four bytes are low byte first. "A request that breaks these rules, or is not
 // there yet, ends the program."
 ghost use mathlib.Core.Path.{_≡_};
 ghost use Prim.Native.Nat.{_≤_};
 ghost use lib.ListN.{length};
 use answers::answer_carried;
 use answers::answer_number;
+use answers::bounded_answer_carried;
+use answers::bounded_answer_number;
+use answers::bounded_ending_number;
 use answers::coming_choice;
 use answers::coming_number;
 use answers::deliberation_ending_number;
@@ -339,6 +342,50 @@ fn run(card: &[u8]) -> bool {
     tell(answer_number(a));
     tell_image(reached);
     let told = [low(n), high(n), ending_number(e)];
+    io::write_all(1, &told);
+    true
+}
+
+// Request 13, "take on a bounded card": "as 5"
+fn take_bounded(card: &[u8]) -> bool {
+    let asked = next_image();
+    if !asked.whole {
+        return false;
+    }
+    let c = asked.configuration;
+    let code = next_number();
+    let Number::Is(choice) = code else {
+        return false;
+    };
+    let r = guide::take_bounded(card, c, choice);
+    let a = r.answer;
+    let next = r.configuration;
+    let node = bounded_answer_carried(a) as u16;
+    tell(bounded_answer_number(a));
+    tell(node);
+    tell_image(next);
+    true
+}
+
+// Request 14, "run on a bounded card": "as 6"
+fn run_bounded(card: &[u8]) -> bool {
+    let asked = next_image();
+    if !asked.whole {
+        return false;
+    }
+    let c = asked.configuration;
+    let most = next_number();
+    let Number::Is(budget) = most else {
+        return false;
+    };
+    let r = guide::run_bounded(card, c, budget);
+    let a = r.answer;
+    let e = r.ending;
+    let reached = r.configuration;
+    let n = r.count;
+    tell(bounded_answer_number(a));
+    tell_image(reached);
+    let told = [low(n), high(n), bounded_ending_number(e)];
     io::write_all(1, &told);
     true
 }
@@ -704,6 +751,8 @@ fn answer(card: &[u8], request: u8) -> bool {
         10 => print(card),
         11 => deliberate(card),
         12 => name(card),
+        13 => take_bounded(card),
+        14 => run_bounded(card),
         21 => go_on(card),
         22 => next(card),
         _ => false,

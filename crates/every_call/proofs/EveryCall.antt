@@ -15,6 +15,7 @@ use Rattle.demands.specs.Contracts.{Nexts}
 use Rattle.demands.specs.Demands.{OnAccepted}
 use Rattle.demands.proofs.Demands.{demand-1, determined}
 use Rattle.demands.proofs.Telling.{next-laws}
+use Rattle.demands.proofs.BoundedCalls.{bounded-calls}
 use Rattle.demands.proofs.Testing.{test-order}
 use Rattle.demands.proofs.AcceptedAgain.{again}
 use Rattle.demands.proofs.Striking.{struck}
@@ -26,17 +27,22 @@ use Rattle.deliberation.proofs.Call.{refusal-law, determined-law}
 use Rattle.every_call.specs.EveryCall.{EveryCall, EveryOrder, EveryAnswer, EveryDone, EveryGoal}
 use Rattle.every_call.proofs.Listed.{go-on-answer, name-answer, go-on-among, name-among, print-among, text-among, name-refused, print-refused}
 use Rattle.every_call.proofs.Ordered.{name-card, name-shed, name-master, name-action, print-card, print-next, print-room, text-next, text-card, text-room}
+use Rattle.every_call.proofs.OnBounded.{take-bounded-refused, run-bounded-answer, take-bounded-again, run-bounded-again, take-bounded-struck, run-bounded-struck}
 use Rattle.every_call.proofs.Deliberating.{go-on-again, accepted-numbers, go-on-struck}
 
 pub every-call : EveryCall
 every-call = record {
   eight = demand-1;
   next-listed = next-laws .listed;
+  take-bounded-listed = bounded-calls .take-listed;
+  run-bounded-listed = bounded-calls .run-listed;
   go-on-listed = λ b p ns c budget lent r w. rw (go-on-answer b p ns c budget lent r w) (go-on-among b p ns c);
   name-listed = λ b q r w. rw (name-answer b q r w) (name-among b q);
   text-listed = text-among;
   print-listed = λ b n out left a count w. rw (w .answer) (print-among b n out);
   next-hands-back = λ b c r w q e. (next-laws .unchanged b c r w, next-laws .refused b c r w q e);
+  take-bounded-hands-back = bounded-calls .take-hands-back;
+  run-bounded-hands-back = bounded-calls .run-hands-back;
   go-on-hands-back = λ b p ns c budget lent r w. refusal-law b p ns c budget lent r w .hands-back;
   name-hands-back = name-refused;
   text-leaves = λ t out left a n w. read-law t out a n left w .nothing-written;
@@ -47,6 +53,8 @@ pub every-order : EveryOrder
 every-order = record {
   eight = test-order;
   next = next-laws .answered;
+  take-bounded = take-bounded-refused;
+  run-bounded = run-bounded-answer;
   go-on = refusal-law;
   name-card = name-card;
   print-card = print-card;
@@ -65,6 +73,8 @@ pub every-answer : EveryAnswer
 every-answer = record {
   eight = determined;
   next = next-laws .determined;
+  take-bounded = bounded-calls .take-one;
+  run-bounded = bounded-calls .run-one;
   go-on = determined-law;
   name = λ b q r r′ e e′. e ∙ sym e′;
   text = read-determined;
@@ -88,7 +98,13 @@ next-again : (b : Bytes) (c : Configuration) (r : Next) → Nexts b c r → r .a
 next-again b c r w d = rw (next-laws .unchanged b c r w) (sym (next-laws .answered b c r w) ∙ d)
 
 pub every-done : EveryDone
-every-done = record { eight = again; next = next-again; go-on = go-on-again; numbers = accepted-numbers; text = text-accepted }
+every-done = record { eight = again; next = next-again; take-bounded = take-bounded-again; run-bounded = run-bounded-again; go-on = go-on-again; numbers = accepted-numbers; text = text-accepted }
 
 pub every-goal : EveryGoal
-every-goal = record { eight = struck; next = λ b c r w u. rw (next-laws .unchanged b c r w) u; go-on = go-on-struck }
+every-goal = record {
+  eight = struck;
+  next = λ b c r w u. rw (next-laws .unchanged b c r w) u;
+  take-bounded = take-bounded-struck;
+  run-bounded = run-bounded-struck;
+  go-on = go-on-struck;
+}

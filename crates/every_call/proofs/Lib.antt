@@ -1,3 +1,4 @@
+pub mod OnBounded
 pub mod Listed
 pub mod Ordered
 pub mod Deliberating

@@ -2,6 +2,7 @@
 use mathlib.Core.Path.{_≡_, refl, ap, _∙_, sym, subst}
 use mathlib.Core.Bool.{true, false}
 use mathlib.Core.List.{List, [], _∷_, _++_}
+use mathlib.Core.Option.{some}
 use Prim.Native.Nat.{ℕ, suc, _+_, _≤_}
 use native.Mathlib.Decide.{decLt}
 use native.Mathlib.Nat.{zero-add}
@@ -21,18 +22,24 @@ use Rattle.meaning.specs.declared.Answer.the-variants.{Done}
 use Rattle.meaning.specs.declared.Configuration.{Configuration}
 use Rattle.meaning.specs.declared.Reply.{Reply}
 use Rattle.meaning.specs.declared.Ran.{Ran}
+use Rattle.meaning.specs.declared.BoundedAnswer.{BoundedAnswer}
+use Rattle.meaning.specs.declared.BoundedReply.{BoundedReply}
+use Rattle.meaning.specs.declared.BoundedRan.{BoundedRan}
 use Rattle.meaning.specs.Card.{Bytes, layout, agent, start}
+use Rattle.meaning.specs.BoundedCalls.{asReply, asRan}
+use Rattle.meaning.specs.Calls.{choice}
 use Rattle.meaning.specs.Configurations.{stateOf, configurationOf}
 use Rattle.meaning.specs.Refusals.{cardAnswer}
 use Rattle.meaning.proofs.Configurations.{configuration-laws}
 use Rattle.meaning.proofs.Tables.{done≢refused}
-use Rattle.demands.specs.Contracts.{Loads, Takes, Runs}
+use Rattle.demands.specs.Contracts.{Loads, Takes, Runs, BoundedTakes, BoundedRuns}
 use Rattle.demands.specs.Demands.{OnAccepted, StandsFor}
 use Rattle.demands.specs.TurnedScreen.{Turn}
 use Rattle.demands.proofs.AcceptedAgain.{again}
 use Rattle.demands.proofs.Codes.{card-accepted, chosen}
 use Rattle.demands.proofs.Demands.{demand-2}
 use Rattle.demands.proofs.Known.{known-agent, known-start}
+use Rattle.demands.proofs.OnBounded.{as-done, take-done, run-done}
 use Rattle.demands.proofs.Keeping.{kept-start, kept-after}
 use Rattle.demands.proofs.Saving.{Kept, Sized, handed-out}
 use Rattle.demands.proofs.Turning.{same-held}
@@ -42,7 +49,7 @@ use Rattle.deliberation.specs.Programs.{Rest}
 use Rattle.deliberation.specs.MetaTransitions.{Label, notIdle}
 use Rattle.deliberation.specs.Theorems.{GoesOn, Goes, stays, goes, Followed, no-move, one-move}
 use Rattle.deliberation.proofs.Call.{tells-law}
-use Rattle.every_call.specs.SinceLoad.{Since, loaded, taken, ran, deliberated, turned, Made, at-load, by-take, by-run, by-deliberation, by-turn, SinceLoad}
+use Rattle.every_call.specs.SinceLoad.{Since, loaded, taken, ran, taken-bounded, ran-bounded, deliberated, turned, Made, at-load, by-take, by-run, by-bounded-take, by-bounded-run, by-deliberation, by-turn, SinceLoad}
 use Rattle.every_call.proofs.Deliberating.{go-on-done, go-on-stands, go-on-again}
 
 -- ---- transitions with the states between them, whoever chooses
@@ -138,29 +145,80 @@ module _ (b : Bytes) where
       }
 
   module _ {c : Configuration} {h : Since b c} (before : Walk b h) where
+    -- a chosen move that is done, whatever it is called by
+    module _ (n : ℕ) (r : Reply) (w : Takes b c n r) (d : r .answer ≡ Done) where
+      one-move-of : (k : Choice) × ((choice n ≡ some k) × Moves (agent b) (stateOf c) (k ∷ []) (stateOf (r .configuration)))
+      one-move-of =
+          let (k, (c′, (m, l))) = demand-2 .taken-exactly b c (before .on) n r w .0 d in
+          let x = demand-2 .taken-to b c (before .on) n r w k c′ m l in
+          (k, (chosen b c (before .on) m, subst (Moves (agent b) (stateOf c) (k ∷ [])) (sym (x .stands-for)) (one-then (m .transition) l no-more)))
+
+      take-out : r .configuration ≡ configurationOf (stateOf (r .configuration))
+      take-out =
+          let (k, (c′, (m, l))) = demand-2 .taken-exactly b c (before .on) n r w .0 d in
+          out (demand-2 .taken-to b c (before .on) n r w k c′ m l)
+
     since-take : (n : ℕ) (r : Reply) (w : Takes b c n r) (d : r .answer ≡ Done) → Walk b (taken h n r w d)
     since-take n r w d =
-        let (k, (c′, (m, l))) = demand-2 .taken-exactly b c (before .on) n r w .0 d in
-        let x = demand-2 .taken-to b c (before .on) n r w k c′ m l in
+        let (k, (e, m)) = one-move-of n r w d in
         record {
           choices = before .choices ++ (k ∷ []);
-          made = by-take (before .made) (chosen b c (before .on) m);
+          made = by-take (before .made) e;
           on = again .take b c n r w d;
-          moves = joined (before .moves) (subst (Moves (agent b) (stateOf c) (k ∷ [])) (sym (x .stands-for)) (one-then (m .transition) l no-more));
-          handed-out = out x;
+          moves = joined (before .moves) m;
+          handed-out = take-out n r w d;
+        }
+
+    since-bounded-take : (n : ℕ) (r : BoundedReply) (w : BoundedTakes b c n r) (d : r .answer ≡ BoundedAnswer.Done) → Walk b (taken-bounded h n r w d)
+    since-bounded-take n r w d =
+        let (on, t) = take-done b c n r w d in
+        let (k, (e, m)) = one-move-of n (asReply r) t (as-done d) in
+        record {
+          choices = before .choices ++ (k ∷ []);
+          made = by-bounded-take (before .made) e;
+          on = again .take b c n (asReply r) t (as-done d);
+          moves = joined (before .moves) m;
+          handed-out = take-out n (asReply r) t (as-done d);
+        }
+
+    -- a run that is done, whatever it is called by
+    record Ranged (r : Ran) : Type 0 where
+      pub js : List Choice
+      pub own : Guided (agent b) (stateOf c) js (stateOf (r .configuration))
+      pub counted : r .count ≡ length js
+      pub given : r .configuration ≡ configurationOf (stateOf (r .configuration))
+
+    ranged : (budget : ℕ) (r : Ran) → Runs b c budget r → Ranged r
+    ranged budget r w =
+        let (o, (t, told)) = demand-2 .own-order b c (before .on) budget r w in
+        record {
+          js = t .choices;
+          own = subst (Guided (agent b) (stateOf c) (t .choices)) (sym (told .reached .stands-for)) (t .guided);
+          counted = told .count ∙ t .counted;
+          given = out (told .reached);
         }
 
     since-run : (budget : ℕ) (r : Ran) (w : Runs b c budget r) (d : r .answer ≡ Done) → Walk b (ran h budget r w d)
     since-run budget r w d =
-        let (o, (t, told)) = demand-2 .own-order b c (before .on) budget r w in
-        let g : Guided (agent b) (stateOf c) (t .choices) (stateOf (r .configuration))
-        = subst (Guided (agent b) (stateOf c) (t .choices)) (sym (told .reached .stands-for)) (t .guided) in
+        let g = ranged budget r w in
         record {
-          choices = before .choices ++ t .choices;
-          made = by-run (before .made) g (told .count ∙ t .counted);
+          choices = before .choices ++ g .js;
+          made = by-run (before .made) (g .own) (g .counted);
           on = again .run b c budget r w d;
-          moves = joined (before .moves) (guided g);
-          handed-out = out (told .reached);
+          moves = joined (before .moves) (guided (g .own));
+          handed-out = g .given;
+        }
+
+    since-bounded-run : (budget : ℕ) (r : BoundedRan) (w : BoundedRuns b c budget r) (d : r .answer ≡ BoundedAnswer.Done) → Walk b (ran-bounded h budget r w d)
+    since-bounded-run budget r w d =
+        let (on, t) = run-done b c budget r w d in
+        let g = ranged budget (asRan r) t in
+        record {
+          choices = before .choices ++ g .js;
+          made = by-bounded-run (before .made) (g .own) (g .counted);
+          on = again .run b c budget (asRan r) t (as-done d);
+          moves = joined (before .moves) (guided (g .own));
+          handed-out = g .given;
         }
 
     since-deliberation : (p : Bytes) (ns : List ℕ) (budget : ℕ) (lent : Bytes) (r : Deliberated) (w : GoesOn b p ns c budget lent r) (d : r .answer ≡ Done)
@@ -190,6 +248,8 @@ walk : {b : Bytes} {c : Configuration} (h : Since b c) → Walk b h
 walk {b} (loaded r w d) = since-load b r w d
 walk {b} (taken h n r w d) = since-take b (walk h) n r w d
 walk {b} (ran h budget r w d) = since-run b (walk h) budget r w d
+walk {b} (taken-bounded h n r w d) = since-bounded-take b (walk h) n r w d
+walk {b} (ran-bounded h budget r w d) = since-bounded-run b (walk h) budget r w d
 walk {b} (deliberated h p ns budget lent r w d) = since-deliberation b (walk h) p ns budget lent r w d
 walk {b} (turned h t) = since-turn b (walk h) t
 

@@ -1,6 +1,6 @@
--- What the documents say of every public call: a record for each sentence, with what is said of the eight calls of document 01,
--- and the same of next, go on, name, text and print, as far as it concerns each (proved in proofs/). What is said of go on is said
--- of deliberate, which is the case that the numbers given are the whole: `Deliberates`.
+-- What the documents say of every public call: a record for each sentence, with what is said of the eight calls of document 01, and
+-- the same of next, the two for bounded cards, go on, name, text and print, as far as it concerns each (proved in proofs/). What is
+-- said of go on is said of deliberate, which is the case that the numbers given are the whole: `Deliberates`.
 use mathlib.Core.Path.{_≡_}
 use mathlib.Core.Bool.{true, false}
 use mathlib.Core.List.{List, [], _∷_, _++_, List·Memᴰ}
@@ -12,14 +12,20 @@ use Rattle.meaning.specs.declared.Answer.the-variants.{Done, Refused}
 use Rattle.meaning.specs.declared.Configuration.{Configuration}
 use Rattle.meaning.specs.declared.Coming.{Coming}
 use Rattle.meaning.specs.declared.Next.{Next}
+use Rattle.meaning.specs.declared.BoundedRefusal.{BoundedRefusal}
+use Rattle.meaning.specs.declared.BoundedAnswer.{BoundedAnswer}
+use Rattle.meaning.specs.declared.BoundedReply.{BoundedReply}
+use Rattle.meaning.specs.declared.BoundedRan.{BoundedRan}
 use Rattle.meaning.specs.Card.{Bytes, layout}
 use Rattle.meaning.specs.Refusals.{answerNumber, firstGiven, cardAnswer, configurationAnswer}
 use Rattle.meaning.specs.Calls.{roomFor}
-use Rattle.demands.specs.Contracts.{Nexts}
+use Rattle.meaning.specs.BoundedCalls.{asAnswer, boundedAnswer}
+use Rattle.demands.specs.Contracts.{Nexts, BoundedTakes, BoundedRuns}
 use Rattle.demands.specs.Demands.{doneOrCard, Demand1, Determined, OnAccepted}
 use Rattle.demands.specs.TestOrder.{TestOrder}
 use Rattle.demands.specs.AcceptedAgain.{AcceptedAgain}
 use Rattle.demands.specs.Struck.{Unbelieved, Struck}
+use Rattle.demands.specs.BoundedCalls.{OnBounded}
 use Rattle.notation.specs.Lines.{Said, Text}
 use Rattle.notation.specs.Built.{built}
 use Rattle.notation.specs.Reading.{Derived, textTable, Reads}
@@ -39,6 +45,11 @@ pub record EveryCall : Type 0 where
   pub eight : Demand1
   -- 01, "Numbers the guide may answer": "the card first with 1 to 9, then … a configuration with 13"
   pub next-listed : (b : Bytes) (c : Configuration) (r : Next) → Nexts b c r → List·Memᴰ (answerNumber (r .answer)) (doneOrCard ++ (13 ∷ []))
+  -- 02, Wish 10: "take both out of these answers": 11 is not among them; "22 …, after 13."
+  pub take-bounded-listed : (b : Bytes) (c : Configuration) (n : ℕ) (r : BoundedReply) → BoundedTakes b c n r
+      → List·Memᴰ (answerNumber (asAnswer (r .answer))) (doneOrCard ++ (13 ∷ 22 ∷ 14 ∷ 15 ∷ 16 ∷ []))
+  pub run-bounded-listed : (b : Bytes) (c : Configuration) (budget : ℕ) (r : BoundedRan) → BoundedRuns b c budget r
+      → List·Memᴰ (answerNumber (asAnswer (r .answer))) (doneOrCard ++ (13 ∷ 22 ∷ []))
   -- 02, Wish 6: "19 …, after 9 and before 13."
   pub go-on-listed : (b p : Bytes) (ns : List ℕ) (c : Configuration) (budget : ℕ) (lent : Bytes) (r : Deliberated)
       → GoesOn b p ns c budget lent r → List·Memᴰ (answerNumber (r .answer)) (doneOrCard ++ (19 ∷ 13 ∷ []))
@@ -55,6 +66,10 @@ pub record EveryCall : Type 0 where
   -- 00, demand 1: "A refusal hands back the configuration it was given"; and no move is told
   pub next-hands-back : (b : Bytes) (c : Configuration) (r : Next) → Nexts b c r → (q : Refusal) → r .answer ≡ Refused q
       → (r .configuration ≡ c) × (r .coming ≡ Coming.Rest)
+  pub take-bounded-hands-back : (b : Bytes) (c : Configuration) (n : ℕ) (r : BoundedReply) → BoundedTakes b c n r
+      → (q : BoundedRefusal) → r .answer ≡ BoundedAnswer.Refused q → r .configuration ≡ c
+  pub run-bounded-hands-back : (b : Bytes) (c : Configuration) (budget : ℕ) (r : BoundedRan) → BoundedRuns b c budget r
+      → (q : BoundedRefusal) → r .answer ≡ BoundedAnswer.Refused q → (r .configuration ≡ c) × (r .count ≡ 0)
   -- 00, demand 1: "A refusal hands back the configuration it was given"; 01, "Numbers the guide may answer": "Any count in a
   -- refusal is 0."; 02, Wish 6: "none when refused"; 00, demand 1: "and writes to no lent buffer": the bytes that are lent for the
   -- numbers are as they were.
@@ -76,6 +91,12 @@ pub record EveryOrder : Type 0 where
   pub eight : TestOrder
   -- 01, "Numbers the guide may answer": "the card first with 1 to 9, then … a configuration with 13": and no other
   pub next : (b : Bytes) (c : Configuration) (r : Next) → Nexts b c r → r .answer ≡ configurationAnswer b c
+  -- 02, Wish 10: "22 the card is open or the plan too heavy, after 13.": before what take answers of the choice; run answers no
+  -- other
+  pub take-bounded : (b : Bytes) (c : Configuration) (n : ℕ) (r : BoundedReply) → BoundedTakes b c n r
+      → (q : Refusal) → boundedAnswer b c ≡ Refused q → asAnswer (r .answer) ≡ Refused q
+  pub run-bounded : (b : Bytes) (c : Configuration) (budget : ℕ) (r : BoundedRan) → BoundedRuns b c budget r
+      → asAnswer (r .answer) ≡ boundedAnswer b c
   -- 02, Wish 6: "19 a program breaking these rules or naming an unknown rule or node, after 9 and before 13."
   pub go-on : RefusalLaw
   -- 01, "Numbers the guide may answer": "the card first with 1 to 9", of the two others that are given one
@@ -114,6 +135,9 @@ pub record EveryOrder : Type 0 where
 pub record EveryAnswer : Type 0 where
   pub eight : Determined
   pub next : (b : Bytes) (c : Configuration) (r r′ : Next) → Nexts b c r → Nexts b c r′ → r ≡ r′
+  pub take-bounded : (b : Bytes) (c : Configuration) (n : ℕ) (r r′ : BoundedReply) → BoundedTakes b c n r → BoundedTakes b c n r′ → r ≡ r′
+  pub run-bounded : (b : Bytes) (c : Configuration) (budget : ℕ) (r r′ : BoundedRan)
+      → BoundedRuns b c budget r → BoundedRuns b c budget r′ → r ≡ r′
   pub go-on : DeterminedLaw
   pub name : (b : Bytes) (q : Question) (r r′ : Named) → Names b q r → Names b q r′ → r ≡ r′
   pub text : ReadDetermined
@@ -130,6 +154,11 @@ AcceptedNumbers = (b p : Bytes) (ns : List ℕ) (c : Configuration) (budget : �
 pub record EveryDone : Type 0 where
   pub eight : AcceptedAgain
   pub next : (b : Bytes) (c : Configuration) (r : Next) → Nexts b c r → r .answer ≡ Done → OnAccepted b (r .configuration)
+  -- 02, Wish 10: "a plan weighing at most 1,024": neither call after it answers 22 either
+  pub take-bounded : (b : Bytes) (c : Configuration) (n : ℕ) (r : BoundedReply) → BoundedTakes b c n r → r .answer ≡ BoundedAnswer.Done
+      → OnBounded b (r .configuration)
+  pub run-bounded : (b : Bytes) (c : Configuration) (budget : ℕ) (r : BoundedRan) → BoundedRuns b c budget r → r .answer ≡ BoundedAnswer.Done
+      → OnBounded b (r .configuration)
   pub go-on : (b p : Bytes) (ns : List ℕ) (c : Configuration) (budget : ℕ) (lent : Bytes) (r : Deliberated)
       → GoesOn b p ns c budget lent r → r .answer ≡ Done → OnAccepted b (r .configuration)
   -- with the numbers that remain: go on accepts both, so that it does not answer 19 either
@@ -142,5 +171,9 @@ pub record EveryDone : Type 0 where
 pub record EveryGoal : Type 0 where
   pub eight : Struck
   pub next : (b : Bytes) (c : Configuration) (r : Next) → Nexts b c r → Unbelieved c → Unbelieved (r .configuration)
+  pub take-bounded : (b : Bytes) (c : Configuration) (n : ℕ) (r : BoundedReply) → BoundedTakes b c n r → Unbelieved c
+      → Unbelieved (r .configuration)
+  pub run-bounded : (b : Bytes) (c : Configuration) (budget : ℕ) (r : BoundedRan) → BoundedRuns b c budget r → Unbelieved c
+      → Unbelieved (r .configuration)
   pub go-on : (b p : Bytes) (ns : List ℕ) (c : Configuration) (budget : ℕ) (lent : Bytes) (r : Deliberated)
       → GoesOn b p ns c budget lent r → Unbelieved c → Unbelieved (r .configuration)

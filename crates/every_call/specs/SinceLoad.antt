@@ -13,18 +13,21 @@ use Rattle.meaning.specs.declared.Answer.the-variants.{Done}
 use Rattle.meaning.specs.declared.Configuration.{Configuration}
 use Rattle.meaning.specs.declared.Reply.{Reply}
 use Rattle.meaning.specs.declared.Ran.{Ran}
+use Rattle.meaning.specs.declared.BoundedAnswer.{BoundedAnswer}
+use Rattle.meaning.specs.declared.BoundedReply.{BoundedReply}
+use Rattle.meaning.specs.declared.BoundedRan.{BoundedRan}
 use Rattle.meaning.specs.Card.{Bytes, agent, start}
 use Rattle.meaning.specs.Configurations.{stateOf}
 use Rattle.meaning.specs.Calls.{choice}
-use Rattle.demands.specs.Contracts.{Loads, Takes, Runs}
+use Rattle.demands.specs.Contracts.{Loads, Takes, Runs, BoundedTakes, BoundedRuns}
 use Rattle.demands.specs.TurnedScreen.{Turn, held}
 use Rattle.deliberation.specs.declared.Deliberated.{Deliberated}
 use Rattle.deliberation.specs.Programs.{Rest}
 use Rattle.deliberation.specs.MetaTransitions.{Label, notIdle}
 use Rattle.deliberation.specs.Theorems.{Followed, standFor, GoesOn}
 
--- What may have been done under a card since load, up to a configuration: chosen moves, runs, deliberations and turns of the
--- screen, in any order.
+-- What may have been done under a card since load, up to a configuration: chosen moves, runs, both as on bounded cards too,
+-- deliberations and turns of the screen, in any order.
 pub data Since (b : Bytes) : Configuration → Type 0 where
   -- 02, Wish 4: "since load"
   loaded : (r : Reply) → Loads b r → r .answer ≡ Done → Since b (r .configuration)
@@ -32,6 +35,11 @@ pub data Since (b : Bytes) : Configuration → Type 0 where
   taken : {c : Configuration} → Since b c → (n : ℕ) (r : Reply) → Takes b c n r → r .answer ≡ Done → Since b (r .configuration)
   -- 01, "What the guide does": "run by itself"
   ran : {c : Configuration} → Since b c → (budget : ℕ) (r : Ran) → Runs b c budget r → r .answer ≡ Done → Since b (r .configuration)
+  -- 02, Wish 10: "a run and a chosen move for bounded cards"
+  taken-bounded : {c : Configuration} → Since b c → (n : ℕ) (r : BoundedReply) → BoundedTakes b c n r → r .answer ≡ BoundedAnswer.Done
+      → Since b (r .configuration)
+  ran-bounded : {c : Configuration} → Since b c → (budget : ℕ) (r : BoundedRan) → BoundedRuns b c budget r → r .answer ≡ BoundedAnswer.Done
+      → Since b (r .configuration)
   -- 02, Wish 6: "Our own deliberation.": from any numbers of a program
   deliberated : {c : Configuration} → Since b c → (p : Bytes) (ns : List ℕ) (budget : ℕ) (lent : Bytes) (r : Deliberated)
       → GoesOn b p ns c budget lent r → r .answer ≡ Done → Since b (r .configuration)
@@ -47,6 +55,12 @@ pub data Made (b : Bytes) : (c : Configuration) → Since b c → List Choice �
   by-run : {c : Configuration} {h : Since b c} {budget : ℕ} {r : Ran} {w : Runs b c budget r} {d : r .answer ≡ Done} {ks js : List Choice}
       → Made b _ h ks → Guided (agent b) (stateOf c) js (stateOf (r .configuration)) → r .count ≡ length js
       → Made b _ (ran h budget r w d) (ks ++ js)
+  by-bounded-take : {c : Configuration} {h : Since b c} {n : ℕ} {r : BoundedReply} {w : BoundedTakes b c n r} {d : r .answer ≡ BoundedAnswer.Done}
+      {ks : List Choice} {k : Choice} → Made b _ h ks → choice n ≡ some k → Made b _ (taken-bounded h n r w d) (ks ++ (k ∷ []))
+  by-bounded-run : {c : Configuration} {h : Since b c} {budget : ℕ} {r : BoundedRan} {w : BoundedRuns b c budget r}
+      {d : r .answer ≡ BoundedAnswer.Done} {ks js : List Choice}
+      → Made b _ h ks → Guided (agent b) (stateOf c) js (stateOf (r .configuration)) → r .count ≡ length js
+      → Made b _ (ran-bounded h budget r w d) (ks ++ js)
   by-deliberation : {c : Configuration} {h : Since b c} {p : Bytes} {ns : List ℕ} {budget : ℕ} {lent : Bytes} {r : Deliberated}
       {w : GoesOn b p ns c budget lent r} {d : r .answer ≡ Done} {ks : List Choice} {xs : List Label} {rest : Rest}
       → Made b _ h ks → Followed (agent b) (standFor b p ns) (stateOf c) xs rest (stateOf (r .configuration)) → r .count ≡ length xs

@@ -1,20 +1,25 @@
-// The guide: the twelve calls. Nothing is assumed of any byte or number; each contract cites one definition of the whole answer,
+// The guide: the fourteen calls. Nothing is assumed of any byte or number; each contract cites one definition of the whole answer,
 // refusals too, and of what a lent buffer holds afterwards. A configuration goes in and comes back by value.
 ghost use mathlib.Core.Path.{_≡_};
 ghost use Prim.Native.Nat.{_+_, _≤_};
 ghost use lib.ListN.{replicate};
 ghost use Rattle.paper.specs.Theorems.{AreBytes};
-ghost use Rattle.demands.specs.Contracts.{Checks, Loads, Grades, Lists, Takes, Runs, Nexts, Saves, Restores, Shaped};
+ghost use Rattle.demands.specs.Contracts.{Checks, Loads, Grades, Lists, Takes, Runs, Nexts, BoundedTakes, BoundedRuns, Saves, Restores, Shaped};
 ghost use Rattle.deliberation.specs.Theorems.{GoesOn, Deliberates};
 ghost use Rattle.layout.specs.PlaceParts.{configured};
 ghost use Rattle.door.specs.InPlace.{replyWith, ranWith};
+ghost use Rattle.bounded.specs.InPlace.{boundedReplyWith, boundedRanWith};
 ghost use Rattle.deliberate.specs.InPlace.{deliberatedWith};
 ghost use Rattle.names.specs.Naming.{asked, names, Names, nameOf, placeOf};
+use bounded::in_place::BoundedRanInPlace;
+use bounded::in_place::BoundedReplyInPlace;
 use deliberate::call::DeliberatedInPlace;
 use deliberation::Deliberated;
 use deliberation::Remaining;
 use door::in_place::RanInPlace;
 use door::in_place::ReplyInPlace;
+use meaning::BoundedRan;
+use meaning::BoundedReply;
 use meaning::Checked;
 use meaning::Configuration;
 use meaning::Graded;
@@ -174,6 +179,73 @@ pub fn run(card: &[u8], c: Configuration, budget: u16) -> Ran
         budget,
     );
     ran_with(r, beliefs, goals, plan)
+}
+
+// What a chosen move on a bounded card answered in place, with the sets and the plan.
+fn bounded_reply_with(r: BoundedReplyInPlace, beliefs: Set, goals: Set, plan: Plan) -> BoundedReply
+    ensures { λ x. ⌜ x ≡ boundedReplyWith r beliefs goals plan ⌝ }
+    ensures { λ x. ⌜ Shaped (x .configuration) ⌝ }
+{
+    let a = r.answer;
+    BoundedReply {
+        answer: a,
+        configuration: whole(beliefs, goals, r.standing, plan),
+    }
+}
+
+// The chosen move on a bounded card, from a plan that weighs at most 1,024: 11 is no answer.
+pub fn take_bounded(card: &[u8], c: Configuration, choice: u16) -> BoundedReply
+    ensures { λ r. ⌜ BoundedTakes (now (card .entry)) c choice r ⌝ }
+    ensures { λ r. ⌜ Shaped (r .configuration) ⌝ }
+{
+    let m = c.mind;
+    let mut beliefs = m.beliefs;
+    let mut goals = m.goals;
+    let mut plan = c.plan;
+    let r = bounded::take::take(
+        card,
+        &mut beliefs,
+        &mut goals,
+        standing(m),
+        &mut plan,
+        choice,
+    );
+    bounded_reply_with(r, beliefs, goals, plan)
+}
+
+// What a run on a bounded card answered in place, with the sets and the plan.
+fn bounded_ran_with(r: BoundedRanInPlace, beliefs: Set, goals: Set, plan: Plan) -> BoundedRan
+    ensures { λ x. ⌜ x ≡ boundedRanWith r beliefs goals plan ⌝ }
+    ensures { λ x. ⌜ Shaped (x .configuration) ⌝ }
+{
+    let a = r.answer;
+    let e = r.ending;
+    BoundedRan {
+        answer: a,
+        count: r.count,
+        ending: e,
+        configuration: whole(beliefs, goals, r.standing, plan),
+    }
+}
+
+// At most budget moves of the guide's own on a bounded card, from a plan that weighs at most 1,024: it ends spent or at rest.
+pub fn run_bounded(card: &[u8], c: Configuration, budget: u16) -> BoundedRan
+    ensures { λ r. ⌜ BoundedRuns (now (card .entry)) c budget r ⌝ }
+    ensures { λ r. ⌜ Shaped (r .configuration) ⌝ }
+{
+    let m = c.mind;
+    let mut beliefs = m.beliefs;
+    let mut goals = m.goals;
+    let mut plan = c.plan;
+    let r = bounded::run::run(
+        card,
+        &mut beliefs,
+        &mut goals,
+        standing(m),
+        &mut plan,
+        budget,
+    );
+    bounded_ran_with(r, beliefs, goals, plan)
 }
 
 // The guide's own next move, which is not made: its code, or that it rests or is full.

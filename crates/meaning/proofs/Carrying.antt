@@ -33,3 +33,4 @@ carries Refusal.Large = nothing refl
 carries Refusal.Program = nothing refl
 carries (Refusal.Sheet k) = a-sheet
 carries Refusal.NoAction = nothing refl
+carries Refusal.OpenOrHeavy = nothing refl

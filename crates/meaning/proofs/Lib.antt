@@ -5,6 +5,7 @@ pub mod Tables
 pub mod Accepted
 pub mod Starting
 pub mod Calls
+pub mod BoundedCalls
 pub mod Configurations
 pub mod Parts
 pub mod Pass

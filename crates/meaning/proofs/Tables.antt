@@ -10,6 +10,7 @@ use Rattle.meaning.specs.declared.Refusal.{Refusal}
 use Rattle.meaning.specs.declared.Answer.{Answer}
 use Rattle.meaning.specs.declared.Answer.the-variants.{Done, Refused}
 use Rattle.meaning.specs.Refusals.{numberOf, Row, _given-when_, firstGiven, cardTable, placeTable, configurationTable, andThen}
+use Rattle.meaning.specs.BoundedCalls.{boundedTable}
 use Rattle.meaning.specs.Theorems.{FirstRow, TableLaw, TableOrder}
 
 pub done≢refused : {r : Refusal} → _≡_ {A = Answer} Done (Refused r) → ⊥
@@ -100,8 +101,8 @@ table-laws X rows x =
     }
 
 pub table-order : TableOrder
-unfolding numberOf cardTable placeTable configurationTable
-table-order = record { card = λ b. refl; place = λ l p. refl; configuration = λ l c. refl }
+unfolding numberOf cardTable placeTable configurationTable boundedTable
+table-order = record { card = λ b. refl; place = λ l p. refl; configuration = λ l c. refl; bounded = λ b c. refl }
 
 -- two answers one after the other
 pub and-then-done : (a a′ : Answer) → andThen a a′ ≡ Done → (a ≡ Done) × (a′ ≡ Done)

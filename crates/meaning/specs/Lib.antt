@@ -7,6 +7,7 @@ pub mod Place
 pub mod Refusals
 pub mod Why
 pub mod Calls
+pub mod BoundedCalls
 pub mod Numbers
 pub mod Theorems
 pub mod Assembled

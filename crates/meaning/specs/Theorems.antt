@@ -22,6 +22,7 @@ use Rattle.meaning.specs.Why.{settler, turns, why}
 use Rattle.meaning.specs.Configurations.{stateOf, configurationOf, empty}
 use Rattle.meaning.specs.Place.{place, placed}
 use Rattle.meaning.specs.Refusals.{numberOf, cardAnswer, Row, firstGiven, cardTable, configurationTable, placeTable, configurationGood}
+use Rattle.meaning.specs.BoundedCalls.{boundedTable}
 
 -- 01, "Numbers the guide may answer": "given exactly when" and "tested in the table's order": a row answers when what it is
 -- given for holds and nothing of the rows before it does.
@@ -66,6 +67,8 @@ pub record TableOrder : Type 0 where
   pub place : (l : Layout) (p : Bytes) → rowNumbers (placeTable l) p ≡ 1 ∷ 2 ∷ 1 ∷ 3 ∷ 4 ∷ 8 ∷ 9 ∷ []
   -- 01, "Numbers the guide may answer": "a configuration with 13"
   pub configuration : (l : Layout) (c : Configuration) → rowNumbers (configurationTable l) c ≡ 13 ∷ []
+  -- 02, Wish 10: "22 the card is open or the plan too heavy"
+  pub bounded : (b : Bytes) (c : Configuration) → rowNumbers (boundedTable b) c ≡ 22 ∷ []
 
 -- 00, demands 2 and 3: "On an accepted card", what holds of it.
 pub record CardLaws (b : Bytes) : Type 0 where

@@ -1,12 +1,13 @@
-// The meaning of a card: the words in which the eight calls and `next` answer. The definitions of what they answer are in
-// specs/. It holds no code.
+// The meaning of a card: the words in which the eight calls, `next` and the two calls for bounded cards answer. The definitions of
+// what they answer are in specs/. It holds no code.
 use runs::Ending;
 use runs::Verdict;
 
 // 01, "Numbers the guide may answer": the rows of the table but the first, by their names, in its order; in the place of "not
 // enabled" the three of 02, Wish 1: no such rule or specification, the plan's front, a condition with the node that settled it.
-// Then those of 02, Wish 2: a text with the place of the wrong byte, nested too deep, too large; that of Wish 6: a program; and
-// those of Wish 8: a sheet, with which it is (0 the master's, 1 the shed's), and an unknown action.
+// Then those of 02, Wish 2: a text with the place of the wrong byte, nested too deep, too large; that of Wish 6: a program; those
+// of Wish 8: a sheet, with which it is (0 the master's, 1 the shed's), and an unknown action; and that of Wish 10: the card is open
+// or the plan too heavy.
 pub enum Refusal {
     Short,
     Mark,
@@ -29,6 +30,7 @@ pub enum Refusal {
     Program,
     Sheet(usize),
     NoAction,
+    OpenOrHeavy,
 }
 
 // 01, "Numbers the guide may answer": "done", row 0, or one of the others.
@@ -176,5 +178,53 @@ pub enum Coming {
 pub struct Next {
     pub answer: Answer,
     pub coming: Coming,
+    pub configuration: Configuration,
+}
+
+// 02, Wish 10: "show that 11 and the ending "full" cannot arise there, and take both out of these answers": the refusals of the two
+// calls for bounded cards, in the order in which they are tested: 1 to 9, 13, 22, 14, 15 and 16 with the node that settled it.
+pub enum BoundedRefusal {
+    Short,
+    Mark,
+    Count,
+    Offsets,
+    Weight,
+    Node,
+    Rule,
+    ActionByte,
+    Atom,
+    Configuration,
+    OpenOrHeavy,
+    NoRule,
+    Front,
+    Condition(usize),
+}
+
+// 01, "Numbers the guide may answer": "done", row 0, or one of these.
+pub enum BoundedAnswer {
+    Done,
+    Refused(BoundedRefusal),
+}
+
+// 02, Wish 10: "the ending "full" cannot arise there": the two others.
+pub enum BoundedEnding {
+    // "when the count has reached" the budget
+    Spent,
+    // "when no transition exists"
+    Rest,
+}
+
+// What a chosen move on a bounded card answers. 01, "Numbers the guide may answer": "the number and the configuration".
+pub struct BoundedReply {
+    pub answer: BoundedAnswer,
+    pub configuration: Configuration,
+}
+
+// What a run on a bounded card answers. 01, "A configuration and its transitions": "the configuration reached, how many transitions
+// were taken", and one of two endings.
+pub struct BoundedRan {
+    pub answer: BoundedAnswer,
+    pub count: u16,
+    pub ending: BoundedEnding,
     pub configuration: Configuration,
 }

@@ -28,7 +28,8 @@ use Rattle.meaning.specs.declared.Configuration.{Configuration}
 use Rattle.meaning.specs.Card.{Bytes, layout, agentFor, agent}
 use Rattle.meaning.specs.Refusals.{configurationAnswer}
 use Rattle.meaning.specs.Configurations.{padded, stateOf, configurationOf}
-use Rattle.meaning.specs.Calls.{ran}
+use Rattle.meaning.specs.Calls.{ran, runs}
+use Rattle.meaning.proofs.Calls.{runs-good}
 use Rattle.meaning.proofs.Configurations.{take-padded, configuration-laws}
 use Rattle.plans.proofs.Laws.{length-padded}
 use Rattle.card.specs.GoodCard.{GoodCard}
@@ -205,6 +206,13 @@ module _ (l : Layout) (b : Bytes) (budget : ℕ) (start : State) (c : Configurat
         go q (own-rest a) = absurd (let u = sym (is nothing q) ∙ e in let z : _≡_ {A = ℕ} 0 1 = cc in omega arith)
         go q (own-full k d g y h) = absurd (let u = sym (is full q) ∙ e in let z : _≡_ {A = ℕ} 0 1 = cc in omega arith)
         go q (own-to k d g y h) = on k d y h q
+
+-- ---- a run of an accepted card and configuration, by the layout that was read
+
+pub runs-by : (b : Bytes) (c : Configuration) → configurationAnswer b c ≡ Done → (budget : ℕ) (l : Layout) → l ≡ layout b
+    → ran (run (agentFor l b) budget (stateOf c)) ≡ runs b c budget
+unfolding agent
+runs-by b c good budget l s = ap (λ (x : Layout). ran (run (agentFor x b) budget (stateOf c))) s ∙ sym (runs-good b c good budget)
 
 -- ---- the guide's own move on any card and configuration
 

@@ -39,8 +39,12 @@ module _ (b : Bytes) (c : Configuration) (good : configurationAnswer b c ≡ Don
   by-reached full e = sym (takes-full b c good code e)
   by-reached (to k s) e = sym (takes-to b c good code k s e)
 
-  pub takes-by : takenBy q (stepBy (agent b) (stateOf c) (choice code)) c ≡ takes b c code
-  takes-by = by-reached _ refl
+  -- by the layout that was read
+  pub takes-by : (l : Layout) → l ≡ layout b → takenBy (whyClosed l b (stateOf c .mental) (choice code)) (stepBy (agentFor l b) (stateOf c) (choice code)) c ≡ takes b c code
+  unfolding agent
+  takes-by l s =
+      ap (λ (x : Layout). takenBy (whyClosed x b (stateOf c .mental) (choice code)) (stepBy (agentFor x b) (stateOf c) (choice code)) c) s
+      ∙ by-reached _ refl
 
 -- ---- a choice by its code
 

@@ -49,7 +49,7 @@ fn ended(m: Standing, count: u16, ending: Ending) -> RanInPlace
 
 // At most budget moves of the guide's own. The budget is looked at first. The nodes are judged at most once a move: their marks
 // stay true until an action.
-fn run_on(
+pub fn run_on(
     card: &[u8],
     l: Layout,
     beliefs: &mut Set,

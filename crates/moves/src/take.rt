@@ -63,7 +63,7 @@ fn answer_to(transition: Transition) -> Answer
 }
 
 // A choice is asked for by its code and, where it is enabled and its plan fits, made: rows 10 and 11.
-fn take_choice(
+pub fn take_choice(
     card: &[u8],
     l: Layout,
     beliefs: &mut Set,

@@ -52,7 +52,7 @@ module _ (w : ℕ → ℕ) (least : (a : ℕ) → 1 ≤ w a) where
     chain-weight stay = omega arith
     chain-weight (_then_ s r) = let h = step-weight s in let t = chain-weight r in omega arith
 
-    pub chain-light : {c c′ : Config} {ks : List Choice} → Chain A c ks c′ → weigh w (c .π) ≤ 1024 → weigh w (c′ .π) ≤ 1024
+    chain-light : {c c′ : Config} {ks : List Choice} → Chain A c ks c′ → weigh w (c .π) ≤ 1024 → weigh w (c′ .π) ≤ 1024
     chain-light stay h = h
     chain-light (_then_ s r) h = chain-light r (step-light s h)
 
@@ -157,5 +157,6 @@ bounded-law w least A initial =
       without-selection = λ g h r s. (let t = chain-weight w least (bd g) r in omega arith);
       with-selections = λ g h r. (let t = chain-weight w least (bd g) r in omega arith);
       never-too-long = λ g h r. never-long w least (bd g) r h;
+      stays-light = λ g h r. chain-light w least (bd g) r h;
       never-full = λ g s b h. never-ends-full w least (bd g) s b h;
     }

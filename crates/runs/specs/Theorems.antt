@@ -187,6 +187,9 @@ pub record GradeLaws (w : ℕ → ℕ) (A : Agent) (initial : Plan) : Type 0 whe
   -- 00, demand 3: "no run, selections included, ever meets a plan too long"
   pub never-too-long : verdict w A initial ≡ Verdict.Bounded → {c c′ : Config} {ks : List Choice} → weigh w (c .π) ≤ heaviestPlan
       → Chain A c ks c′ → length (c′ .π) ≤ longestPlan
+  -- 02, Wish 10: "a plan weighing at most 1,024": under such a card, from such a plan, no run leads to a heavier one
+  pub stays-light : verdict w A initial ≡ Verdict.Bounded → {c c′ : Config} {ks : List Choice} → weigh w (c .π) ≤ heaviestPlan
+      → Chain A c ks c′ → weigh w (c′ .π) ≤ heaviestPlan
   -- 00, demand 3, the same sentence, of the guide's own run: its ending is never what 01, "A configuration and its transitions"
   -- has as "full".
   pub never-full : verdict w A initial ≡ Verdict.Bounded → (s : State) (budget : ℕ) → weigh w (s .mental .π) ≤ heaviestPlan

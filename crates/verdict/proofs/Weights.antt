@@ -7,7 +7,7 @@ use native.Mathlib.Numerals.{add-one}
 use native.Mathlib.Decide.{decLt}
 use native.Mathlib.Omega.{arith}
 use lib.ListN.{length, getD, take, drop, drop-of-length-le, List·getD-eq-default}
-use lib.Seq.{drop-cons, take-add, drop-drop}
+use lib.Seq.{drop-cons, take-add, drop-drop, length-take-le, getD-take}
 use Rattle.runs.specs.Weight.{weigh}
 use Rattle.runs.specs.Order.{numbers}
 use Rattle.runs.proofs.Numbers.{length-made, made-at}
@@ -49,14 +49,26 @@ weigh-most w most zero π = omega arith
 weigh-most w most (suc n) [] = omega arith
 weigh-most w most (suc n) (a ∷ π) = let h = weigh-most w most n π in omega (arith, most a)
 
-weight-most : (l : Layout) (b : Bytes) → GoodCard l b → (a : ℕ) → weight b a ≤ 1024
+-- an action that the card does not have
+weight-past : (b : Bytes) (a : ℕ) → layout b .actions ≤ a → weight b a ≡ 1
 unfolding weight weights
-weight-most l b g a = elim (decLt a (layout b .actions)) [
-  | yes h ↦ rw (weight-known b a h) (subst (λ (x : Layout). weightAt x b a ≤ 1024) (g .layout .says) (g .weights a (subst (λ (x : Layout). a < x .actions) (sym (g .layout .says)) h) .most))
-  | no h ↦
-      let past : length (map (weightAt (layout b) b) (numbers 0 (layout b .actions))) ≤ a = rw (length-made (weightAt (layout b) b) 0 (layout b .actions)) (omega arith) in
-      rw (List·getD-eq-default (map (weightAt (layout b) b) (numbers 0 (layout b .actions))) 1 past) (omega arith)
-]
+weight-past b a h =
+    let past : length (map (weightAt (layout b) b) (numbers 0 (layout b .actions))) ≤ a = rw (length-made (weightAt (layout b) b) 0 (layout b .actions)) h in
+    List·getD-eq-default (map (weightAt (layout b) b) (numbers 0 (layout b .actions))) 1 past
+
+-- the same of an accepted card, by the layout that was read
+module _ (l : Layout) (b : Bytes) (g : GoodCard l b) (a : ℕ) where
+  pub weight-read : a < l .actions → weight b a ≡ weightAt l b a
+  weight-read h = subst (λ (x : Layout). a < x .actions → weight b a ≡ weightAt x b a) (sym (g .layout .says)) (weight-known b a) h
+
+  pub weight-none : l .actions ≤ a → weight b a ≡ 1
+  weight-none h = weight-past b a (subst (λ (x : Layout). x .actions ≤ a) (g .layout .says) h)
+
+  pub weight-most : weight b a ≤ 1024
+  weight-most = elim (decLt a (l .actions)) [
+    | yes h ↦ rw (weight-read h) (g .weights a h .most)
+    | no h ↦ rw (weight-none (omega arith)) (omega arith)
+  ]
 
 module _ (b : Bytes) (weights at n : ℕ) (p : Weighable b weights at n) where
   -- of these too, m from one of them on
@@ -107,3 +119,13 @@ weighable l b g weights e =
       weighs = λ i h. ap (λ w. numberAt b (w + 2 * byte b (l .pool .offset + i))) same ∙ sym (weight-known b (byte b (l .pool .offset + i)) (known _ (g .pool i h)));
       light = weight-most l b g;
     }
+
+-- the first n actions of a plan that has room for them: one more is weighed
+pub weigh-first : (w : ℕ → ℕ) (π : List ℕ) (n i : ℕ) → n ≤ length π → i < n → weigh w (drop i (take n π)) ≡ w (getD π i 0) + weigh w (drop (i + 1) (take n π))
+weigh-first w π n i room h =
+    let l : length (take n π) ≡ n = length-take-le n π room in
+    weigh-next w (take n π) i (omega arith) ∙ ap (λ a. w a + weigh w (drop (i + 1) (take n π))) (getD-take n π i 0 h)
+
+-- and all are
+pub weigh-all : (w : ℕ → ℕ) (π : List ℕ) (n i : ℕ) → n ≤ length π → n ≤ i → weigh w (drop i (take n π)) ≡ 0
+weigh-all w π n i room h = let l : length (take n π) ≡ n = length-take-le n π room in weigh-done w (take n π) i (omega arith)

@@ -97,6 +97,17 @@ fn from_initial(card: &[u8], l: Layout, sums: &[u32; 257]) -> Verdict
     }
 }
 
+// The verdict on an accepted card.
+pub fn judge(card: &[u8], l: Layout) -> Verdict
+    requires { ⌜ GoodCard l (now card) ⌝ }
+    ensures { λ r. ⌜ r ≡ verdict (weight (now (card .entry))) (agent (now (card .entry))) (initialPlan (now (card .entry))) ⌝ }
+{
+    let mut sums = no_sums();
+    let pool = l.pool;
+    sum(card, header_bytes(l), pool, &mut sums);
+    from_initial(card, l, &sums)
+}
+
 // Of `Graded`: all but the configuration, which is the empty one.
 pub struct GradedInPlace {
     pub answer: Answer,
@@ -114,12 +125,8 @@ pub fn grade(card: &[u8]) -> GradedInPlace
             verdict: Verdict::Open(Offender::InitialPlan),
         };
     };
-    let mut sums = no_sums();
-    let pool = l.pool;
-    sum(card, header_bytes(l), pool, &mut sums);
-    let verdict = from_initial(card, l, &sums);
     GradedInPlace {
         answer: Answer::Done,
-        verdict: verdict,
+        verdict: judge(card, l),
     }
 }

@@ -1,4 +1,4 @@
-//! The fourteen calls of the weaving guide for Rust. What each does is said in rigtemple.h.
+//! The sixteen calls of the weaving guide for Rust. What each does is said in rigtemple.h.
 //!
 //! SAFETY of every call below: the pointers come from references and slices, so that none is null,
 //! all are aligned, the lengths are true, and what is written overlaps nothing.
@@ -6,9 +6,10 @@
 mod parts;
 mod words;
 
-use words::{done, done_with};
+use words::{done, done_bounded, done_with};
 pub use words::{
-    Choice, Coming, DeliberationEnding, Ending, Entry, Offender, Refusal, Sheet, Verdict,
+    BoundedEnding, BoundedRefusal, Choice, Coming, DeliberationEnding, Ending, Entry, Offender,
+    Refusal, Sheet, Verdict,
 };
 
 pub const SET_BYTES: usize = 32;
@@ -53,6 +54,13 @@ impl Configuration {
 pub struct Ran {
     pub moves: u16,
     pub ending: Ending,
+}
+
+/// What a run on a bounded card took, and why it ended.
+#[derive(Clone, Copy, Debug, PartialEq, Eq)]
+pub struct BoundedRan {
+    pub moves: u16,
+    pub ending: BoundedEnding,
 }
 
 /// What a deliberation made, idle moves too, why it ended, and what remains of its program: the
@@ -191,6 +199,56 @@ pub fn run(card: &[u8], c: &mut Configuration, budget: u16) -> Result<Ran, Refus
     Ok(Ran {
         moves,
         ending: Ending::of(ending),
+    })
+}
+
+/// Takes a chosen move on a bounded card, from a plan that weighs at most 1,024: no plan gets too
+/// long there, and no refusal says so.
+pub fn take_bounded(card: &[u8], c: &mut Configuration, choice: u16) -> Result<(), BoundedRefusal> {
+    let mut node = 0;
+    let answer = unsafe {
+        parts::rigtemple_4_take_bounded_parts(
+            card.as_ptr(),
+            card.len(),
+            c.beliefs.as_mut_ptr(),
+            c.goals.as_mut_ptr(),
+            c.plan.as_mut_ptr(),
+            &mut c.length,
+            &mut c.phase,
+            &mut c.finished,
+            choice,
+            &mut node,
+        )
+    };
+    done_bounded(answer, node)
+}
+
+/// Runs by itself on a bounded card, for `budget` moves at most: it ends spent or at rest.
+pub fn run_bounded(
+    card: &[u8],
+    c: &mut Configuration,
+    budget: u16,
+) -> Result<BoundedRan, BoundedRefusal> {
+    let (mut moves, mut ending) = (0, 0);
+    let answer = unsafe {
+        parts::rigtemple_4_run_bounded_parts(
+            card.as_ptr(),
+            card.len(),
+            c.beliefs.as_mut_ptr(),
+            c.goals.as_mut_ptr(),
+            c.plan.as_mut_ptr(),
+            &mut c.length,
+            &mut c.phase,
+            &mut c.finished,
+            budget,
+            &mut moves,
+            &mut ending,
+        )
+    };
+    done_bounded(answer, 0)?;
+    Ok(BoundedRan {
+        moves,
+        ending: BoundedEnding::of(ending),
     })
 }
 

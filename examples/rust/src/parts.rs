@@ -1,4 +1,4 @@
-//! The functions of the archive, as rigtemple.h declares them: the fourteen calls over the parts of a
+//! The functions of the archive, as rigtemple.h declares them: the sixteen calls over the parts of a
 //! configuration. `beliefs` and `goals` point to 32 bytes each, `plan` to 1,024, `remaining` to 128.
 
 extern "C" {
@@ -64,6 +64,33 @@ extern "C" {
     ) -> u16;
 
     pub fn rigtemple_4_run_parts(
+        card: *const u8,
+        card_len: usize,
+        beliefs: *mut u8,
+        goals: *mut u8,
+        plan: *mut u8,
+        length: *mut u16,
+        phase: *mut u8,
+        finished: *mut u16,
+        budget: u16,
+        moves: *mut u16,
+        ending: *mut u8,
+    ) -> u16;
+
+    pub fn rigtemple_4_take_bounded_parts(
+        card: *const u8,
+        card_len: usize,
+        beliefs: *mut u8,
+        goals: *mut u8,
+        plan: *mut u8,
+        length: *mut u16,
+        phase: *mut u8,
+        finished: *mut u16,
+        choice: u16,
+        node: *mut u16,
+    ) -> u16;
+
+    pub fn rigtemple_4_run_bounded_parts(
         card: *const u8,
         card_len: usize,
         beliefs: *mut u8,

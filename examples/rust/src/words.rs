@@ -121,6 +121,108 @@ pub fn done_with(answer: u16, carried: usize) -> Result<(), Refusal> {
     }
 }
 
+/// A refusal of the two calls for bounded cards: none says that a plan got too long.
+#[derive(Clone, Copy, Debug, PartialEq, Eq)]
+pub enum BoundedRefusal {
+    Short,
+    Mark,
+    Count,
+    Offsets,
+    Weight,
+    Node,
+    Rule,
+    ActionByte,
+    Atom,
+    Configuration,
+    /// The card is open, or the plan weighs more than 1,024.
+    OpenOrHeavy,
+    NoRule,
+    Front,
+    /// A condition is false; the number of the node that settled it.
+    Condition(u16),
+}
+
+impl BoundedRefusal {
+    /// Its number in the header.
+    pub fn number(self) -> u16 {
+        self.told().0
+    }
+
+    /// Its number and its name.
+    fn told(self) -> (u16, &'static str) {
+        match self {
+            BoundedRefusal::Short => (1, "short"),
+            BoundedRefusal::Mark => (2, "mark"),
+            BoundedRefusal::Count => (3, "count"),
+            BoundedRefusal::Offsets => (4, "offsets"),
+            BoundedRefusal::Weight => (5, "weight"),
+            BoundedRefusal::Node => (6, "node"),
+            BoundedRefusal::Rule => (7, "rule"),
+            BoundedRefusal::ActionByte => (8, "action byte"),
+            BoundedRefusal::Atom => (9, "atom"),
+            BoundedRefusal::Configuration => (13, "configuration"),
+            BoundedRefusal::OpenOrHeavy => (22, "open or heavy"),
+            BoundedRefusal::NoRule => (14, "no rule"),
+            BoundedRefusal::Front => (15, "front"),
+            BoundedRefusal::Condition(_) => (16, "condition"),
+        }
+    }
+
+    /// The refusal of a number, with the node that is answered beside it.
+    fn of(number: u16, node: u16) -> BoundedRefusal {
+        match number {
+            1 => BoundedRefusal::Short,
+            2 => BoundedRefusal::Mark,
+            3 => BoundedRefusal::Count,
+            4 => BoundedRefusal::Offsets,
+            5 => BoundedRefusal::Weight,
+            6 => BoundedRefusal::Node,
+            7 => BoundedRefusal::Rule,
+            8 => BoundedRefusal::ActionByte,
+            9 => BoundedRefusal::Atom,
+            13 => BoundedRefusal::Configuration,
+            22 => BoundedRefusal::OpenOrHeavy,
+            14 => BoundedRefusal::NoRule,
+            15 => BoundedRefusal::Front,
+            16 => BoundedRefusal::Condition(node),
+            other => panic!("no refusal on a bounded card has the number {other}"),
+        }
+    }
+}
+
+impl fmt::Display for BoundedRefusal {
+    fn fmt(&self, out: &mut fmt::Formatter) -> fmt::Result {
+        out.write_str(self.told().1)?;
+        match self {
+            BoundedRefusal::Condition(node) => write!(out, " (node {node})"),
+            _ => Ok(()),
+        }
+    }
+}
+
+impl std::error::Error for BoundedRefusal {}
+
+/// Takes the answer's number of a call for bounded cards apart.
+pub fn done_bounded(answer: u16, node: u16) -> Result<(), BoundedRefusal> {
+    match answer {
+        0 => Ok(()),
+        number => Err(BoundedRefusal::of(number, node)),
+    }
+}
+
+/// Why a run on a bounded card ended.
+#[derive(Clone, Copy, Debug, PartialEq, Eq)]
+pub enum BoundedEnding {
+    Spent,
+    Rest,
+}
+
+impl BoundedEnding {
+    pub(crate) fn of(number: u8) -> BoundedEnding {
+        [BoundedEnding::Spent, BoundedEnding::Rest][usize::from(number)]
+    }
+}
+
 /// One of the two sheets of names.
 #[derive(Clone, Copy, Debug, PartialEq, Eq)]
 pub enum Sheet {

@@ -2,8 +2,8 @@
 //! answered is held against the stored answers. `drill.md` says how both are written.
 
 use rigtemple::{
-    Coming, Configuration, Deliberated, DeliberationEnding, Ending, Name, Offender, Refusal, Sheet,
-    Verdict, SET_BYTES,
+    BoundedEnding, BoundedRefusal, Coming, Configuration, Deliberated, DeliberationEnding, Ending,
+    Name, Offender, Refusal, Sheet, Verdict, SET_BYTES,
 };
 
 /// What a lent list and a lent place are filled with.
@@ -132,6 +132,29 @@ fn run(card: &[u8], requests: &mut Requests, answers: &mut Answers) {
         Err(_) | Ok(Ending::Spent) => 0,
         Ok(Ending::Rest) => 1,
         Ok(Ending::Full) => 2,
+    });
+}
+
+fn take_bounded(card: &[u8], requests: &mut Requests, answers: &mut Answers) {
+    let mut c = requests.image();
+    let answer = rigtemple::take_bounded(card, &mut c, requests.number());
+    answers.number(answer.map_or_else(BoundedRefusal::number, |()| 0));
+    answers.number(match answer {
+        Err(BoundedRefusal::Condition(node)) => node,
+        _ => 0,
+    });
+    answers.image(&c);
+}
+
+fn run_bounded(card: &[u8], requests: &mut Requests, answers: &mut Answers) {
+    let mut c = requests.image();
+    let answer = rigtemple::run_bounded(card, &mut c, requests.number());
+    answers.number(answer.map_or_else(BoundedRefusal::number, |_| 0));
+    answers.image(&c);
+    answers.number(answer.map_or(0, |ran| ran.moves));
+    answers.byte(match answer.map(|ran| ran.ending) {
+        Err(_) | Ok(BoundedEnding::Spent) => 0,
+        Ok(BoundedEnding::Rest) => 1,
     });
 }
 
@@ -271,6 +294,8 @@ fn answer<'a>(card: &mut &'a [u8], requests: &mut Requests<'a>, answers: &mut An
         10 => print(card, requests, answers),
         11 => deliberate(card, requests, answers),
         12 => name(card, requests, answers),
+        13 => take_bounded(card, requests, answers),
+        14 => run_bounded(card, requests, answers),
         21 => go_on(card, requests, answers),
         22 => next(card, requests, answers),
         other => panic!("there is no request {other}"),

@@ -1,6 +1,8 @@
 //! The words of the answers, the codes of choices, the bytes of entries and the names of actions.
 
-use rigtemple::{Choice, Coming, DeliberationEnding, Entry, Refusal, Sheet};
+use rigtemple::{
+    BoundedEnding, BoundedRefusal, Choice, Coming, DeliberationEnding, Entry, Refusal, Sheet,
+};
 
 #[test]
 fn refusals_have_their_numbers_and_names() {
@@ -21,6 +23,22 @@ fn refusals_have_their_numbers_and_names() {
     assert_eq!(Refusal::NoAction.number(), 21);
     assert_eq!(Refusal::NoAction.to_string(), "no action");
     assert_eq!(Refusal::Large.number(), 25);
+}
+
+#[test]
+fn a_bounded_card_has_two_endings() {
+    let card = std::fs::read(concat!(
+        env!("CARGO_MANIFEST_DIR"),
+        "/../../cards/stripe.card"
+    ))
+    .expect("the file is there");
+    let mut c = rigtemple::load(&card).expect("the card is good");
+    let closed = rigtemple::take_bounded(&card, &mut c, 256);
+    assert_eq!(closed, Err(BoundedRefusal::Front));
+    let ran = rigtemple::run_bounded(&card, &mut c, 1000).expect("the card is bounded");
+    assert_eq!((ran.moves, ran.ending), (6, BoundedEnding::Rest));
+    assert_eq!(BoundedRefusal::OpenOrHeavy.number(), 22);
+    assert_eq!(BoundedRefusal::OpenOrHeavy.to_string(), "open or heavy");
 }
 
 #[test]

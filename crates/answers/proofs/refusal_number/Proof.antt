@@ -90,11 +90,16 @@ returns-21 : tie.Need-returns-21
 unfolding numberOf
 returns-21 c = rw (c .enum-told21 .given .1)
 
+returns-22 : tie.Need-returns-22
+unfolding numberOf
+returns-22 c = rw (c .enum-told22 .given .1)
+
 pub refusal-number-spec : {M : Type 1} → statement M
 refusal-number-spec =
     tie.close
     (tie.spec
     enum-told
+    (λ c. search needs)
     (λ c. search needs)
     (λ c. search needs)
     (λ c. search needs)
@@ -135,4 +140,5 @@ refusal-number-spec =
     returns-18
     returns-19
     returns-20
-    returns-21)
+    returns-21
+    returns-22)

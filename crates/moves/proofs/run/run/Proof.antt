@@ -1,12 +1,8 @@
 use Rattle.runs.specs.declared.Ending.{Ending}
-use Rattle.runs.specs.Run.{run}
-use Rattle.meaning.specs.declared.Layout.{Layout}
-use Rattle.meaning.specs.Configurations.{stateOf}
-use Rattle.meaning.specs.Card.{agentFor, agent}
-use Rattle.meaning.specs.Calls.{ran}
-use Rattle.meaning.proofs.Calls.{runs-refused, runs-good}
+use Rattle.meaning.proofs.Calls.{runs-refused}
+use Rattle.moves.proofs.Running.{runs-by}
 use Rattle.door.proofs.Accepting.{admitted-good, admitted-refused}
-use mathlib.Core.Path.{sym, ap, _∙_}
+use mathlib.Core.Path.{sym, _∙_}
 use Rattle.layout.specs.PlaceParts.{configured}
 use borrow.Author.Needs.{needs}
 use denote.Ref.{now}
@@ -34,13 +30,12 @@ run-on-requires : tie.Need-run-on-requires
 run-on-requires c κs = c .before .before .before .before .before .before .admit .ensures .1 _ (c .before .before .before .before .admitted .given .1)
 
 returns-2 : tie.Need-returns-2
-unfolding agent
 returns-2 c =
     let a = c .before .before .before .before .before .before .before .before .before .before .before .before .args in
     let b = now (a .card) in
     let d = configured (now (a .beliefs)) (now (a .goals)) (a .m) (now (a .plan)) in
     let (e, s) = admitted-good b d _ (c .before .before .before .before .before .before .before .admit .ensures .0) _ (c .before .before .before .before .before .admitted .given .1) in
-    c .run-on .ensures ∙ ap (λ (x : Layout). ran (run (agentFor x b) (a .budget) (stateOf d))) s ∙ sym (runs-good b d e (a .budget))
+    c .run-on .ensures ∙ runs-by b d e (a .budget) _ s
 
 pub run-spec : {M : Type 1} → statement M
 run-spec =

@@ -1,12 +1,6 @@
-use Rattle.meaning.specs.Why.{whyClosed}
-use Rattle.runs.specs.Step.{stepBy}
-use Rattle.meaning.specs.declared.Layout.{Layout}
-use Rattle.meaning.specs.Configurations.{stateOf}
-use Rattle.meaning.specs.Card.{agentFor, agent}
-use Rattle.meaning.specs.Calls.{choice, reply}
+use Rattle.meaning.specs.Calls.{reply}
 use Rattle.meaning.proofs.Calls.{takes-refused}
 use Rattle.moves.proofs.Taking.{takes-by}
-use Rattle.moves.specs.Steps.{takenBy}
 use Rattle.door.proofs.Accepting.{admitted-good, admitted-refused}
 use mathlib.Core.Path.{sym, ap, _∙_}
 use Rattle.layout.specs.PlaceParts.{configured}
@@ -36,13 +30,12 @@ take-choice-requires : tie.Need-take-choice-requires
 take-choice-requires c κs = c .before .before .before .before .before .before .admit .ensures .1 _ (c .before .before .before .before .admitted .given .1)
 
 returns-2 : tie.Need-returns-2
-unfolding agent
 returns-2 c =
     let a = c .before .before .before .before .before .before .before .before .before .before .before .before .args in
     let b = now (a .card) in
     let d = configured (now (a .beliefs)) (now (a .goals)) (a .m) (now (a .plan)) in
     let (e, s) = admitted-good b d _ (c .before .before .before .before .before .before .before .admit .ensures .0) _ (c .before .before .before .before .before .admitted .given .1) in
-    c .take-choice .ensures ∙ ap (λ (x : Layout). takenBy (whyClosed x b (stateOf d .mental) (choice (a .choice))) (stepBy (agentFor x b) (stateOf d) (choice (a .choice))) d) s ∙ takes-by b d e (a .choice)
+    c .take-choice .ensures ∙ takes-by b d e (a .choice) _ s
 
 pub take-spec : {M : Type 1} → statement M
 take-spec =

@@ -1,6 +1,5 @@
 use Rattle.meaning.specs.declared.Answer.the-variants.{Done}
 use Rattle.card.proofs.GoodCard.{good-card}
-use Rattle.verdict.proofs.Weights.{weighable}
 use Rattle.meaning.proofs.Calls.{good-judged, refused-judged, grades-good, grades-refused}
 use Rattle.meaning.specs.Configurations.{empty}
 use Rattle.card.specs.Rows.{answerOf}
@@ -29,29 +28,17 @@ returns c =
     (λ i. record { answer = (c .answer-of .ensures ∙ ap answerOf told) i; verdict = Verdict.Open Offender.InitialPlan; configuration = empty })
     ∙ sym (grades-refused b _ e)
 
-no-sums-requires : tie.Need-no-sums-requires
-no-sums-requires c κs = search needs
-
-header-bytes-requires : tie.Need-header-bytes-requires
-header-bytes-requires c κs = search needs
-
-sum-requires : tie.Need-sum-requires
-sum-requires c κs =
-    let b = now (c .before .before .before .before .before .before .before .before .before .args .card) in
-    let j = good-judged b _ (sym (c .before .before .before .before .before .before .before .check .ensures) ∙ c .before .before .before .before .before .v .given .1) in
-    (weighable _ b (good-card _ b (j .0) (j .1)) _ (c .before .header-bytes .ensures .0), c .before .before .before .no-sums .ensures)
-
-from-initial-requires : tie.Need-from-initial-requires
-from-initial-requires c κs =
-    let b = now (c .before .before .before .before .before .before .before .before .before .before .before .args .card) in
-    let j = good-judged b _ (sym (c .before .before .before .before .before .before .before .before .before .check .ensures) ∙ c .before .before .before .before .before .before .before .v .given .1) in
-    (good-card _ b (j .0) (j .1), c .before .sum .ensures)
+judge-requires : tie.Need-judge-requires
+judge-requires c κs =
+    let b = now (c .before .before .before .before .before .args .card) in
+    let j = good-judged b _ (sym (c .before .before .before .check .ensures) ∙ c .before .v .given .1) in
+    good-card _ b (j .0) (j .1)
 
 returns-2 : tie.Need-returns-2
 returns-2 c =
-    let b = now (c .before .before .before .before .before .before .before .before .before .before .before .before .args .card) in
-    let j = good-judged b _ (sym (c .before .before .before .before .before .before .before .before .before .before .check .ensures) ∙ c .before .before .before .before .before .before .before .before .v .given .1) in
-    (λ i. record { answer = Done; verdict = c .from-initial .ensures i; configuration = empty })
+    let b = now (c .before .before .before .before .before .before .args .card) in
+    let j = good-judged b _ (sym (c .before .before .before .before .check .ensures) ∙ c .before .before .v .given .1) in
+    (λ i. record { answer = Done; verdict = c .judge .ensures i; configuration = empty })
     ∙ sym (grades-good b (j .0))
 
 pub grade-spec : {M : Type 1} → statement M
@@ -63,8 +50,5 @@ grade-spec =
     enum-told
     answer-of-requires
     returns
-    no-sums-requires
-    header-bytes-requires
-    sum-requires
-    from-initial-requires
+    judge-requires
     returns-2)
