@@ -32,7 +32,8 @@ struct calls {
                      uint8_t *, uint16_t *);
     uint16_t (*grade)(const uint8_t *, size_t, uint8_t *, uint8_t *, uint16_t *);
     uint16_t (*list)(const uint8_t *, size_t, const uint8_t *, const uint8_t *, const uint8_t *,
-                     uint16_t, uint8_t, uint16_t, uint16_t *, size_t, uint16_t *);
+                     uint16_t, uint8_t, uint16_t, uint16_t *, size_t, uint16_t *, uint16_t *,
+                     uint16_t *);
     uint16_t (*next)(const uint8_t *, size_t, const uint8_t *, const uint8_t *, const uint8_t *,
                      uint16_t, uint8_t, uint16_t, uint8_t *, uint16_t *);
     uint16_t (*take)(const uint8_t *, size_t, uint8_t *, uint8_t *, uint8_t *, uint16_t *,
@@ -52,15 +53,15 @@ struct calls {
 };
 
 static const struct calls ours = {
-    rigtemple_check_parts,   rigtemple_load_parts,       rigtemple_grade_parts,
-    rigtemple_list_parts,    rigtemple_next_parts,       rigtemple_take_parts,
-    rigtemple_run_parts,     rigtemple_deliberate_parts, rigtemple_go_on_parts,
-    rigtemple_save_parts,    rigtemple_restore_parts,
+    rigtemple_check_parts,      rigtemple_load_parts,       rigtemple_grade_parts,
+    rigtemple_list_looks_parts, rigtemple_next_parts,       rigtemple_take_parts,
+    rigtemple_run_parts,        rigtemple_deliberate_parts, rigtemple_go_on_parts,
+    rigtemple_save_parts,       rigtemple_restore_parts,
 };
 
 static const struct calls engine = {
-    engine_check, engine_load,       engine_grade, engine_list, engine_next,    engine_take,
-    engine_run,   engine_deliberate, engine_go_on, engine_save, engine_restore,
+    engine_check, engine_load,       engine_grade, engine_list_looks, engine_next,    engine_take,
+    engine_run,   engine_deliberate, engine_go_on, engine_save,       engine_restore,
 };
 
 /* A card, a configuration in the middle of its run, the place of it, and the guide's own choices
@@ -78,7 +79,7 @@ struct input {
 /* What a batch of calls leaves: answers and everything lent. */
 struct left {
     struct rigtemple_configuration c;
-    uint16_t answer, list[ROOM], count, number, node, choice;
+    uint16_t answer, list[ROOM], count, judged, open_goals, number, node, choice;
     uint8_t verdict, offender, ending, coming, place[RIGTEMPLE_MOST_PLACE_BYTES];
     uint8_t remaining[RIGTEMPLE_MOST_REMAINING], remaining_length;
     uint8_t numbers[RIGTEMPLE_MOST_REMAINING], numbers_length;
@@ -118,7 +119,8 @@ static void batch_list(const struct calls *f, const struct input *in, unsigned t
                        struct left *l)
 {
     for (unsigned i = 0; i < times; i++)
-        l->answer |= f->list(CARD(in), PARTS_READ(&in->middle), l->list, ROOM, &l->count);
+        l->answer |= f->list(CARD(in), PARTS_READ(&in->middle), l->list, ROOM, &l->count,
+                             &l->judged, &l->open_goals);
 }
 
 static void batch_next(const struct calls *f, const struct input *in, unsigned times,

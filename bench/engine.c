@@ -616,31 +616,98 @@ static int next_of_kind(const struct card *c, const uint8_t *mark, unsigned kind
 
 /* ---- list ---- */
 
-uint16_t engine_list(const uint8_t *card, size_t card_len, const uint8_t *beliefs,
-                     const uint8_t *goals, const uint8_t *plan, uint16_t length, uint8_t phase,
-                     uint16_t finished, uint16_t *list, size_t list_len, uint16_t *count)
+/* The enabled choices, as they are found, and the conditions that are judged for them. */
+struct found {
+    uint16_t code[MOST_CHOICES];
+    unsigned codes, judged;
+};
+
+static inline void find(struct found *f, unsigned kind, unsigned i)
+{
+    f->code[f->codes++] = (uint16_t)(256 * kind + i);
+}
+
+/* "One for each selection rule, and one more where its belief condition holds." */
+static void find_selections(const struct card *c, const uint8_t *mark, struct found *f)
+{
+    f->judged = c->selections;
+    for (unsigned i = 0; i < c->selections; i++) {
+        const uint8_t *rule = c->selection + SELECTION_BYTES * i;
+        f->judged += mark[rule[0]];
+        if (selection_holds(mark, rule))
+            find(f, SELECT, i);
+    }
+}
+
+/* "One for each specification of the first action and one for each revision rule whose head is a
+ * prefix." */
+static void find_others(const struct card *c, const uint8_t *mark, const uint8_t *plan,
+                        unsigned length, struct found *f)
+{
+    for (unsigned i = 0; i < c->specifications; i++) {
+        const uint8_t *entry = c->specification + c->specification_bytes * i;
+        if (entry[0] != plan[0])
+            continue;
+        f->judged++;
+        if (mark[entry[1]])
+            find(f, ACT, i);
+    }
+    for (unsigned i = 0; i < c->revisions; i++) {
+        const uint8_t *rule = c->revision + REVISION_BYTES * i;
+        if (!head_fits(c, rule, plan, length))
+            continue;
+        f->judged++;
+        if (mark[rule[0]])
+            find(f, REVISE, i);
+    }
+}
+
+static unsigned atoms_of(const uint8_t *set)
+{
+    struct set s = wide_set(set);
+    unsigned atoms = 0;
+    for (unsigned i = 0; i < SET_BYTES / 8; i++)
+        atoms += (unsigned)__builtin_popcountll(s.word[i]);
+    return atoms;
+}
+
+uint16_t engine_list_looks(const uint8_t *card, size_t card_len, const uint8_t *beliefs,
+                           const uint8_t *goals, const uint8_t *plan, uint16_t length,
+                           uint8_t phase, uint16_t finished, uint16_t *list, size_t list_len,
+                           uint16_t *count, uint16_t *judged, uint16_t *open_goals)
 {
     struct card c;
     uint8_t mark[MOST_ENTRIES];
-    uint16_t found[MOST_CHOICES];
-    unsigned n = 0;
+    struct found f;
+    f.codes = f.judged = 0;
     (void)finished;
-    *count = 0;
+    *count = *judged = *open_goals = 0;
     uint16_t answer = check(card, card_len, &c);
     if (answer != DONE)
         return answer;
     if (!known_configuration(&c, beliefs, goals, plan, length, phase))
         return CONFIGURATION;
     judge(&c, c.nodes, beliefs, goals, mark);
-    for (unsigned kind = SELECT; kind <= REVISE; kind++)
-        for (int i = next_of_kind(&c, mark, kind, plan, length, 0); i != NO_MOVE;
-             i = next_of_kind(&c, mark, kind, plan, length, (unsigned)i + 1))
-            found[n++] = (uint16_t)(256 * kind + (unsigned)i);
-    if (n > list_len)
+    if (length == 0)
+        find_selections(&c, mark, &f);
+    else
+        find_others(&c, mark, plan, length, &f);
+    if (f.codes > list_len)
         return NO_ROOM;
-    memcpy(list, found, 2 * n);
-    *count = (uint16_t)n;
+    memcpy(list, f.code, 2 * f.codes);
+    *count = (uint16_t)f.codes;
+    *judged = (uint16_t)f.judged;
+    *open_goals = (uint16_t)atoms_of(goals);
     return DONE;
+}
+
+uint16_t engine_list(const uint8_t *card, size_t card_len, const uint8_t *beliefs,
+                     const uint8_t *goals, const uint8_t *plan, uint16_t length, uint8_t phase,
+                     uint16_t finished, uint16_t *list, size_t list_len, uint16_t *count)
+{
+    uint16_t judged, open_goals;
+    return engine_list_looks(card, card_len, beliefs, goals, plan, length, phase, finished, list,
+                             list_len, count, &judged, &open_goals);
 }
 
 /* ---- moves ---- */

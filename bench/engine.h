@@ -22,6 +22,11 @@ uint16_t engine_list(const uint8_t *card, size_t card_len, const uint8_t *belief
                      const uint8_t *goals, const uint8_t *plan, uint16_t length, uint8_t phase,
                      uint16_t finished, uint16_t *list, size_t list_len, uint16_t *count);
 
+uint16_t engine_list_looks(const uint8_t *card, size_t card_len, const uint8_t *beliefs,
+                           const uint8_t *goals, const uint8_t *plan, uint16_t length,
+                           uint8_t phase, uint16_t finished, uint16_t *list, size_t list_len,
+                           uint16_t *count, uint16_t *judged, uint16_t *open_goals);
+
 uint16_t engine_take(const uint8_t *card, size_t card_len, uint8_t *beliefs, uint8_t *goals,
                      uint8_t *plan, uint16_t *length, uint8_t *phase, uint16_t *finished,
                      uint16_t choice, uint16_t *node);

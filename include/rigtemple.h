@@ -59,6 +59,9 @@
  * in its card's edition, and one of the other edition is refused with 2. A configuration has no
  * edition: its sets are 32 bytes, and under a card of edition 1 an atom from 128 on is unknown.
  *
+ * New in 4.2: rigtemple_list_looks, which tells beside the list how many conditions it judges and how
+ * many goals are open. It is only added: rigtemple_list stays as it was.
+ *
  * New in 4.1: rigtemple_take_bounded and rigtemple_run_bounded, for cards that rigtemple_grade calls
  * bounded and plans that weigh at most 1,024: an app that uses them needs no panel for a plan that
  * got too long. They are only added: what an app did with 4.0 it does as before.
@@ -78,7 +81,7 @@
  * RIGTEMPLE_MOST_SHEET_BYTES at most; a text to be read has no limit.
  *
  * Bytes of stack, as tests/stack.sh measures them on x86-64: check 512, load 624, grade 1,352,
- * list 1,280, next 1,200, take 1,048, run 1,096, take_bounded 1,592, run_bounded 1,640,
+ * list 1,440, next 1,200, take 1,128, run 1,096, take_bounded 1,592, run_bounded 1,640,
  * deliberate 1,416, go_on 1,464, save 624, restore 816, text 33,440 (24,928 where nothing nests,
  * 80 more for the first bracket and 272 for each further one), print 1,760, name 656. All but text
  * run on a stack of 2,048. On 64-bit Arm text takes 33,952, and each other call at most 8 more than
@@ -96,9 +99,9 @@ extern "C" {
 
 /* The version of this header's interface. The first number rises with a change that an app has
  * to follow, and the second is then 0; the second rises with what is only added. */
-#define RIGTEMPLE_VERSION "4.1"
+#define RIGTEMPLE_VERSION "4.2"
 #define RIGTEMPLE_VERSION_FIRST 4
-#define RIGTEMPLE_VERSION_SECOND 1
+#define RIGTEMPLE_VERSION_SECOND 2
 
 /* Marks an answer that must not be ignored, for the compilers that know it. */
 #if defined(__cplusplus) && __cplusplus >= 201703L
@@ -120,6 +123,7 @@ extern "C" {
 #define RIGTEMPLE_MOST_CARD_BYTES_OF_EDITION_1 24128 /* its largest: no text makes a larger one */
 #define RIGTEMPLE_MOST_PLACE_BYTES_OF_EDITION_1 1068 /* its largest: 44 and the longest plan */
 #define RIGTEMPLE_MOST_LIST_ENTRIES 768 /* choices that there are codes for: no list is longer */
+#define RIGTEMPLE_MOST_JUDGED 512       /* conditions that one listing judges */
 #define RIGTEMPLE_MOST_PRINTED_BYTES 894 /* the longest condition that is printed */
 #define RIGTEMPLE_ENTRY_BYTES 4          /* an entry of a program */
 #define RIGTEMPLE_MOST_PROGRAM_BYTES 512 /* the longest program: 128 entries */
@@ -303,6 +307,7 @@ struct rigtemple_configuration {
 #define rigtemple_load_parts rigtemple_4_load_parts
 #define rigtemple_grade_parts rigtemple_4_grade_parts
 #define rigtemple_list_parts rigtemple_4_list_parts
+#define rigtemple_list_looks_parts rigtemple_4_list_looks_parts
 #define rigtemple_next_parts rigtemple_4_next_parts
 #define rigtemple_take_parts rigtemple_4_take_parts
 #define rigtemple_run_parts rigtemple_4_run_parts
@@ -333,6 +338,13 @@ uint16_t rigtemple_4_list_parts(const uint8_t *card, size_t card_len, const uint
                                 const uint8_t *goals, const uint8_t *plan, uint16_t length,
                                 uint8_t phase, uint16_t finished, uint16_t *list,
                                 size_t room_in_entries, uint16_t *entries);
+
+RIGTEMPLE_LOOK_AT_ANSWER
+uint16_t rigtemple_4_list_looks_parts(const uint8_t *card, size_t card_len, const uint8_t *beliefs,
+                                      const uint8_t *goals, const uint8_t *plan, uint16_t length,
+                                      uint8_t phase, uint16_t finished, uint16_t *list,
+                                      size_t room_in_entries, uint16_t *entries, uint16_t *judged,
+                                      uint16_t *open_goals);
 
 RIGTEMPLE_LOOK_AT_ANSWER
 uint16_t rigtemple_4_next_parts(const uint8_t *card, size_t card_len, const uint8_t *beliefs,
@@ -454,6 +466,23 @@ static inline uint16_t rigtemple_list(const uint8_t *card, size_t card_len,
 {
     return rigtemple_list_parts(card, card_len, c->beliefs, c->goals, c->plan, c->length,
                                 c->phase, c->finished, list, room_in_entries, entries);
+}
+
+/* rigtemple_list, and how much it looks at: `judged` becomes how many conditions the listing
+ * judges, at most RIGTEMPLE_MOST_JUDGED, and `open_goals` how many goals there are, believed ones
+ * too. With an empty plan a listing judges one condition for each selection rule, and one more
+ * where its belief condition holds; otherwise one for each specification of the first action, and
+ * one for each revision rule whose head is a prefix of the plan. A refusal writes 0 to both. */
+RIGTEMPLE_LOOK_AT_ANSWER
+static inline uint16_t rigtemple_list_looks(const uint8_t *card, size_t card_len,
+                                            const struct rigtemple_configuration *c,
+                                            uint16_t *list, size_t room_in_entries,
+                                            uint16_t *entries, uint16_t *judged,
+                                            uint16_t *open_goals)
+{
+    return rigtemple_list_looks_parts(card, card_len, c->beliefs, c->goals, c->plan, c->length,
+                                      c->phase, c->finished, list, room_in_entries, entries, judged,
+                                      open_goals);
 }
 
 /* Tells which move comes next of the guide's own, and makes none: what a run of budget 1 would do.

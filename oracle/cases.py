@@ -16,6 +16,7 @@ import damage
 import deliberation
 import drill
 import guide
+import listed
 import prints
 import schemes
 import sheets
@@ -870,6 +871,62 @@ def generate_bounded(seed, count, largest=cards.CARD_LIMIT):
         yield bounded_case(Random("%s bounded %d" % (seed, index)), items, largest)
 
 
+# --- cases of lists ---------------------------------------------------------
+
+# How many lists about one card are asked for.
+LISTS_OF_A_CARD = 12
+
+
+def list_card(random, items, largest):
+    """A card to be listed: mostly one with many entries of one action and heads that begin
+    alike, now and then with 256 of each; any good one; or a damaged one."""
+    style, edition = random.random(), random.choice(cards.EDITIONS)
+    if style < 0.1:
+        return next_damaged_case(random, items, largest).card
+    if style < 0.75:
+        most = random.choice((4, 8, 8, 16, 16, 30, 80, 256))
+        card = cards.card(listed.crowded_card(random, most, edition))
+        if len(card) <= largest:
+            return card
+    if style > 0.97:
+        card = cards.card(listed.busiest_card(random.choice((255, 256))))
+        if len(card) <= largest:
+            return card
+    return cards.card(cards.good_card(random, largest))
+
+
+def list_requests(random, card, count):
+    """So many lists about a good card, with rooms around the number needed; one in ten of a
+    damaged configuration."""
+    _, accepted = guide.judge(card)
+    held, made = some_configurations(random, card, accepted), []
+    for _ in range(count):
+        one = random.choice(held) if random.random() < 0.2 else listed.some_held(random, accepted)
+        if random.random() < 0.1:
+            wrong = random.choice(damage.CONFIGURATION_DAMAGES).change(random, accepted, one)
+            made.append(call_of_kind(random, drill.LIST, wrong or one))
+        else:
+            made.append(list_request(random, card, one)[0])
+    return made
+
+
+def lists_case(random, items, largest):
+    """A case of lists."""
+    card = list_card(random, items, largest)
+    if guide.check(card) == guide.DONE:
+        return Case("lists", card, list_requests(random, card, LISTS_OF_A_CARD))
+    _, accepted = guide.judge(cards.card(listed.crowded_card(random, 4, 2)))
+    held = [listed.some_held(random, accepted) for _ in range(3)]
+    return Case("lists", card, [call_of_kind(random, drill.LIST, one) for one in held])
+
+
+def generate_lists(seed, count, largest=cards.CARD_LIMIT):
+    """So many cases of lists, by seed: no card of more than `largest` bytes."""
+    items = itertools.cycle(damage_order(seed))
+    for index in range(count):
+        yield lists_case(Random("%s list %d" % (seed, index)), items, largest)
+
+
 # --- cases of names ---------------------------------------------------------
 
 # How many actions the cards of these cases have.
@@ -934,7 +991,10 @@ def generate_names(seed, count, largest=cards.CARD_LIMIT):
 
 # The sorts of cases of the requests from 10 on: the request, the option that says how many,
 # what is counted, and what makes so many of them.
-LATER_SORTS = ((10, "bounded", "cases of takes and runs on bounded cards", generate_bounded),)
+LATER_SORTS = (
+    (10, "bounded", "cases of takes and runs on bounded cards", generate_bounded),
+    (11, "lists", "cases of lists", generate_lists),
+)
 LANDED_SORTS = tuple(sort for sort in LATER_SORTS if sort[0] in drill.LANDED)
 
 # The width of a column of the table.

@@ -17,7 +17,7 @@ import text
 # The requests of document 02 from 10 on that the drill of this tree has: "what the change
 # requests add, each from its landing on". What is not in this set is not answered, and no
 # case of it is made, stored or compared.
-LANDED = {10}
+LANDED = {10, 11}
 
 CARD, CHECK, LOAD, GRADE, LIST, TAKE, RUN, SAVE, RESTORE, TEXT, PRINT = range(11)
 DELIBERATE, NAME = 11, 12
@@ -118,11 +118,13 @@ def answer_grade(card, reader):
 
 
 def answer_list(card, reader):
-    """4 list: number (2), count (2), then the whole lent list."""
+    """4 list: number (2), count (2), "from 11 on conditions judged (2) and goals open (2),
+    then the whole lent list"."""
     configuration, room = reader.image(), reader.number(LIST_LIMIT)
-    number, count, codes = guide.list_choices(card, configuration, room)
+    number, count, judged, goals, codes = guide.listing(card, configuration, room)
+    reported = two(judged) + two(goals) if 11 in LANDED else b""
     written = b"".join(two(code) for code in codes)
-    return two(number) + two(count) + lent(written, 2 * room)
+    return two(number) + two(count) + reported + lent(written, 2 * room)
 
 
 def answer_take(card, reader):
@@ -244,9 +246,10 @@ ANSWERS = {
     NEXT: answer_next,
 }
 
-# What the requests of document 02 from 10 on add, by their number.
+# The calls that the requests of document 02 from 10 on add, by their number; 11 adds none.
 LATER_ANSWERS = {
     10: {BOUNDED_TAKE: answer_bounded_take, BOUNDED_RUN: answer_bounded_run},
+    11: {},
 }
 for landed in LANDED:
     ANSWERS.update(LATER_ANSWERS[landed])

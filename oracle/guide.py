@@ -1,6 +1,7 @@
 """The eight calls of document 01 over plain values, with the requests 1 ("say why a
-move is closed"), 4 ("count the picks"), 5 ("a goal falls when its fact is believed") and
-9 ("more facts") of document 02; and the call that tells the guide's own next move.
+move is closed"), 4 ("count the picks"), 5 ("a goal falls when its fact is believed"),
+9 ("more facts") and 11 ("how much the list looks at") of document 02; and the call that tells
+the guide's own next move.
 
 Written from the two documents alone. Every function says which sentence of them
 it stands for.
@@ -883,6 +884,36 @@ def list_choices(card, configuration, room):
     if len(codes) > room:
         return NO_ROOM, 0, []
     return DONE, len(codes), codes
+
+
+def conditions_judged(card, configuration):
+    """Request 11, "how many conditions one listing judges. By definition: with an empty plan,
+    one for each selection rule, and one more where its belief condition holds; otherwise one
+    for each specification of the first action and one for each revision rule whose head is a
+    prefix." Equal conditions are counted a rule at a time, and "true" is one, too."""
+    if configuration.length == 0:
+        holds = [judged(card, configuration, rule.belief_node).holds for rule in card.selections]
+        return len(card.selections) + holds.count(True)
+    actions = [action_fits(entry, configuration) for entry in card.specifications]
+    revisions = [revision_fits(rule, configuration) for rule in card.revisions]
+    return actions.count(True) + revisions.count(True)
+
+
+def goals_open(configuration):
+    """Request 11, "how many goals are open, by a count of set bits": all goal atoms, believed
+    ones too."""
+    return bin(members(configuration.goals)).count("1")
+
+
+def listing(card, configuration, room):
+    """The list of enabled choices and what it reports by request 11: "the listing reports
+    that number ... Also report how many goals are open". Answers number, count, conditions
+    judged, goals open and the codes written; "any count in a refusal is 0"."""
+    refusal, count, codes = list_choices(card, configuration, room)
+    if refusal != DONE:
+        return refusal, 0, 0, 0, []
+    _, accepted = judge(card)
+    return DONE, count, conditions_judged(accepted, configuration), goals_open(configuration), codes
 
 
 def take(card, configuration, choice):

@@ -30,6 +30,7 @@ import drill
 import finished
 import gone_on
 import guide
+import listed
 import next_moves
 import prints
 import programs
@@ -1111,10 +1112,42 @@ def bounded_cases():
     yield from seeded_bounded()
 
 
+# --- lists ------------------------------------------------------------------
+
+
+def lists_by_hand():
+    """The lists by hand, all those about one card together."""
+    for card, some in itertools.groupby(sorted(listed.BY_HAND, key=card_of), key=card_of):
+        random = random_of("lists by hand", card)
+        made = [cases.request_about(random, drill.LIST, one.held, one.room) for one in some]
+        yield Case("lists by hand", card, made)
+
+
+def card_of(one):
+    """The card of something by hand."""
+    return one.card
+
+
+def seeded_lists():
+    """Lists by seed about cards with many entries of one action, the shorter requests."""
+    for index in range(40):
+        random = random_of("lists", index)
+        most = 4 if index % 4 else 16
+        card = cards.card(listed.crowded_card(random, most, in_turn(index)))
+        made = [narrowed(request) for request in cases.list_requests(random, card, 12)]
+        yield Case("lists %d" % index, card, [one for one in made if len(one) <= SHORT_REQUEST][:8])
+
+
+def list_cases():
+    """Request 11: lists by hand, and others by seed."""
+    yield from lists_by_hand()
+    yield from seeded_lists()
+
+
 # --- all --------------------------------------------------------------------
 
 # What the requests of document 02 from 10 on add, by their number.
-LATER_CASES = {10: bounded_cases}
+LATER_CASES = {10: bounded_cases, 11: list_cases}
 
 
 def later_cases():

@@ -4,7 +4,8 @@ struck goals of request 5, the drill's bytes, that a seed gives the same bytes, 
 the stored requests hold. Those of request 2 are in `test_text.py`, those of request 6 in
 `test_deliberation.py`, those of going on in `test_going_on.py`, those of the next move in
 `test_next.py`, those of request 8 in `test_names.py`, those of request 9 in
-`test_editions.py`, those of request 10 in `test_bounded.py`; they run with these."""
+`test_editions.py`, those of request 10 in `test_bounded.py`, those of request 11 in
+`test_listed.py`; they run with these."""
 
 import itertools
 import time
@@ -33,6 +34,7 @@ import test_bounded
 import test_deliberation
 import test_editions
 import test_going_on
+import test_listed
 import test_names
 import test_next
 import test_text
@@ -1239,10 +1241,15 @@ class DrillBytes(unittest.TestCase):
         self.assertEqual(found, b"\0\0" + b"\0\0" + self.LOADED + bytes(6))
 
     def test_list(self):
-        """The list 0 alone in a room of 2, and in no room."""
+        """The list 0 alone in a room of 2, and in no room. By request 11 it judges two
+        conditions, as selection 0's belief condition is "true", and one goal is open; with
+        the refusal both are 0."""
         request = b"\x04" + self.LOADED
         found = self.answers(request + b"\x02\x00", request + b"\x00\x00")
-        self.assertEqual(found, bytes.fromhex("0000 0100 0000 EEEE 0C00 0000"))
+        expected = "0000 0100 0000 EEEE 0C00 0000"
+        if 11 in drill.LANDED:
+            expected = "0000 0100 0200 0100 0000 EEEE 0C00 0000 0000 0000"
+        self.assertEqual(found, bytes.fromhex(expected))
 
     def test_take(self):
         """Selection 0; a code that is none; action 0, as the plan is empty: number,
@@ -1400,10 +1407,10 @@ class DrillBytes(unittest.TestCase):
 
 
 def load_tests(loader, tests, pattern):
-    """The tests of this file, and those of the requests 2, 6, 8, 9 and 10, of going on and of
+    """The tests of this file, and those of the requests 2, 6 and 8 to 11, of going on and of
     the next move."""
     modules = [test_text, test_deliberation, test_going_on, test_next, test_names, test_editions]
-    modules += [test_bounded]
+    modules += [test_bounded, test_listed]
     for module in modules:
         tests.addTests(loader.loadTestsFromModule(module))
     return tests

@@ -9,6 +9,7 @@ export declare const MOST_PLACE_BYTES: 1100;
 export declare const MOST_CARD_BYTES_OF_EDITION_1: 24128;
 export declare const MOST_PLACE_BYTES_OF_EDITION_1: 1068;
 export declare const MOST_LIST_ENTRIES: 768;
+export declare const MOST_JUDGED: 512;
 export declare const MOST_PRINTED_BYTES: 894;
 export declare const MOST_PROGRAM_BYTES: 512;
 export declare const MOST_REMAINING: 128;
@@ -78,6 +79,10 @@ export interface Graded extends Answer {
 export interface Listed extends Answer {
   /** The codes of the enabled choices, rising. */
   choices: number[];
+  /** How many conditions the listing judged, at most 512; 0 after a refusal. */
+  judged: number;
+  /** How many goals are open, believed ones too; 0 after a refusal. */
+  openGoals: number;
 }
 export interface Next extends Answer {
   /** Whether a move comes next; after a refusal "rest". */

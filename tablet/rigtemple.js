@@ -11,7 +11,7 @@
  * be any; what is not a Uint8Array, or a number that its field cannot hold, is a mistake of the page, and throws.
  */
 
-export const VERSION = "4.1";
+export const VERSION = "4.2";
 
 /* Sizes, as rigtemple.h has them. */
 export const SET_BYTES = 32;
@@ -22,6 +22,7 @@ export const MOST_PLACE_BYTES = 1100;
 export const MOST_CARD_BYTES_OF_EDITION_1 = 24128;
 export const MOST_PLACE_BYTES_OF_EDITION_1 = 1068;
 export const MOST_LIST_ENTRIES = 768;
+export const MOST_JUDGED = 512;
 export const MOST_PRINTED_BYTES = 894;
 export const MOST_PROGRAM_BYTES = 512;
 export const MOST_REMAINING = 128;
@@ -268,15 +269,15 @@ export function guideOf(instance) {
       };
     },
 
-    /* The codes of the enabled choices, rising. */
+    /* The codes of the enabled choices, rising; how many conditions were judged, and how many goals are open. */
     list(card, c, room = MOST_LIST_ENTRIES) {
       const lent = new Lent(exports);
       const given = [...pair(lent, asBytes(card, "the card")), ...read(lent, c)];
       const list = lent.room(2 * asNumber(room, "the room", 65535));
-      const entries = lent.room(2);
-      const said = ask("list", ...given, list, BigInt(room), entries);
+      const [entries, judged, openGoals] = [lent.room(2), lent.room(2), lent.room(2)];
+      const said = ask("list_looks", ...given, list, BigInt(room), entries, judged, openGoals);
       const choices = Array.from({ length: lent.numberAt(entries) }, (_, i) => lent.numberAt(list + 2 * i));
-      return { ...said, choices };
+      return { ...said, choices, judged: lent.numberAt(judged), openGoals: lent.numberAt(openGoals) };
     },
 
     /* What comes next of the guide's own, and the code of that move; no move is made. */

@@ -94,9 +94,9 @@ old_app() {
 expect 'an app of an older version does not link' old_app
 numbered() {
     first=$(sed -n 's/^#define RIGTEMPLE_VERSION_FIRST //p' "$root/include/rigtemple.h")
-    [ "$(grep -c "^uint16_t rigtemple_${first}_[a-z_]*_parts(" "$root/include/rigtemple.h")" -eq 16 ] &&
+    [ "$(grep -c "^uint16_t rigtemple_${first}_[a-z_]*_parts(" "$root/include/rigtemple.h")" -eq 17 ] &&
         [ "$(grep -c "^#define rigtemple_\([a-z_]*\)_parts rigtemple_${first}_\1_parts$" \
-            "$root/include/rigtemple.h")" -eq 16 ]
+            "$root/include/rigtemple.h")" -eq 17 ]
 }
 expect "the symbols have the version's first number" numbered
 

@@ -47,8 +47,9 @@ static uint16_t call_grade(void)
 
 static uint16_t call_list(void)
 {
-    return rigtemple_list(card.bytes, card.len, &lent.c, lent.list, RIGTEMPLE_MOST_LIST_ENTRIES,
-                          &lent.entries);
+    return rigtemple_list_looks(card.bytes, card.len, &lent.c, lent.list,
+                                RIGTEMPLE_MOST_LIST_ENTRIES, &lent.entries, &lent.judged,
+                                &lent.open_goals);
 }
 
 static uint16_t call_next(void)

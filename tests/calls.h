@@ -20,7 +20,7 @@ extern const struct call calls[CALLS];
 /* All that the calls may write; `made` is what load and restore make. */
 struct lent {
     struct rigtemple_configuration c, made;
-    uint16_t list[RIGTEMPLE_MOST_LIST_ENTRIES], entries;
+    uint16_t list[RIGTEMPLE_MOST_LIST_ENTRIES], entries, judged, open_goals;
     uint8_t verdict, offender, ending, coming;
     enum rigtemple_bounded_ending bounded_ending;
     uint16_t number, node, moves, choice;

@@ -72,7 +72,7 @@ use Rattle.meaning.specs.declared.Configuration.{Configuration}
 use Rattle.meaning.specs.declared.Checked.{Checked}
 use Rattle.meaning.specs.declared.Reply.{Reply}
 use Rattle.meaning.specs.declared.Graded.{Graded}
-use Rattle.meaning.specs.declared.Written.{Written}
+use Rattle.meaning.specs.declared.Listed.{Listed}
 use Rattle.meaning.specs.declared.Ran.{Ran}
 use Rattle.meaning.specs.Card.{Bytes}
 use Rattle.meaning.specs.Place.{twoBytes}
@@ -144,11 +144,11 @@ gradedBytes g = number (g .answer) ++ verdictBytes (g .answer) (g .verdict)
 unfoldable pub gradeBytes : Bytes → Bytes
 gradeBytes b = gradedBytes (grades b)
 
-abbrev writtenBytes : Written → Bytes
-writtenBytes w = number (w .answer) ++ twoBytes (w .count)
+abbrev listedBytes : Listed → Bytes
+listedBytes r = number (r .answer) ++ (twoBytes (r .count) ++ (twoBytes (r .judged) ++ twoBytes (r .goals)))
 
 unfoldable pub listBytes : Bytes → Configuration → ℕ → Bytes
-listBytes b c room = writtenBytes (lists b c (replicate room 0xEEEE)) ++ flatten (map twoBytes (listLeaves b c (replicate room 0xEEEE)))
+listBytes b c room = listedBytes (lists b c (replicate room 0xEEEE)) ++ flatten (map twoBytes (listLeaves b c (replicate room 0xEEEE)))
 
 unfoldable pub saveBytes : Bytes → Configuration → ℕ → Bytes
 saveBytes b c room = number (saves b c (replicate room 0xEE) .answer) ++ saveLeaves b c (replicate room 0xEE)

@@ -422,6 +422,37 @@ static void test_list_room(void)
            "nothing to list at rest");
 }
 
+/* How much the list looks at: at the start, after each of the six steps, and refused. */
+static void test_list_looks(void)
+{
+    static const uint16_t judged_after[7] = {2, 1, 1, 2, 1, 1, 2};
+    uint16_t list[2], count = 9, judged = 9, goals = 9;
+    struct rigtemple_configuration c;
+    for (unsigned i = 0; i <= 6; i++) {
+        c = after(i);
+        expect(rigtemple_list_looks(card.bytes, card.len, &c, list, 2, &count, &judged, &goals) ==
+                       RIGTEMPLE_ANSWER_DONE &&
+                   count == (i < 6) && judged == judged_after[i] && goals == (i < 6),
+               "how many conditions were judged, and how many goals are open");
+    }
+    c = begin();
+    c.goals[0] = 15;
+    expect(rigtemple_list_looks(card.bytes, card.len, &c, list, 2, &count, &judged, &goals) ==
+                   RIGTEMPLE_ANSWER_DONE &&
+               goals == 4,
+           "goals that are believed are counted");
+    expect(rigtemple_list_looks(card.bytes, card.len, &c, list, 0, &count, &judged, &goals) ==
+                   RIGTEMPLE_ANSWER_NO_ROOM &&
+               count == 0 && judged == 0 && goals == 0,
+           "no count with 12");
+    c.phase = 3;
+    judged = goals = 9;
+    expect(rigtemple_list_looks(card.bytes, card.len, &c, list, 2, &count, &judged, &goals) ==
+                   RIGTEMPLE_ANSWER_CONFIGURATION &&
+               count == 0 && judged == 0 && goals == 0,
+           "no count with 13");
+}
+
 /* ---- how many moves have left the plan empty ---- */
 
 /* Counts to go on from, and what they become. */
@@ -609,6 +640,7 @@ int main(void)
     test_empty_configuration();
     test_full_plan();
     test_list_room();
+    test_list_looks();
     for (unsigned i = 0; i < COUNTED; i++) {
         test_finished(&counted[i]);
         test_not_finished(counted[i].before);

@@ -264,9 +264,11 @@ static void answer_list(void)
 {
     struct rigtemple_configuration *c = get_image();
     size_t room = get_number(LIST_LIMIT);
-    uint16_t *list = lend(2 * room), *count = lend(2);
-    put_number(rigtemple_list(card, card_len, c, list, room, count));
+    uint16_t *list = lend(2 * room), *count = lend(2), *judged = lend(2), *open_goals = lend(2);
+    put_number(rigtemple_list_looks(card, card_len, c, list, room, count, judged, open_goals));
     put_number(*count);
+    put_number(*judged);
+    put_number(*open_goals);
     for (size_t i = 0; i < room; i++)
         put_number(list[i]);
 }

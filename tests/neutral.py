@@ -12,7 +12,7 @@ most 8 bytes:
 - a pointer is only handed on, stored, loaded, and moved by bytes: none becomes a number, and no size or distance is asked of one.
   A place of its own for a pointer is only stored to and loaded from as a pointer, for on some processors it has under 8 bytes; and where
   a pointer lies in other memory nothing is read or written as a number;
-- what is called is a function of the module, or memmove, memset or trap;
+- what is called is a function of the module, or memmove, memset, trap or ctpop, which counts the ones of a number;
 - the functions for others are those that the header declares, with the parameters that it has there, and no attribute says how a
   caller has to widen them.
 
@@ -28,13 +28,15 @@ PROCESSOR = '"target-cpu"="x86-64"'
 # Attributes that may stay: the probe of a large frame's pages, which a back end makes in its own way or not at all, and what is
 # said of every processor.
 ATTRIBUTES = {'"probe-stack"="inline-asm"', "nounwind", "nocallback", "nofree", "willreturn", "cold", "noreturn"}
-ATTRIBUTES |= {"memory(argmem: readwrite)", "memory(argmem: write)", "memory(inaccessiblemem: write)"}
+ATTRIBUTES |= {"memory(argmem: readwrite)", "memory(argmem: write)", "memory(inaccessiblemem: write)", "memory(none)"}
+ATTRIBUTES |= {"nosync", "speculatable", "nocreateundeforpoison"}
 ATTRIBUTE = re.compile(r'"[^"]*"="[^"]*"|"[^"]*"|\w+\([^)]*\)|\S+')
 
 INTRINSICS = {
     "llvm.memmove.p0.p0.i64": "void (ptr writeonly captures(none), ptr readonly captures(none), i64, i1 immarg)",
     "llvm.memset.p0.i64": "void (ptr writeonly captures(none), i8, i64, i1 immarg)",
     "llvm.trap": "void ()",
+    "llvm.ctpop.i64": "i64 (i64)",
 }
 
 # The forms of a line in a function: N a type of numbers, T one of numbers or a pointer, V a value, R a name, F a function.

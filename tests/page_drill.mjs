@@ -120,9 +120,11 @@ const requests = {
     putNumber(number);
   },
   4() {
-    const { answer, choices } = guide.list(card, getImage(), getNumber(1024));
+    const { answer, choices, judged, openGoals } = guide.list(card, getImage(), getNumber(1024));
     putNumber(answer);
     putNumber(choices.length);
+    putNumber(judged);
+    putNumber(openGoals);
     putLent(new Uint8Array(Uint16Array.from(choices).buffer), "list");
   },
   5() {

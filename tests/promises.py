@@ -31,6 +31,7 @@ READING = (
                                                   "meaning/specs/Place.antt")),
     ("the refusals and the nine answers", ("meaning/specs/Refusals.antt", "meaning/specs/Why.antt", "meaning/specs/Calls.antt",
                                             "meaning/specs/Numbers.antt")),
+    ("how much the list looks at", ("meaning/specs/Looking.antt", "demands/specs/Looking.antt")),
     ("what is proved of the definitions", ("paper/specs/Theorems.antt", "runs/specs/Theorems.antt", "meaning/specs/Theorems.antt")),
     ("edition 1 as before, and edition 2", ("editions/specs/Edition1.antt", "editions/specs/Moves.antt", "editions/specs/Calls.antt", "editions/specs/AsBefore.antt",
                                             "editions/specs/Edition2.antt")),
@@ -51,8 +52,8 @@ READING = (
     ("what is proved of texts", ("notation/specs/Completed.antt", "notation/specs/Theorems.antt", "notation/specs/Meant.antt")),
     ("every call, the count since load, a deliberation turned", ("every_call/specs/EveryCall.antt", "every_call/specs/SinceLoad.antt",
                                                                 "every_call/specs/TurnedDeliberation.antt")),
-    ("the cases", ("paper/specs/Cases.antt", "meaning/specs/Stripe.antt", "meaning/specs/Cases.antt", "notation/specs/Cases.antt",
-                   "deliberation/specs/Cases.antt", "editions/specs/Cases.antt", "cases/specs/BoundedCases.antt")),
+    ("the cases", ("paper/specs/Cases.antt", "meaning/specs/Stripe.antt", "meaning/specs/Cases.antt", "meaning/specs/LookingCases.antt",
+                   "notation/specs/Cases.antt", "deliberation/specs/Cases.antt", "editions/specs/Cases.antt", "cases/specs/BoundedCases.antt")),
 )
 # Definitions that only contracts of inner functions cite, and that a theorem ties to those above.
 INNER = ("notation/specs/Scanning.antt", "notation/specs/Values.antt", "notation/specs/Making.antt", "deliberation/specs/Stacked.antt")

@@ -13,6 +13,7 @@ determined =
       load = λ card n n′ c c′ e f. (same (e .0) (f .0), same (e .1) (f .1));
       grade = λ card n n′ v v′ o o′ k k′ e f. (same (e .0) (f .0), same (e .1) (f .1), same (e .2) (f .2), same (e .3) (f .3));
       list = λ card d list left left′ n n′ k k′ e f. (same (e .0) (f .0), same (e .2) (f .2), same (e .1) (f .1));
+      list-looks = λ card d list left left′ n n′ k k′ j j′ g g′ e f. (same (e .0) (f .0), same (e .4) (f .4), same (e .1) (f .1), same (e .2) (f .2), same (e .3) (f .3));
       take = λ card d choice n n′ c c′ k k′ e f. (same (e .0) (f .0), same (e .1) (f .1), same (e .2) (f .2));
       run = λ card d budget n n′ c c′ k k′ a a′ e f. (same (e .0) (f .0), same (e .1) (f .1), same (e .2) (f .2), same (e .3) (f .3));
       take-bounded = λ card d choice n n′ c c′ k k′ e f. (same (e .0) (f .0), same (e .1) (f .1), same (e .2) (f .2));

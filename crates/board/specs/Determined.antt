@@ -1,4 +1,4 @@
--- The contract of each of the sixteen functions for C, by the one name that its `ensures` cites, and that it leaves one answer
+-- The contract of each of the functions for C, by the one name that its `ensures` cites, and that it leaves one answer
 -- (proved in proofs/). n is the return value. What is lent to be written is named as it is left: c for a configuration's six
 -- parts, left for a list, a place, a card or a text, the others as in include/rigtemple.h. What is lent to be read stays as it is.
 use mathlib.Core.Path.{_≡_}
@@ -15,7 +15,7 @@ use Rattle.notation.specs.Reading.{Reads}
 use Rattle.notation.specs.Printing as Printing
 use Rattle.deliberation.specs.Deliberate.{goesOn, deliberates}
 use Rattle.names.specs.Naming.{Question, names}
-use Rattle.board.specs.Header.{whole, replied, took, gradedAs, wrote, readAs, ranTo, nextAs, deliberatedTo, namedAs}
+use Rattle.board.specs.Header.{whole, replied, took, gradedAs, listedAs, lookedAs, wrote, readAs, ranTo, nextAs, deliberatedTo, namedAs}
 
 -- ---- the contracts
 
@@ -34,7 +34,11 @@ Grades card n verdict offender number = gradedAs (grades card) n verdict offende
 -- 01, "What the guide does": "list the enabled moves": of a configuration d, into a list. "the answer tells how many, and what
 -- lies after them stays"
 abbrev pub Lists : Bytes → Configuration → List ℕ → ℕ → List ℕ → ℕ → Type 0
-Lists card d list n left count = wrote (lists card d list) (listLeaves card d list) n count left
+Lists card d list n left count = listedAs (lists card d list) (listLeaves card d list) n count left
+
+-- 02, Wish 11: "The listing reports that number", and "how many goals are open": the same call, with both.
+abbrev pub ListLooks : Bytes → Configuration → List ℕ → ℕ → List ℕ → ℕ → ℕ → ℕ → Type 0
+ListLooks card d list n left count judged goals = lookedAs (lists card d list) (listLeaves card d list) n count judged goals left
 
 -- 01, "What the guide does": "take a chosen move": from a configuration d. "A refusal answers the number and the configuration
 -- as it came in"; 02, Wish 1: "16 a condition is false, with the node"
@@ -107,6 +111,9 @@ pub record DeterminedParts : Type 0 where
       → (n ≡ n′) × (verdict ≡ verdict′) × (offender ≡ offender′) × (number ≡ number′)
   pub list : (card : Bytes) (d : Configuration) (list left left′ : List ℕ) (n n′ count count′ : ℕ)
       → Lists card d list n left count → Lists card d list n′ left′ count′ → (n ≡ n′) × (left ≡ left′) × (count ≡ count′)
+  pub list-looks : (card : Bytes) (d : Configuration) (list left left′ : List ℕ) (n n′ count count′ judged judged′ goals goals′ : ℕ)
+      → ListLooks card d list n left count judged goals → ListLooks card d list n′ left′ count′ judged′ goals′
+      → (n ≡ n′) × (left ≡ left′) × (count ≡ count′) × (judged ≡ judged′) × (goals ≡ goals′)
   pub take : (card : Bytes) (d : Configuration) (choice n n′ : ℕ) (c c′ : Configuration) (node node′ : ℕ)
       → Takes card d choice n c node → Takes card d choice n′ c′ node′ → (n ≡ n′) × (c ≡ c′) × (node ≡ node′)
   pub run : (card : Bytes) (d : Configuration) (budget n n′ : ℕ) (c c′ : Configuration) (count count′ ending ending′ : ℕ)

@@ -7,6 +7,7 @@ use Rattle.meaning.specs.declared.Configuration.{Configuration}
 use Rattle.meaning.specs.declared.Reply.{Reply}
 use Rattle.meaning.specs.declared.Graded.{Graded}
 use Rattle.meaning.specs.declared.Written.{Written}
+use Rattle.meaning.specs.declared.Listed.{Listed}
 use Rattle.meaning.specs.declared.Ran.{Ran}
 use Rattle.meaning.specs.declared.Next.{Next}
 use Rattle.meaning.specs.Card.{Bytes}
@@ -38,7 +39,16 @@ gradedAs x n verdict offender rule =
     × (offender ≡ verdictOffender (x .verdict))
     × (rule ≡ verdictRule (x .verdict))
 
--- of `list` and `save`: how many were written, and what the lent buffer then holds
+-- of `list`: how many were written, and what the lent list then holds
+abbrev pub listedAs : Listed → List ℕ → ℕ → ℕ → List ℕ → Type 0
+listedAs x leaves n count out = (n ≡ answerNumber (x .answer)) × (count ≡ x .count) × (out ≡ leaves)
+
+-- of `list_looks`: the same, how many conditions were judged, and how many goals are open
+abbrev pub lookedAs : Listed → List ℕ → ℕ → ℕ → ℕ → ℕ → List ℕ → Type 0
+lookedAs x leaves n count judged goals out =
+    (n ≡ answerNumber (x .answer)) × (count ≡ x .count) × (judged ≡ x .judged) × (goals ≡ x .goals) × (out ≡ leaves)
+
+-- of `save`: how many were written, and what the lent buffer then holds
 abbrev pub wrote : Written → List ℕ → ℕ → ℕ → List ℕ → Type 0
 wrote x leaves n count out = (n ≡ answerNumber (x .answer)) × (count ≡ x .count) × (out ≡ leaves)
 

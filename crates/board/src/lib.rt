@@ -5,7 +5,7 @@ ghost use Rattle.meaning.specs.Refusals.{answerNumber};
 ghost use Rattle.deliberation.specs.Deliberate.{deliberationEndingNumber};
 ghost use Rattle.names.specs.Naming.{asked};
 ghost use Rattle.board.specs.Header.{whole};
-ghost use Rattle.board.specs.Determined.{Checks, Loads, Grades, Lists, Takes, Runs, Nexts, Deliberates, GoesOn, Saves, Restores};
+ghost use Rattle.board.specs.Determined.{Checks, Loads, Grades, Lists, ListLooks, Takes, Runs, Nexts, Deliberates, GoesOn, Saves, Restores};
 ghost use Rattle.board.specs.Determined.{BoundedTakes, BoundedRuns, ReadsText, Prints, Names};
 use answers::answer_carried;
 use answers::answer_number;
@@ -368,6 +368,40 @@ pub extern "C" fn rigtemple_4_list_parts(
         list,
     );
     *count = listed.count;
+    let a = listed.answer;
+    answer_number(a)
+}
+
+// The same; and how many conditions were judged for it, and how many goals are open. A refusal says 0 of each.
+#[no_mangle]
+pub extern "C" fn rigtemple_4_list_looks_parts(
+    card: &[u8],
+    beliefs: &Set,
+    goals: &Set,
+    plan: &Plan,
+    length: u16,
+    phase: u8,
+    finished: u16,
+    list: &mut [u16],
+    count: &mut u16,
+    judged: &mut u16,
+    open_goals: &mut u16,
+) -> u16
+    ensures { λ r. ⌜ ListLooks (now (card .entry))
+        (whole (now (beliefs .entry)) (now (goals .entry)) (now (plan .entry)) length phase finished) (now (list .entry)) r
+        (now (list .exit)) (now (count .exit)) (now (judged .exit)) (now («open_goals» .exit)) ⌝ }
+{
+    let listed = listing::list::list(
+        card,
+        beliefs,
+        goals,
+        standing(length, phase, finished),
+        plan,
+        list,
+    );
+    *count = listed.count;
+    *judged = listed.judged;
+    *open_goals = listed.goals;
     let a = listed.answer;
     answer_number(a)
 }

@@ -1,3 +1,4 @@
 pub mod Stripe
+pub mod Looking
 pub mod Deliberation
 pub mod Bounded

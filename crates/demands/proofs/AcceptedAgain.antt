@@ -17,7 +17,7 @@ use Rattle.meaning.specs.Configurations.{stateOf, configurationOf, empty}
 use Rattle.meaning.specs.Place.{placed}
 use Rattle.meaning.specs.Refusals.{cardAnswer, placeAnswer}
 use Rattle.meaning.proofs.Tables.{done≢refused}
-use Rattle.meaning.proofs.Calls.{configuration-good}
+use Rattle.meaning.proofs.Calls.{configuration-good, writtenOf}
 use Rattle.meaning.proofs.Places.{good-place}
 use Rattle.demands.specs.Demands.{OnAccepted}
 use Rattle.demands.specs.AcceptedAgain.{AcceptedAgain}
@@ -72,7 +72,7 @@ pub again : AcceptedAgain
 again = record {
   load = λ b r w. loaded b r (loading b r w);
   grade = λ b r w. graded b r (grading b r w);
-  list = λ b c out left r w. wrote b c _ out left r (listing b c out left r w);
+  list = λ b c out left r w. wrote b c _ out left (writtenOf r) (listing b c out left r w);
   take = λ b c n r w. took b c n r (taking b c n r w);
   run = λ b c budget r w. ran-on b c budget r (running b c budget r w);
   save = λ b c out left r w. wrote b c _ out left r (saving b c out left r w);

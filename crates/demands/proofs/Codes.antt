@@ -67,7 +67,7 @@ moved (apply-PS e p q) = selection e
 moved (apply-PR π e p) = revision e
 
 -- 00, the machine: "256 action specifications, 256 rules for choosing a plan and 256 for revising one"
-most-rules : (b : Bytes) → cardAnswer b ≡ Done → (k : Choice) → rules (agent b) k ≤ 256
+pub most-rules : (b : Bytes) → cardAnswer b ≡ Done → (k : Choice) → rules (agent b) k ≤ 256
 unfolding agent agentFor agentOf
 most-rules b e (select n) = card-laws b e .numbered .selections
 most-rules b e (act n) = card-laws b e .numbered .specifications

@@ -17,6 +17,7 @@ pub mod Showing
 pub mod AcceptedAgain
 pub mod Striking
 pub mod Keeping
+pub mod Looking
 pub mod Demands
 pub mod Turning
 pub mod Telling

@@ -27,6 +27,7 @@ use Rattle.meaning.specs.Place.{placed}
 use Rattle.meaning.specs.Refusals.{cardAnswer, placeAnswer}
 use Rattle.meaning.specs.Calls.{choice}
 use Rattle.meaning.proofs.Tables.{done≢refused}
+use Rattle.meaning.proofs.Calls.{writtenOf}
 use Rattle.demands.specs.Demands.{Transition}
 use Rattle.demands.specs.Struck.{Unbelieved, Struck}
 use Rattle.demands.proofs.Codes.{chosen}
@@ -95,7 +96,7 @@ struck = record {
   load = λ b r w. loaded b r (loading b r w);
   grade = λ b r w. graded b r (grading b r w);
   action = λ b c n i q r w. acted b c n i q r (taking b c n r w);
-  list = λ b c out left r w. wrote b c _ out left r (listing b c out left r w);
+  list = λ b c out left r w. wrote b c _ out left (writtenOf r) (listing b c out left r w);
   take = λ b c n r w. took b c n r (taking b c n r w);
   run = λ b c budget r w. ran-on b c budget r (running b c budget r w);
   save = λ b c out left r w. wrote b c _ out left r (saving b c out left r w);

@@ -10,6 +10,7 @@ use Rattle.meaning.specs.declared.Configuration.{Configuration}
 use Rattle.meaning.specs.declared.Reply.{Reply}
 use Rattle.meaning.specs.declared.Graded.{Graded}
 use Rattle.meaning.specs.declared.Written.{Written}
+use Rattle.meaning.specs.declared.Listed.{Listed}
 use Rattle.meaning.specs.declared.Ran.{Ran}
 use Rattle.meaning.specs.Card.{Bytes, layout}
 use Rattle.meaning.specs.Refusals.{cardAnswer, placeAnswer, configurationAnswer, andThen, firstGiven, placeTable, configurationTable, configurationGood}
@@ -18,8 +19,8 @@ use Rattle.demands.specs.Contracts.{Lists, Takes, Runs, Saves, Restores}
 use Rattle.demands.specs.TestOrder.{CardFirst, ConfigurationNext, TestOrder}
 
 module _ (b : Bytes) (c : Configuration) (q : Refusal) (e : configurationAnswer b c ≡ Refused q) where
-  listed : (out left : List ℕ) (r : Written) → Lists b c out r left → r .answer ≡ Refused q
-  listed out left r w = ap (λ (x : Written). x .answer) (w .0 ∙ lists-refused b c out q e .0)
+  listed : (out left : List ℕ) (r : Listed) → Lists b c out r left → r .answer ≡ Refused q
+  listed out left r w = ap (λ (x : Listed). x .answer) (w .0 ∙ lists-refused b c out q e .0)
 
   taken : (n : ℕ) (r : Reply) → Takes b c n r → r .answer ≡ Refused q
   taken n r w = ap (λ (x : Reply). x .answer) (w ∙ takes-refused b c n q e)

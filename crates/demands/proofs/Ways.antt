@@ -28,6 +28,7 @@ use Rattle.meaning.specs.declared.Checked.{Checked}
 use Rattle.meaning.specs.declared.Reply.{Reply}
 use Rattle.meaning.specs.declared.Graded.{Graded}
 use Rattle.meaning.specs.declared.Written.{Written}
+use Rattle.meaning.specs.declared.Listed.{Listed}
 use Rattle.meaning.specs.declared.Ran.{Ran}
 use Rattle.meaning.specs.Card as Card
 use Rattle.meaning.specs.Card.{Bytes, layout, weight, agent, initialPlan, start, conditions, plan, specificationAt, selectionAt, revisionAt}
@@ -35,8 +36,8 @@ use Rattle.meaning.specs.Configurations.{stateOf, configurationOf, empty}
 use Rattle.meaning.specs.Place.{place, placed}
 use Rattle.meaning.specs.Refusals.{cardAnswer, placeAnswer, configurationAnswer}
 use Rattle.meaning.specs.Why.{frontFirst, ruleFirst, falseOf, settler, why, whyClosed}
-use Rattle.meaning.specs.Calls.{reply, graded, written, over, writes, leaves, lists, listLeaves, choice, ran, saves, saveLeaves}
-use Rattle.meaning.proofs.Calls.{checks-good, checks-refused, loads-good, loads-refused, grades-good, grades-refused, writes-refused, writes-room, writes-no-room, takes-refused, takes-nothing, takes-full, takes-to, runs-refused, runs-good, restores-good, restores-refused}
+use Rattle.meaning.specs.Calls.{reply, graded, written, over, writes, leaves, listLeaves, choice, ran, saves, saveLeaves}
+use Rattle.meaning.proofs.Calls.{checks-good, checks-refused, loads-good, loads-refused, grades-good, grades-refused, writes-refused, writes-room, writes-no-room, writtenOf, lists-written, takes-refused, takes-nothing, takes-full, takes-to, runs-refused, runs-good, restores-good, restores-refused}
 use Rattle.demands.specs.Contracts.{Checks, Loads, Grades, Lists, Takes, Runs, Saves, Restores}
 use Rattle.demands.specs.Demands.{OnAccepted, ChosenMove, IsClosed, no-rule, front, condition}
 use Rattle.demands.proofs.Codes.{coded, chosen}
@@ -102,9 +103,9 @@ writing b c xs out left r e f = go (configurationAnswer b c) refl
     go Done h = room (leb (length xs) (length out)) refl h
     go (Refused z) h = let (p, q) = writes-refused b c xs out z h in rw (e ∙ p, f ∙ q) (refused h)
 
-pub listing : (b : Bytes) (c : Configuration) (out left : List ℕ) (r : Written) → Lists b c out r left → Writing b c (enabledCodes (agent b) (stateOf c .mental)) out r left
-unfolding lists listLeaves
-listing b c out left r (e, f) = writing b c (enabledCodes (agent b) (stateOf c .mental)) out left r e f
+pub listing : (b : Bytes) (c : Configuration) (out left : List ℕ) (r : Listed) → Lists b c out r left → Writing b c (enabledCodes (agent b) (stateOf c .mental)) out (writtenOf r) left
+unfolding listLeaves
+listing b c out left r (e, f) = writing b c (enabledCodes (agent b) (stateOf c .mental)) out left (writtenOf r) (lists-written b c out r e) f
 
 pub saving : (b : Bytes) (c : Configuration) (out left : Bytes) (r : Written) → Saves b c out r left → Writing b c (place (layout b) (stateOf c)) out r left
 unfolding saves saveLeaves

@@ -7,6 +7,7 @@ use Rattle.meaning.specs.declared.Configuration.{Configuration}
 use Rattle.meaning.specs.declared.Reply.{Reply}
 use Rattle.meaning.specs.declared.Graded.{Graded}
 use Rattle.meaning.specs.declared.Written.{Written}
+use Rattle.meaning.specs.declared.Listed.{Listed}
 use Rattle.meaning.specs.declared.Ran.{Ran}
 use Rattle.meaning.specs.Card.{Bytes}
 use Rattle.demands.specs.Contracts.{Loads, Grades, Lists, Takes, Runs, Saves, Restores}
@@ -19,7 +20,7 @@ pub record AcceptedAgain : Type 0 where
   -- 01, "What the guide does": "grade the card": the empty one
   pub grade : (b : Bytes) (r : Graded) → Grades b r → r .answer ≡ Done → OnAccepted b (r .configuration)
   -- 01, "What the guide does": "list the enabled moves": the one that it was given
-  pub list : (b : Bytes) (c : Configuration) (out left : List ℕ) (r : Written) → Lists b c out r left → r .answer ≡ Done
+  pub list : (b : Bytes) (c : Configuration) (out left : List ℕ) (r : Listed) → Lists b c out r left → r .answer ≡ Done
       → OnAccepted b (r .configuration)
   -- 01, "What the guide does": "take a chosen move"
   pub take : (b : Bytes) (c : Configuration) (n : ℕ) (r : Reply) → Takes b c n r → r .answer ≡ Done → OnAccepted b (r .configuration)

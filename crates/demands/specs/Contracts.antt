@@ -11,6 +11,7 @@ use Rattle.meaning.specs.declared.Checked.{Checked}
 use Rattle.meaning.specs.declared.Reply.{Reply}
 use Rattle.meaning.specs.declared.Graded.{Graded}
 use Rattle.meaning.specs.declared.Written.{Written}
+use Rattle.meaning.specs.declared.Listed.{Listed}
 use Rattle.meaning.specs.declared.Ran.{Ran}
 use Rattle.meaning.specs.declared.Next.{Next}
 use Rattle.meaning.specs.declared.BoundedReply.{BoundedReply}
@@ -33,7 +34,7 @@ abbrev pub Grades : Bytes → Graded → Type 0
 Grades b r = r ≡ grades b
 
 -- 01, "What the guide does": "list the enabled moves"
-abbrev pub Lists : Bytes → Configuration → List ℕ → Written → List ℕ → Type 0
+abbrev pub Lists : Bytes → Configuration → List ℕ → Listed → List ℕ → Type 0
 Lists b c out r left = (r ≡ lists b c out) × (left ≡ listLeaves b c out)
 
 -- 01, "What the guide does": "take a chosen move"

@@ -26,6 +26,7 @@ use Rattle.meaning.specs.declared.Checked.{Checked}
 use Rattle.meaning.specs.declared.Reply.{Reply}
 use Rattle.meaning.specs.declared.Graded.{Graded}
 use Rattle.meaning.specs.declared.Written.{Written}
+use Rattle.meaning.specs.declared.Listed.{Listed}
 use Rattle.meaning.specs.declared.Ran.{Ran}
 use Rattle.meaning.specs.Sizes.{setBytes, planAt}
 use Rattle.meaning.specs.Card.{Bytes, layout, weight, agent, initialPlan}
@@ -47,7 +48,7 @@ pub record Demand1 : Type 0 where
   pub check-listed : (b : Bytes) (r : Checked) → Checks b r → List·Memᴰ (checkedNumber r) doneOrCard
   pub load-listed : (b : Bytes) (r : Reply) → Loads b r → List·Memᴰ (answerNumber (r .answer)) doneOrCard
   pub grade-listed : (b : Bytes) (r : Graded) → Grades b r → List·Memᴰ (answerNumber (r .answer)) doneOrCard
-  pub list-listed : (b : Bytes) (c : Configuration) (out left : List ℕ) (r : Written) → Lists b c out r left
+  pub list-listed : (b : Bytes) (c : Configuration) (out left : List ℕ) (r : Listed) → Lists b c out r left
       → List·Memᴰ (answerNumber (r .answer)) (doneOrCard ++ (13 ∷ 12 ∷ []))
   pub take-listed : (b : Bytes) (c : Configuration) (n : ℕ) (r : Reply) → Takes b c n r
       → List·Memᴰ (answerNumber (r .answer)) (doneOrCard ++ (13 ∷ 14 ∷ 15 ∷ 16 ∷ 11 ∷ []))
@@ -58,8 +59,8 @@ pub record Demand1 : Type 0 where
   pub restore-listed : (b p : Bytes) (r : Reply) → Restores b p r → List·Memᴰ (answerNumber (r .answer)) doneOrCard
   -- 00, demand 1: "A refusal hands back the configuration it was given"; 01, "Numbers the guide may answer": "Any count in a
   -- refusal is 0."
-  pub list-hands-back : (b : Bytes) (c : Configuration) (out left : List ℕ) (r : Written) → Lists b c out r left
-      → (q : Refusal) → r .answer ≡ Refused q → (r .configuration ≡ c) × (r .count ≡ 0)
+  pub list-hands-back : (b : Bytes) (c : Configuration) (out left : List ℕ) (r : Listed) → Lists b c out r left
+      → (q : Refusal) → r .answer ≡ Refused q → (r .configuration ≡ c) × (r .count ≡ 0) × (r .judged ≡ 0) × (r .goals ≡ 0)
   pub take-hands-back : (b : Bytes) (c : Configuration) (n : ℕ) (r : Reply) → Takes b c n r
       → (q : Refusal) → r .answer ≡ Refused q → r .configuration ≡ c
   pub run-hands-back : (b : Bytes) (c : Configuration) (budget : ℕ) (r : Ran) → Runs b c budget r
@@ -71,7 +72,7 @@ pub record Demand1 : Type 0 where
   pub grade-hands-empty : (b : Bytes) (r : Graded) → Grades b r → (q : Refusal) → r .answer ≡ Refused q → r .configuration ≡ empty
   pub restore-hands-empty : (b p : Bytes) (r : Reply) → Restores b p r → (q : Refusal) → r .answer ≡ Refused q → r .configuration ≡ empty
   -- 00, demand 1: "and writes to no lent buffer"
-  pub list-leaves : (b : Bytes) (c : Configuration) (out left : List ℕ) (r : Written) → Lists b c out r left
+  pub list-leaves : (b : Bytes) (c : Configuration) (out left : List ℕ) (r : Listed) → Lists b c out r left
       → (q : Refusal) → r .answer ≡ Refused q → left ≡ out
   pub save-leaves : (b : Bytes) (c : Configuration) (out left : Bytes) (r : Written) → Saves b c out r left
       → (q : Refusal) → r .answer ≡ Refused q → left ≡ out
@@ -148,10 +149,10 @@ pub record Tells (r : Ran) (o : Outcome) : Type 0 where
 pub record Demand2 : Type 0 where
   -- 00, demand 2: "On an accepted card and configuration, moves are those of Definitions 8 to 11 of source document 004, with
   -- document 01's limits, none missing and none added."
-  pub moves : (b : Bytes) (c : Configuration) → OnAccepted b c → (out left : List ℕ) (r : Written) → Lists b c out r left
+  pub moves : (b : Bytes) (c : Configuration) → OnAccepted b c → (out left : List ℕ) (r : Listed) → Lists b c out r left
       → r .answer ≡ Done → ListedMoves b c out left (r .count)
   -- 01, "Numbers the guide may answer", row 12: "the lent list … is too short" for the moves, and no other refusal.
-  pub moves-room : (b : Bytes) (c : Configuration) → OnAccepted b c → (out left : List ℕ) (r : Written) → Lists b c out r left
+  pub moves-room : (b : Bytes) (c : Configuration) → OnAccepted b c → (out left : List ℕ) (r : Listed) → Lists b c out r left
       → (ns : List ℕ) × (AllMoves b c ns × RoomFor (length ns) out (r .answer))
   -- 01, "Numbers the guide may answer": "rising, each once": one list alone has a configuration's moves.
   pub moves-one : (b : Bytes) (c : Configuration) (ns ms : List ℕ) → AllMoves b c ns → AllMoves b c ms → ns ≡ ms
@@ -173,7 +174,7 @@ pub record Demand2 : Type 0 where
   pub read-back : (b : Bytes) (c : Configuration) → OnAccepted b c → (k : Choice) (c′ : Config) → Transition b c k c′
       → choice (code k) ≡ some k
   -- 01, "Numbers the guide may answer", row 10: "the code is no enabled choice": none of "The list of enabled choices".
-  pub offered : (b : Bytes) (c : Configuration) → OnAccepted b c → (out left : List ℕ) (r : Written) → Lists b c out r left
+  pub offered : (b : Bytes) (c : Configuration) → OnAccepted b c → (out left : List ℕ) (r : Listed) → Lists b c out r left
       → r .answer ≡ Done → (n : ℕ) (r′ : Reply) → Takes b c n r′
       → List·Memᴰ n (take (r .count) left) ↔ (IsClosed (r′ .answer) → ⊥)
   -- 00, demand 2: "The guide's own order is document 01's.": which move is the guide's, from any state.
@@ -261,7 +262,7 @@ pub record Determined : Type 0 where
   pub check : (b : Bytes) (r r′ : Checked) → Checks b r → Checks b r′ → r ≡ r′
   pub load : (b : Bytes) (r r′ : Reply) → Loads b r → Loads b r′ → r ≡ r′
   pub grade : (b : Bytes) (r r′ : Graded) → Grades b r → Grades b r′ → r ≡ r′
-  pub list : (b : Bytes) (c : Configuration) (out left left′ : List ℕ) (r r′ : Written)
+  pub list : (b : Bytes) (c : Configuration) (out left left′ : List ℕ) (r r′ : Listed)
       → Lists b c out r left → Lists b c out r′ left′ → (r ≡ r′) × (left ≡ left′)
   pub take : (b : Bytes) (c : Configuration) (n : ℕ) (r r′ : Reply) → Takes b c n r → Takes b c n r′ → r ≡ r′
   pub run : (b : Bytes) (c : Configuration) (budget : ℕ) (r r′ : Ran) → Runs b c budget r → Runs b c budget r′ → r ≡ r′

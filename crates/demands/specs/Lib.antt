@@ -4,6 +4,7 @@ pub mod AcceptedAgain
 pub mod Struck
 pub mod Shown
 pub mod Closed
+pub mod Looking
 pub mod TestOrder
 pub mod TurnedScreen
 pub mod Next

@@ -13,6 +13,7 @@ use Rattle.meaning.specs.declared.Configuration.{Configuration}
 use Rattle.meaning.specs.declared.Reply.{Reply}
 use Rattle.meaning.specs.declared.Graded.{Graded}
 use Rattle.meaning.specs.declared.Written.{Written}
+use Rattle.meaning.specs.declared.Listed.{Listed}
 use Rattle.meaning.specs.declared.Ran.{Ran}
 use Rattle.meaning.specs.Card.{Bytes, layout, initialBeliefs, initialGoals}
 use Rattle.meaning.specs.Place.{placed}
@@ -36,7 +37,7 @@ pub record Struck : Type 0 where
   -- 01, "What the guide does": "grade the card": the empty configuration has no goal
   pub grade : (b : Bytes) (r : Graded) → Grades b r → Unbelieved (r .configuration)
   -- from a configuration where no goal is believed, no call reaches one where one is, whoever chooses
-  pub list : (b : Bytes) (c : Configuration) (out left : List ℕ) (r : Written) → Lists b c out r left → Unbelieved c
+  pub list : (b : Bytes) (c : Configuration) (out left : List ℕ) (r : Listed) → Lists b c out r left → Unbelieved c
       → Unbelieved (r .configuration)
   pub take : (b : Bytes) (c : Configuration) (n : ℕ) (r : Reply) → Takes b c n r → Unbelieved c → Unbelieved (r .configuration)
   pub run : (b : Bytes) (c : Configuration) (budget : ℕ) (r : Ran) → Runs b c budget r → Unbelieved c → Unbelieved (r .configuration)

@@ -13,6 +13,7 @@ use Rattle.meaning.specs.declared.Checked.{Checked}
 use Rattle.meaning.specs.declared.Reply.{Reply}
 use Rattle.meaning.specs.declared.Graded.{Graded}
 use Rattle.meaning.specs.declared.Written.{Written}
+use Rattle.meaning.specs.declared.Listed.{Listed}
 use Rattle.meaning.specs.declared.Ran.{Ran}
 use Rattle.meaning.specs.Card.{Bytes, layout}
 use Rattle.meaning.specs.Refusals.{cardAnswer, firstGiven, placeTable, configurationGood}
@@ -24,7 +25,7 @@ pub record CardFirst (b : Bytes) (q : Refusal) : Type 0 where
   pub check : (r : Checked) → Checks b r → r ≡ Checked.Refused q
   pub load : (r : Reply) → Loads b r → r .answer ≡ Refused q
   pub grade : (r : Graded) → Grades b r → r .answer ≡ Refused q
-  pub list : (c : Configuration) (out left : List ℕ) (r : Written) → Lists b c out r left → r .answer ≡ Refused q
+  pub list : (c : Configuration) (out left : List ℕ) (r : Listed) → Lists b c out r left → r .answer ≡ Refused q
   pub take : (c : Configuration) (n : ℕ) (r : Reply) → Takes b c n r → r .answer ≡ Refused q
   pub run : (c : Configuration) (budget : ℕ) (r : Ran) → Runs b c budget r → r .answer ≡ Refused q
   pub save : (c : Configuration) (out left : Bytes) (r : Written) → Saves b c out r left → r .answer ≡ Refused q
@@ -33,7 +34,7 @@ pub record CardFirst (b : Bytes) (q : Refusal) : Type 0 where
 -- 01, "Numbers the guide may answer": "or a configuration with 13": each call that is given one answers 13, whatever else it is
 -- given.
 pub record ConfigurationNext (b : Bytes) (c : Configuration) : Type 0 where
-  pub list : (out left : List ℕ) (r : Written) → Lists b c out r left → r .answer ≡ Refused Refusal.Configuration
+  pub list : (out left : List ℕ) (r : Listed) → Lists b c out r left → r .answer ≡ Refused Refusal.Configuration
   pub take : (n : ℕ) (r : Reply) → Takes b c n r → r .answer ≡ Refused Refusal.Configuration
   pub run : (budget : ℕ) (r : Ran) → Runs b c budget r → r .answer ≡ Refused Refusal.Configuration
   pub save : (out left : Bytes) (r : Written) → Saves b c out r left → r .answer ≡ Refused Refusal.Configuration

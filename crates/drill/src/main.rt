@@ -278,6 +278,8 @@ fn list_into(card: &[u8], c: Configuration, out: &mut [u16]) {
     let bytes = entries(out);
     tell(answer_number(a));
     tell(w.count);
+    tell(w.judged);
+    tell(w.goals);
     if n <= 1024 {
         tell_first(&bytes, 2 * n);
     }

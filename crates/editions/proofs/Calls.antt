@@ -15,9 +15,10 @@ use Rattle.meaning.specs.Configurations.{stateOf, configurationOf}
 use Rattle.meaning.specs.Place.{place}
 use Rattle.meaning.specs.Refusals.{firstGiven, andThen, placeTable, placeAnswer, configurationGood, configurationAnswer}
 use Rattle.meaning.specs.Why.{whyClosed}
-use Rattle.meaning.specs.Calls.{reply, graded, writes, leaves, lists, listLeaves, choice, takes, ran, coming, saves, saveLeaves}
+use Rattle.meaning.specs.Looking.{conditionsJudged, goalsOpen}
+use Rattle.meaning.specs.Calls.{reply, graded, writes, leaves, listed, listLeaves, choice, takes, ran, coming, saves, saveLeaves}
 use Rattle.meaning.proofs.Configurations.{good, configuration-laws}
-use Rattle.meaning.proofs.Calls.{checks-good, loads-good, grades-good, configuration-refused, configuration-good, takes-nothing, takes-full, takes-to, runs-good, nexts-good, restores-good}
+use Rattle.meaning.proofs.Calls.{checks-good, loads-good, grades-good, lists-as, configuration-refused, configuration-good, takes-nothing, takes-full, takes-to, runs-good, nexts-good, restores-good}
 use Rattle.editions.specs.Edition1.{edition1Weight, edition1Agent, edition1Answer, edition1Place, edition1PlaceAnswer}
 use Rattle.editions.specs.Moves.{OfSixteen, widenedConfig, widenedState, widenedReached, SetsFit}
 use Rattle.editions.specs.AsBefore.{CardAsBefore}
@@ -55,6 +56,14 @@ module _ (b : Bytes) (d : edition1Answer b ≡ Done) where
     unfolding widenedState
     codes = ap₂ (λ A t. enabledCodes A (t .mental)) (before .same-agent) stands ∙ card-moves b .listed (s .mental) fit
 
+    looked : conditionsJudged (agent b) (stateOf (handed s) .mental) ≡ conditionsJudged (edition1Agent b) (s .mental)
+    unfolding widenedState
+    looked = ap₂ (λ A t. conditionsJudged A (t .mental)) (before .same-agent) stands ∙ card-moves b .judged (s .mental)
+
+    goals : goalsOpen (stateOf (handed s) .mental) ≡ goalsOpen (s .mental)
+    unfolding widenedState
+    goals = ap (λ t. goalsOpen (t .mental)) stands ∙ card-moves b .goals (s .mental) fit
+
     step-same : (o : Option Choice) → stepBy (agent b) (stateOf (handed s)) o ≡ widenedReached (stepBy (edition1Agent b) s o)
     unfolding widenedReached
     step-same none = refl
@@ -73,10 +82,10 @@ module _ (b : Bytes) (d : edition1Answer b ≡ Done) where
     saved = ap (place (layout b)) stands ∙ place-as-before (layout b) e1 .saved s h
 
     state-calls : StateCalls b s
-    unfolding lists listLeaves saves saveLeaves
+    unfolding listLeaves saves saveLeaves
     state-calls = record {
       accepted = now-good;
-      list = λ out. ap (λ xs. writes b (handed s) xs out) codes;
+      list = λ out. lists-as b (handed s) out ∙ (λ i. listed (writes b (handed s) (codes i) out) (looked i) (goals i));
       list-leaves = λ out. ap (λ xs. leaves b (handed s) xs out) codes;
       take = taken;
       run = λ n. runs-good b (handed s) now-good n ∙ ap ran (ap₂ (λ A t. run A n t) (before .same-agent) stands ∙ card-moves b .ran s n fit);

@@ -18,7 +18,8 @@ use Rattle.meaning.specs.Why.{settledBy, settlers, frontFirst, ruleFirst, false
 use Rattle.editions.specs.Edition1.{edition1SpecificationAt, edition1Agent}
 use Rattle.editions.specs.Moves.{widenedConfig, ClosedAsBefore, MovesAsBefore}
 use Rattle.editions.proofs.Rows.{part-16}
-use Rattle.editions.proofs.Moves.{judged, AddsFit, moves-as-before}
+use Rattle.editions.proofs.Looking.{judged}
+use Rattle.editions.proofs.Moves.{AddsFit, moves-as-before}
 
 settlers-same : (L : Letter) (l : Layout) (b : Bytes) (c : Config) → settlers L l b (widenedConfig c) ≡ settlers L l b c
 unfolding settlers

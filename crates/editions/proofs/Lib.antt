@@ -4,6 +4,7 @@ pub mod Orders
 pub mod Cards
 pub mod Reading
 pub mod Places
+pub mod Looking
 pub mod Moves
 pub mod Closed
 pub mod Calls

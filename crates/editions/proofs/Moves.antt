@@ -1,14 +1,14 @@
 -- Transitions with sets in 32 bytes are those with sets in 16.
 use mathlib.Core.Path.{_≡_, refl, ap, ap₂, _∙_, sym}
-use mathlib.Core.Bool.{Bool, true, false, not, _&&_, _||_}
+use mathlib.Core.Bool.{Bool, true, false, _&&_}
 use mathlib.Core.List.{List, [], _∷_, _++_, map}
 use mathlib.Core.Option.{Option, none, some}
 use Prim.Native.Nat.{ℕ, zero, suc, _%_, _+_, _≤_}
 use native.Mathlib.Omega.{arith}
 use lib.ListN.{length, drop, getElem?, length-map}
-use Rattle.paper.specs.Atoms.{Atoms, _∈_, _∪_, _∖_}
-use Rattle.paper.specs.Language.{Letter, 𝐁, 𝐆, Query, ⊤, atom, ¬′, _∧′_, _∨′_, Specification, Agent, Config, Plan, ⟨_/_/_⟩}
-use Rattle.paper.specs.Transitions.{_⊨_, base, Choice, select, act, revise, Entry, σ′, γ′, Step, execute, apply-PS, apply-PR}
+use Rattle.paper.specs.Atoms.{Atoms, _∪_, _∖_}
+use Rattle.paper.specs.Language.{𝐁, 𝐆, Specification, Agent, Config, Plan, ⟨_/_/_⟩}
+use Rattle.paper.specs.Transitions.{Choice, select, act, revise, Entry, σ′, γ′, Step, execute, apply-PS, apply-PR}
 use Rattle.paper.specs.Next.{canSelect, selected, canAct, acted, canRevise, revised, outcome, next, isSome, enabled, isEmpty, startsWith, isPrefix}
 use Rattle.paper.proofs.Relation.{sound, complete, some-inj, none≢some}
 use Rattle.paper.proofs.Sets.{length-∖}
@@ -19,24 +19,9 @@ use Rattle.runs.proofs.Run.{run-rests, run-is-full, run-goes-on}
 use Rattle.runs.specs.Weight.{verdict}
 use Rattle.meaning.specs.Card.{widened}
 use Rattle.meaning.specs.Calls.{coming, comingBy, comingOf}
-use Rattle.meaning.proofs.Widening.{∈-widened}
 use Rattle.editions.proofs.Widening.{most-∪, widened-∪, widened-∖}
+use Rattle.editions.proofs.Looking.{judged, judged-same, goals-same}
 use Rattle.editions.specs.Moves.{widenedSpecification, widenedAgent, widenedConfig, widenedState, widenedReached, widenedOutcome, SetsFit, MovesAsBefore}
-
--- ---- a condition
-
-at-base : (L : Letter) (c : Config) → base L (widenedConfig c) ≡ widened (base L c)
-unfolding widenedConfig
-at-base 𝐁 c = refl
-at-base 𝐆 c = refl
-
-pub judged : (L : Letter) (c : Config) (φ : Query L) → (widenedConfig c ⊨ φ) ≡ (c ⊨ φ)
-unfolding _⊨_
-judged L c ⊤ = refl
-judged L c (atom p) = ap (λ s. p ∈ s) (at-base L c) ∙ ∈-widened p (base L c)
-judged L c (¬′ φ) = ap not (judged L c φ)
-judged L c (φ ∧′ ψ) = ap₂ _&&_ (judged L c φ) (judged L c ψ)
-judged L c (φ ∨′ ψ) = ap₂ _||_ (judged L c φ) (judged L c ψ)
 
 -- ---- what a choice leads to
 
@@ -230,6 +215,8 @@ module _ (A : Agent) (adds : AddsFit A) where
         none-missing = none-missing;
         none-added = none-added;
         listed = listed;
+        judged = judged-same A;
+        goals = goals-same;
         taken = taken;
         told = told;
         ran = ran;

@@ -17,7 +17,8 @@ use Rattle.meaning.specs.Card.{Bytes, layout, initialPlan}
 use Rattle.meaning.specs.Configurations.{configurationOf}
 use Rattle.meaning.specs.Refusals.{configurationGood, configurationAnswer}
 use Rattle.meaning.specs.Why.{whyClosed}
-use Rattle.meaning.specs.Calls.{checks, reply, loads, graded, grades, writes, leaves, lists, listLeaves, choice, takes, ran, runs, coming, nexts, saves, saveLeaves, restores}
+use Rattle.meaning.specs.Looking.{conditionsJudged, goalsOpen}
+use Rattle.meaning.specs.Calls.{checks, reply, loads, graded, grades, writes, leaves, listed, lists, listLeaves, choice, takes, ran, runs, coming, nexts, saves, saveLeaves, restores}
 use Rattle.editions.specs.Edition1.{edition1Weight, edition1Agent, edition1Start, edition1Place, edition1Placed, edition1PlaceAnswer}
 use Rattle.editions.specs.Moves.{OfSixteen, widenedState, widenedOutcome}
 
@@ -35,7 +36,9 @@ takenReply b s code (to k t) = reply Done (handed t)
 pub record StateCalls (b : Bytes) (s : State) : Type 0 where
   pub accepted : configurationAnswer b (handed s) ≡ Done
   -- 01, "What the guide does": "list the enabled moves"
-  pub list : (out : List ℕ) → lists b (handed s) out ≡ writes b (handed s) (enabledCodes (edition1Agent b) (s .mental)) out
+  pub list : (out : List ℕ) → lists b (handed s) out
+      ≡ listed (writes b (handed s) (enabledCodes (edition1Agent b) (s .mental)) out)
+      (conditionsJudged (edition1Agent b) (s .mental)) (goalsOpen (s .mental))
   pub list-leaves : (out : List ℕ) → listLeaves b (handed s) out ≡ leaves b (handed s) (enabledCodes (edition1Agent b) (s .mental)) out
   -- "take a chosen move"
   pub take : (code : ℕ) → takes b (handed s) code ≡ takenReply b s code (stepBy (edition1Agent b) s (choice code))

@@ -16,6 +16,7 @@ use Rattle.meaning.specs.declared.Layout.{Layout}
 use Rattle.meaning.specs.Sizes.{edition2Set}
 use Rattle.meaning.specs.Card.{Bytes, widened}
 use Rattle.meaning.specs.Why.{why}
+use Rattle.meaning.specs.Looking.{conditionsJudged, goalsOpen}
 use Rattle.meaning.specs.Calls.{coming}
 
 -- ---- sets of 16 bytes in 32
@@ -69,6 +70,10 @@ pub record MovesAsBefore (A : Agent) : Type 0 where
       → (c′ : Config) × (Step A c k c′ × (d ≡ widenedConfig c′))
   -- 01, "Numbers the guide may answer": "The list of enabled choices"
   pub listed : (c : Config) → SetsFit c → enabledCodes (widenedAgent A) (widenedConfig c) ≡ enabledCodes A c
+  -- 02, Wish 11: "how many conditions one listing judges"
+  pub judged : (c : Config) → conditionsJudged (widenedAgent A) (widenedConfig c) ≡ conditionsJudged A c
+  -- 02, Wish 11: "how many goals are open"
+  pub goals : (c : Config) → SetsFit c → goalsOpen (widenedConfig c) ≡ goalsOpen c
   -- 01, "What the guide does": "take a chosen move"
   pub taken : (s : State) (k : Choice) → SetsFit (s .mental) → step (widenedAgent A) (widenedState s) k ≡ widenedReached (step A s k)
   -- 00, the card: "The guide shows the next move."

@@ -23,6 +23,7 @@ use meaning::BoundedReply;
 use meaning::Checked;
 use meaning::Configuration;
 use meaning::Graded;
+use meaning::Listed;
 use meaning::Mind;
 use meaning::Next;
 use meaning::Plan;
@@ -110,8 +111,8 @@ pub fn grade(card: &[u8]) -> Graded
     }
 }
 
-// All enabled choices, into a lent list.
-pub fn list(card: &[u8], c: Configuration, out: &mut [u16]) -> Written
+// All enabled choices, into a lent list; how many conditions were judged, and how many goals are open.
+pub fn list(card: &[u8], c: Configuration, out: &mut [u16]) -> Listed
     ensures { λ r. ⌜ Lists (now (card .entry)) c (now (out .entry)) r (now (out .exit)) ⌝ }
 {
     let m = c.mind;
@@ -119,9 +120,11 @@ pub fn list(card: &[u8], c: Configuration, out: &mut [u16]) -> Written
     let goals = m.goals;
     let r = listing::list::list(card, &beliefs, &goals, standing(m), &c.plan, out);
     let a = r.answer;
-    Written {
+    Listed {
         answer: a,
         count: r.count,
+        judged: r.judged,
+        goals: r.goals,
         configuration: c,
     }
 }

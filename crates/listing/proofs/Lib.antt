@@ -1,2 +1,4 @@
 pub mod Gathering
 pub mod Writing
+pub mod Looking
+pub mod Answering

@@ -3,18 +3,12 @@ ghost use mathlib.Core.Path.{_≡_};
 ghost use Prim.Native.Nat.{_+_, _*_, _≤_, _<_};
 ghost use lib.ListN.{length, replicate};
 ghost use Rattle.meaning.specs.Calls.{over, lists, listLeaves};
-ghost use Rattle.door.specs.Words.{configured, Ready, writtenWith};
-ghost use Rattle.choices.specs.Judged.{SomeSets, AllSets};
-ghost use Rattle.sets.specs.Sets.{withMember};
-ghost use Rattle.listing.specs.Listed.{enabledCode, codesIn, Gathered, CardCodes, overFrom};
+ghost use Rattle.door.specs.Words.{configured};
+ghost use Rattle.listing.specs.Listed.{codesIn, CardCodes, overFrom};
+ghost use Rattle.listing.specs.Looking.{listedWith};
+use crate::gather::gather;
 use card::check::answer_of;
-use choices::ask::is_enabled;
-use choices::truth::Marks;
-use choices::truth::judge_nodes;
-use choices::truth::no_marks;
 use door::admit::admit;
-use door::in_place::WrittenInPlace;
-use door::in_place::refused_write;
 use door::room::judge_room;
 use layout::entries::count_of;
 use meaning::Answer;
@@ -23,66 +17,6 @@ use meaning::Layout;
 use meaning::Plan;
 use meaning::Set;
 use meaning::Standing;
-
-// A set of codes with one code more: code k is bit (k modulo 8) of byte (k divided by 8).
-fn put(codes: &mut [u8; 96], code: usize)
-    requires { ⌜ (code < 768) × (length (now codes) ≡ 96) ⌝ }
-    ensures { λ r. ⌜ now (codes .exit) ≡ withMember code (now (codes .entry)) ⌝ }
-{
-    sets::add_member(codes, code);
-}
-
-// The codes of a kind's enabled choices into a set that has those of the kinds before; answers how many the set has.
-fn gather_kind(
-    card: &[u8],
-    l: Layout,
-    m: Standing,
-    plan: &Plan,
-    marks: &Marks,
-    kind: u8,
-    codes: &mut [u8; 96],
-    before: usize,
-) -> usize
-    requires { ⌜ SomeSets l (now card) m (now plan) (now marks) × (kind < 3) × (length (now codes) ≡ 96) × (before ≤ 512) ⌝ }
-    ensures { λ r. ⌜ AllSets l (now (card .entry)) m (now (plan .entry)) (now (marks .entry))
-        (λ c. Gathered (enabledCode l (now (card .entry)) c) (256 * kind) (now (codes .entry)) before
-        → Gathered (enabledCode l (now (card .entry)) c) (256 * kind + 256) (now (codes .exit)) r) ⌝ }
-    ensures { λ r. ⌜ (length (now (codes .exit)) ≡ 96) × (r ≤ before + 256) ⌝ }
-{
-    let n = count_of(l, kind);
-    let mut count: usize = before;
-    let mut i: usize = 0;
-    while i < n {
-        if is_enabled(card, l, m, plan, marks, kind, i) {
-            put(codes, 256 * (kind as usize) + i);
-            count += 1;
-        }
-        i += 1;
-    }
-    count
-}
-
-// The three kinds, one after another, into the empty set.
-fn gather(
-    card: &[u8],
-    l: Layout,
-    beliefs: &Set,
-    goals: &Set,
-    m: Standing,
-    plan: &Plan,
-    codes: &mut [u8; 96],
-) -> usize
-    requires { ⌜ Ready l (now card) (configured (now beliefs) (now goals) m (now plan)) × (now codes ≡ replicate 96 0) ⌝ }
-    ensures { λ r. ⌜ Gathered (enabledCode l (now (card .entry)) (configured (now (beliefs .entry)) (now (goals .entry)) m (now (plan .entry))))
-        768 (now (codes .exit)) r ⌝ }
-    ensures { λ r. ⌜ length (now (codes .exit)) ≡ 96 ⌝ }
-{
-    let mut marks = no_marks();
-    judge_nodes(card, l, beliefs, goals, &mut marks);
-    let first = gather_kind(card, l, m, plan, &marks, 0, codes, 0);
-    let second = gather_kind(card, l, m, plan, &marks, 1, codes, first);
-    gather_kind(card, l, m, plan, &marks, 2, codes, second)
-}
 
 // The codes of a byte of a set over a lent list, from an entry on; answers where the next may go.
 fn write_byte(codes: &[u8; 96], b: usize, out: &mut [u16], at: usize) -> usize
@@ -141,7 +75,28 @@ fn no_codes() -> [u8; 96]
     [0u8; 96]
 }
 
-// All enabled choices into a lent list: how many; 12 if the room is too short, and nothing is written.
+// What `list` answers where sets and plan are lent: all of `Listed` but what these hold.
+pub struct ListedInPlace {
+    pub answer: Answer,
+    pub count: u16,
+    pub judged: u16,
+    pub goals: u16,
+}
+
+// "Any count in a refusal is 0."
+fn refused_list(answer: Answer) -> ListedInPlace
+    ensures { λ r. ⌜ r ≡ record { answer = answer; count = 0; judged = 0; goals = 0 } ⌝ }
+{
+    ListedInPlace {
+        answer: answer,
+        count: 0,
+        judged: 0,
+        goals: 0,
+    }
+}
+
+// All enabled choices into a lent list: how many, how many conditions were judged and how many goals are open; 12 if the room is
+// too short, and nothing is written.
 pub fn list(
     card: &[u8],
     beliefs: &Set,
@@ -149,25 +104,27 @@ pub fn list(
     m: Standing,
     plan: &Plan,
     out: &mut [u16],
-) -> WrittenInPlace
-    ensures { λ r. ⌜ writtenWith r (configured (now (beliefs .entry)) (now (goals .entry)) m (now (plan .entry)))
+) -> ListedInPlace
+    ensures { λ r. ⌜ listedWith r (configured (now (beliefs .entry)) (now (goals .entry)) m (now (plan .entry)))
         ≡ lists (now (card .entry)) (configured (now (beliefs .entry)) (now (goals .entry)) m (now (plan .entry))) (now (out .entry)) ⌝ }
     ensures { λ r. ⌜ now (out .exit)
         ≡ listLeaves (now (card .entry)) (configured (now (beliefs .entry)) (now (goals .entry)) m (now (plan .entry))) (now (out .entry)) ⌝ }
 {
     let admitted = admit(card, beliefs, goals, m, plan);
     let Checked::Good(l) = admitted else {
-        return refused_write(answer_of(admitted));
+        return refused_list(answer_of(admitted));
     };
     let mut codes = no_codes();
-    let n = gather(card, l, beliefs, goals, m, plan, &mut codes);
-    let room = judge_room(n, out.len());
+    let looked = gather(card, l, beliefs, goals, m, plan, &mut codes);
+    let room = judge_room(looked.enabled, out.len());
     let Answer::Done = room else {
-        return refused_write(room);
+        return refused_list(room);
     };
     write(&codes, l, out);
-    WrittenInPlace {
+    ListedInPlace {
         answer: Answer::Done,
-        count: n as u16,
+        count: looked.enabled as u16,
+        judged: looked.judged as u16,
+        goals: sets::size(*goals),
     }
 }

@@ -23,11 +23,14 @@ use Rattle.runs.specs.Order.{State, guide, enabledCodes}
 use Rattle.runs.specs.Step.{Reached, nothing, full, to, stepBy}
 use Rattle.runs.specs.Run.{run}
 use Rattle.meaning.specs.declared.Configuration.{Configuration}
+use Rattle.meaning.specs.declared.Written.{Written}
+use Rattle.meaning.specs.declared.Listed.{Listed}
 use Rattle.meaning.specs.Configurations.{stateOf, configurationOf, empty}
 use Rattle.meaning.specs.Refusals.{cardAnswer, placeAnswer, _given-when_, andThen, firstGiven, configurationGood, configurationTable, configurationAnswer}
 use Rattle.meaning.specs.Place.{place, placed}
 use Rattle.meaning.specs.Why.{whyClosed}
-use Rattle.meaning.specs.Calls.{checks, reply, loads, graded, grades, written, over, roomFor, writeAnswer, writes, leaves, lists, listLeaves, choice, takes, ran, runs, comingBy, comingOf, coming, nexts, saves, saveLeaves, restores}
+use Rattle.meaning.specs.Looking.{conditionsJudged, goalsOpen}
+use Rattle.meaning.specs.Calls.{checks, reply, loads, graded, grades, written, over, roomFor, writeAnswer, writes, leaves, numberBy, listed, lists, listLeaves, choice, takes, ran, runs, comingBy, comingOf, coming, nexts, saves, saveLeaves, restores}
 use Rattle.meaning.proofs.Tables.{given, not-given}
 
 module _ (b : Bytes) where
@@ -150,13 +153,38 @@ module _ (b : Bytes) (c : Configuration) (xs out : List ℕ) where
     pub writes-no-room : leb (length xs) (length out) ≡ false → (writes b c xs out ≡ written (Refused Refusal.NoRoom) 0 c) × (leaves b c xs out ≡ out)
     writes-no-room e = written-refused Refusal.NoRoom (rw (good, writeAnswer) (rw (e, roomFor)))
 
+-- what list and save answer alike
+abbrev pub writtenOf : Listed → Written
+writtenOf r = written (r .answer) (r .count) (r .configuration)
+
 module _ (b : Bytes) (c : Configuration) (out : List ℕ) where
   abbrev codes : List ℕ
   codes = enabledCodes (agent b) (stateOf c .mental)
 
-  pub lists-refused : (r : Refusal) → configurationAnswer b c ≡ Refused r → (lists b c out ≡ written (Refused r) 0 c) × (listLeaves b c out ≡ out)
-  unfolding lists listLeaves
-  lists-refused r e = writes-refused b c codes out r e
+  -- list answers what save does of its place, and two numbers more
+  pub lists-as : lists b c out ≡ listed (writes b c codes out) (conditionsJudged (agent b) (stateOf c .mental)) (goalsOpen (stateOf c .mental))
+  unfolding lists
+  lists-as = refl
+
+  pub lists-written : (r : Listed) → r ≡ lists b c out → writtenOf r ≡ writes b c codes out
+  lists-written r e = ap writtenOf (e ∙ lists-as)
+
+  -- the two numbers
+  pub lists-judged : (r : Listed) → r ≡ lists b c out → r .judged ≡ numberBy (r .answer) (conditionsJudged (agent b) (stateOf c .mental))
+  lists-judged r e =
+      let f = e ∙ lists-as in
+      ap (λ (x : Listed). x .judged) f ∙ ap (λ (x : Listed). numberBy (x .answer) (conditionsJudged (agent b) (stateOf c .mental))) (sym f)
+
+  pub lists-goals : (r : Listed) → r ≡ lists b c out → r .goals ≡ numberBy (r .answer) (goalsOpen (stateOf c .mental))
+  lists-goals r e =
+      let f = e ∙ lists-as in
+      ap (λ (x : Listed). x .goals) f ∙ ap (λ (x : Listed). numberBy (x .answer) (goalsOpen (stateOf c .mental))) (sym f)
+
+  pub lists-refused : (r : Refusal) → configurationAnswer b c ≡ Refused r → (lists b c out ≡ listed (written (Refused r) 0 c) 0 0) × (listLeaves b c out ≡ out)
+  unfolding listLeaves
+  lists-refused r e =
+      let (x, y) = writes-refused b c codes out r e in
+      (lists-as ∙ ap (λ w. listed w (conditionsJudged (agent b) (stateOf c .mental)) (goalsOpen (stateOf c .mental))) x, y)
 
   pub saves-refused : (r : Refusal) → configurationAnswer b c ≡ Refused r → (saves b c out ≡ written (Refused r) 0 c) × (saveLeaves b c out ≡ out)
   unfolding saves saveLeaves

@@ -13,8 +13,9 @@ use Rattle.meaning.specs.Configurations.{padded, stateOf, configurationO
 use Rattle.meaning.specs.Place.{placeHeader, place, placed}
 use Rattle.meaning.specs.Refusals.{numberOf, answerNumber, carried, answerCarried, firstGiven, hasEdition, cardLongEnough, cardMarkGood, countsGood, offsetsGood, weightsGood, nodesGood, containing, specificationGood, selectionGood, revisionGood, rulesGood, actionsGood, setGood, setsGood, cardTable, cardAnswer, placeTable, placeAnswer, configurationGood, configurationTable, configurationAnswer}
 use Rattle.meaning.specs.Why.{settlers, why}
+use Rattle.meaning.specs.Looking.{conditionsJudged, size, goalsOpen}
 use Rattle.meaning.specs.Calls.{checks, writes, leaves, loads, grades, lists, listLeaves, choice, takes, runs, coming, nexts, saves, saveLeaves, restores}
 
 unfoldable pub computing : Unit {0}
-unfolding bit _∈_ _∪_ _∖_ _⊨_ σ′ γ′ canSelect selected canAct acted canRevise revised outcome next enabled kind Order.number code numbers ofKind inTurn guide enabledCodes finishedWith after fits step run weigh verdict editionSet part widened layout weights weight nodeAt specificationAt selectionAt revisionAt nodes trees conditions plan specificationOf selectionOf revisionOf agentOf agentFor agent initialPlan start padded stateOf configurationOf empty placeHeader place placed numberOf answerNumber carried answerCarried firstGiven hasEdition cardLongEnough cardMarkGood countsGood offsetsGood weightsGood nodesGood containing specificationGood selectionGood revisionGood rulesGood actionsGood setGood setsGood cardTable cardAnswer placeTable placeAnswer configurationGood configurationTable configurationAnswer settlers why checks loads grades writes leaves lists listLeaves choice takes runs coming nexts saves saveLeaves restores
+unfolding bit _∈_ _∪_ _∖_ _⊨_ σ′ γ′ canSelect selected canAct acted canRevise revised outcome next enabled kind Order.number code numbers ofKind inTurn guide enabledCodes finishedWith after fits step run weigh verdict editionSet part widened layout weights weight nodeAt specificationAt selectionAt revisionAt nodes trees conditions plan specificationOf selectionOf revisionOf agentOf agentFor agent initialPlan start padded stateOf configurationOf empty placeHeader place placed numberOf answerNumber carried answerCarried firstGiven hasEdition cardLongEnough cardMarkGood countsGood offsetsGood weightsGood nodesGood containing specificationGood selectionGood revisionGood rulesGood actionsGood setGood setsGood cardTable cardAnswer placeTable placeAnswer configurationGood configurationTable configurationAnswer settlers why checks loads grades writes leaves conditionsJudged size goalsOpen lists listLeaves choice takes runs coming nexts saves saveLeaves restores
 computing = tt

@@ -18,3 +18,4 @@ pub mod Carrying
 pub mod AgentEntries
 pub mod AtomKinds
 pub mod Settling
+pub mod Looking

@@ -25,6 +25,7 @@ use Rattle.meaning.specs.declared.Checked.{Checked}
 use Rattle.meaning.specs.declared.Reply.{Reply}
 use Rattle.meaning.specs.declared.Graded.{Graded}
 use Rattle.meaning.specs.declared.Written.{Written}
+use Rattle.meaning.specs.declared.Listed.{Listed}
 use Rattle.meaning.specs.declared.Ran.{Ran}
 use Rattle.meaning.specs.declared.Coming.{Coming}
 use Rattle.meaning.specs.declared.Next.{Next}
@@ -33,6 +34,7 @@ use Rattle.meaning.specs.Configurations.{stateOf, configurationOf, empty
 use Rattle.meaning.specs.Place.{place, placed}
 use Rattle.meaning.specs.Refusals.{cardAnswer, placeAnswer, configurationAnswer}
 use Rattle.meaning.specs.Why.{whyClosed}
+use Rattle.meaning.specs.Looking.{conditionsJudged, goalsOpen}
 
 -- ---- check, load, grade
 
@@ -68,8 +70,8 @@ grades b = elim (cardAnswer b) [
 
 -- ---- list and save: the answer, and the lent buffer afterwards
 
--- What list and save answer, with the configuration as it came in (docs/DECISIONS.md, "What list and save hand back"). Serves
--- writes.
+-- What save answers, with the configuration as it came in (docs/DECISIONS.md, "What list and save hand back"), and what list
+-- answers beside its two numbers. Serves writes.
 abbrev pub written : Answer → ℕ → Configuration → Written
 written a n c = record { answer = a; count = n; configuration = c }
 
@@ -109,9 +111,27 @@ leaves b c xs out = leavesBy (writeAnswer b c xs out) xs out
 
 -- ---- list
 
--- 01, "Numbers the guide may answer": "The list of enabled choices …; the answer tells how many".
-unfoldable pub lists : Bytes → Configuration → List ℕ → Written
-lists b c out = writes b c (enabledCodes (agent b) (stateOf c .mental)) out
+-- 01, "Numbers the guide may answer": "Any count in a refusal is 0.", of a number n. Serves listed.
+abbrev pub numberBy : Answer → ℕ → ℕ
+numberBy Done n = n
+numberBy (Refused r) n = 0
+
+-- What list answers: 02, Wish 11: "The listing reports that number …. Also report how many goals are open". Serves lists.
+abbrev pub listed : Written → ℕ → ℕ → Listed
+listed w judged goals = record {
+  answer = w .answer;
+  count = w .count;
+  judged = numberBy (w .answer) judged;
+  goals = numberBy (w .answer) goals;
+  configuration = w .configuration;
+}
+
+-- 01, "Numbers the guide may answer": "The list of enabled choices …; the answer tells how many". 02, Wish 11: "how many
+-- conditions one listing judges" and "how many goals are open".
+unfoldable pub lists : Bytes → Configuration → List ℕ → Listed
+lists b c out =
+    let s = stateOf c .mental in
+    listed (writes b c (enabledCodes (agent b) s) out) (conditionsJudged (agent b) s) (goalsOpen s)
 
 -- 01, "Numbers the guide may answer": "The list of enabled choices goes …, rising, each once, into the lent list; …, and what
 -- lies after them stays."

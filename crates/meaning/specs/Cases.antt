@@ -15,6 +15,7 @@ use Rattle.meaning.specs.declared.Checked.{Checked}
 use Rattle.meaning.specs.declared.Reply.{Reply}
 use Rattle.meaning.specs.declared.Graded.{Graded}
 use Rattle.meaning.specs.declared.Written.{Written}
+use Rattle.meaning.specs.declared.Listed.{Listed}
 use Rattle.meaning.specs.declared.Ran.{Ran}
 use Rattle.meaning.specs.declared.Next.{Next}
 use Rattle.meaning.specs.Card.{Bytes, weight, agent}
@@ -48,10 +49,15 @@ shownTake r = answerNumber (r .answer) ∷ answerCarried (r .answer) ∷ shown (
 unfoldable pub shownGrade : Graded → List ℕ
 shownGrade g = answerNumber (g .answer) ∷ verdictNumber (g .verdict) ∷ verdictOffender (g .verdict) ∷ verdictRule (g .verdict) ∷ []
 
--- What list and save answer in numbers: 01, "Numbers the guide may answer": "no."; the count; and the lent buffer afterwards.
--- Serves PCases.
+-- What save answers in numbers: 01, "Numbers the guide may answer": "no."; the count; and the lent buffer afterwards. Serves
+-- PCases.
 unfoldable pub shownWritten : Written → List ℕ → List ℕ
 shownWritten w out = answerNumber (w .answer) ∷ w .count ∷ out
+
+-- What list answers in numbers: 01, "Numbers the guide may answer": "no."; the count; 02, Wish 11: "how many conditions one
+-- listing judges", "how many goals are open"; and the lent list afterwards. Serves PCases.
+unfoldable pub shownListed : Listed → List ℕ → List ℕ
+shownListed r out = answerNumber (r .answer) ∷ r .count ∷ r .judged ∷ r .goals ∷ out
 
 -- What a run answers in numbers: 01, "Numbers the guide may answer": "no."; the ending, the count, the configuration. Serves
 -- PCases.
@@ -141,14 +147,17 @@ pub record PCases : Type 0 where
   -- 01, P11: "body 1 long, taken"
   pub P11-taken : shownReply (takes stripe (configuration (set 0) (set 0) 0 (replicate 1024 3)) 514)
       ≡ 0 ∷ (set 0 ++ (set 0 ++ (0 ∷ 0 ∷ replicate 1023 3)))
-  -- 01, P12: "At the start the list is 0 alone"
-  pub P12-start : shownWritten (lists stripe loaded (7 ∷ 7 ∷ [])) (listLeaves stripe loaded (7 ∷ 7 ∷ [])) ≡ 0 ∷ 1 ∷ 0 ∷ 7 ∷ []
+  -- 01, P12: "At the start the list is 0 alone". 02, Wish 11: "one for each selection rule, and one more where its belief
+  -- condition holds": 2; and 1 goal.
+  pub P12-start : shownListed (lists stripe loaded (7 ∷ 7 ∷ [])) (listLeaves stripe loaded (7 ∷ 7 ∷ []))
+      ≡ 0 ∷ 1 ∷ 2 ∷ 1 ∷ 0 ∷ 7 ∷ []
   -- 01, P12: "a list buffer of length 0 gives 12"
-  pub P12-no-room : shownWritten (lists stripe loaded []) (listLeaves stripe loaded []) ≡ 12 ∷ 0 ∷ []
-  -- 01, P12: "At rest it gives 0 (done) and a count of 0, with nothing written."
-  pub P12-rest : shownWritten (lists stripe (afterSteps 6) (7 ∷ [])) (listLeaves stripe (afterSteps 6) (7 ∷ [])) ≡ 0 ∷ 0 ∷ 7 ∷ []
+  pub P12-no-room : shownListed (lists stripe loaded []) (listLeaves stripe loaded []) ≡ 12 ∷ 0 ∷ 0 ∷ 0 ∷ []
+  -- 01, P12: "At rest it gives 0 (done) and a count of 0, with nothing written." No goal is left.
+  pub P12-rest : shownListed (lists stripe (afterSteps 6) (7 ∷ [])) (listLeaves stripe (afterSteps 6) (7 ∷ []))
+      ≡ 0 ∷ 0 ∷ 2 ∷ 0 ∷ 7 ∷ []
   -- 01, P12: the same of "a list buffer of length 0".
-  pub P12-rest-no-room : shownWritten (lists stripe (afterSteps 6) []) (listLeaves stripe (afterSteps 6) []) ≡ 0 ∷ 0 ∷ []
+  pub P12-rest-no-room : shownListed (lists stripe (afterSteps 6) []) (listLeaves stripe (afterSteps 6) []) ≡ 0 ∷ 0 ∷ 2 ∷ 0 ∷ []
   -- 01, P13: "Node 0 "not 0": refusal 6."
   pub P13 : shownCheck (checks stripe-P13) ≡ 6 ∷ []
 

@@ -6,6 +6,7 @@ pub mod Configurations
 pub mod Place
 pub mod Refusals
 pub mod Why
+pub mod Looking
 pub mod Calls
 pub mod BoundedCalls
 pub mod Numbers
@@ -13,3 +14,4 @@ pub mod Theorems
 pub mod Assembled
 pub mod Stripe
 pub mod Cases
+pub mod LookingCases

@@ -151,10 +151,20 @@ pub struct Graded {
     pub configuration: Configuration,
 }
 
-// What `list` and `save` answer. 01, "Numbers the guide may answer": "the answer tells how many"; "44 + L bytes and no others".
+// What `save` answers. 01, "Numbers the guide may answer": "Saving writes 44 + L bytes and no others."
 pub struct Written {
     pub answer: Answer,
     pub count: u16,
+    pub configuration: Configuration,
+}
+
+// What `list` answers. 01, "Numbers the guide may answer": "the answer tells how many". 02, Wish 11: "how many conditions one
+// listing judges" and "how many goals are open".
+pub struct Listed {
+    pub answer: Answer,
+    pub count: u16,
+    pub judged: u16,
+    pub goals: u16,
     pub configuration: Configuration,
 }
 

@@ -3,3 +3,4 @@ pub mod Below
 pub mod KnownAtoms
 pub mod Members
 pub mod Zeros
+pub mod Ones

@@ -1,11 +1,14 @@
 // Sets of atoms, 32 bytes by value: "atom k is bit (k modulo 8) of byte (k divided by 8)" (document 01).
 ghost use mathlib.Core.Path.{_≡_};
 ghost use Rattle.paper.specs.Atoms.{_∈_, _∪_, _∖_};
-ghost use Prim.Native.Nat.{_/_, _≤_, _<_};
-ghost use lib.ListN.{length, drop};
+ghost use Prim.Native.Nat.{_+_, _/_, _≤_, _<_};
+ghost use lib.Count.{ones};
+ghost use lib.ListN.{length, take, drop};
+ghost use Rattle.meaning.specs.Looking.{size};
 ghost use Rattle.meaning.specs.Sizes.{edition2Set, mostAtoms};
 ghost use Rattle.meaning.specs.Refusals.{setGood, bothGood};
 ghost use Rattle.sets.specs.Sets.{isEmpty, lowBits, withMember};
+ghost use Rattle.sets.specs.Ones.{onesOf};
 use meaning::Set;
 
 // Whether atom k is in s.
@@ -108,4 +111,48 @@ pub fn both_known(a: Set, b: Set, atoms: usize) -> bool
     ensures { λ r. ⌜ r ≡ bothGood atoms a b ⌝ }
 {
     known(union(a, b), atoms)
+}
+
+// Two bytes as one number of two bytes: its ones are theirs.
+fn pair(lo: u8, hi: u8) -> u16
+    ensures { λ r. ⌜ ones r ≡ ones lo + ones hi ⌝ }
+{
+    (hi as u16) * 256 + (lo as u16)
+}
+
+// Two such numbers as one of four bytes.
+fn four(lo: u16, hi: u16) -> u32
+    ensures { λ r. ⌜ ones r ≡ ones lo + ones hi ⌝ }
+{
+    (hi as u32) * 65536 + (lo as u32)
+}
+
+// Two such numbers as one word of eight bytes.
+fn word(lo: u32, hi: u32) -> u64
+    ensures { λ r. ⌜ ones r ≡ ones lo + ones hi ⌝ }
+{
+    (hi as u64) * 4294967296 + (lo as u64)
+}
+
+// The ones of a word of a set, its eight bytes from byte i on.
+fn word_ones(s: &Set, i: usize) -> u32
+    requires { ⌜ (i + 8 ≤ 32) × (length (now s) ≡ 32) ⌝ }
+    ensures { λ r. ⌜ r ≡ onesOf (take 8 (drop i (now (s .entry)))) ⌝ }
+{
+    let low = four(pair(s[i], s[i + 1]), pair(s[i + 2], s[i + 3]));
+    let high = four(pair(s[i + 4], s[i + 5]), pair(s[i + 6], s[i + 7]));
+    u64::count_ones(word(low, high))
+}
+
+// How many atoms are in s: "ones counted per word of the goal set".
+pub fn size(s: Set) -> u16
+    ensures { λ r. ⌜ r ≡ size s ⌝ }
+{
+    let mut n: u32 = 0;
+    let mut i: usize = 0;
+    while i < 32 {
+        n += word_ones(&s, i);
+        i += 8;
+    }
+    n as u16
 }

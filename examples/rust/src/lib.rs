@@ -138,6 +138,38 @@ pub fn list(card: &[u8], c: &Configuration, list: &mut [u16]) -> Result<usize, R
     Ok(usize::from(entries))
 }
 
+/// How much a listing looks at: how many choices are enabled, how many conditions were judged for
+/// them, and how many goals are open.
+#[derive(Clone, Copy, Debug, Default, PartialEq, Eq)]
+pub struct Looks {
+    pub entries: u16,
+    pub judged: u16,
+    pub open_goals: u16,
+}
+
+/// Lists as `list` does, and tells how much was looked at.
+pub fn list_looks(card: &[u8], c: &Configuration, list: &mut [u16]) -> Result<Looks, Refusal> {
+    let mut looks = Looks::default();
+    done(unsafe {
+        parts::rigtemple_4_list_looks_parts(
+            card.as_ptr(),
+            card.len(),
+            c.beliefs.as_ptr(),
+            c.goals.as_ptr(),
+            c.plan.as_ptr(),
+            c.length,
+            c.phase,
+            c.finished,
+            list.as_mut_ptr(),
+            list.len(),
+            &mut looks.entries,
+            &mut looks.judged,
+            &mut looks.open_goals,
+        )
+    })?;
+    Ok(looks)
+}
+
 /// Tells what comes next of the guide's own, and makes no move.
 pub fn next(card: &[u8], c: &Configuration) -> Result<Coming, Refusal> {
     let (mut coming, mut choice) = (0, 0);

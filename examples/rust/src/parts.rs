@@ -37,6 +37,22 @@ extern "C" {
         entries: *mut u16,
     ) -> u16;
 
+    pub fn rigtemple_4_list_looks_parts(
+        card: *const u8,
+        card_len: usize,
+        beliefs: *const u8,
+        goals: *const u8,
+        plan: *const u8,
+        length: u16,
+        phase: u8,
+        finished: u16,
+        list: *mut u16,
+        room_in_entries: usize,
+        entries: *mut u16,
+        judged: *mut u16,
+        open_goals: *mut u16,
+    ) -> u16;
+
     pub fn rigtemple_4_next_parts(
         card: *const u8,
         card_len: usize,

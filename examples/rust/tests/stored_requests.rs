@@ -105,9 +105,12 @@ impl Answers {
 fn list(card: &[u8], requests: &mut Requests, answers: &mut Answers) {
     let c = requests.image();
     let mut lent = vec![LENT_ENTRY; usize::from(requests.number())];
-    let answer = rigtemple::list(card, &c, &mut lent);
+    let answer = rigtemple::list_looks(card, &c, &mut lent);
     answers.answer(&answer);
-    answers.number(answer.unwrap_or(0) as u16);
+    let looks = answer.unwrap_or_default();
+    answers.number(looks.entries);
+    answers.number(looks.judged);
+    answers.number(looks.open_goals);
     lent.into_iter().for_each(|code| answers.number(code));
 }
 

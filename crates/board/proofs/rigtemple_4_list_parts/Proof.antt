@@ -1,7 +1,7 @@
 use Rattle.layout.specs.PlaceParts.{configured}
 use Rattle.meaning.specs.Refusals.{answerNumber}
 use Rattle.meaning.specs.declared.Standing.{Standing}
-use Rattle.meaning.specs.declared.Written.{Written}
+use Rattle.meaning.specs.declared.Listed.{Listed}
 use Rattle.meaning.specs.Calls.{lists, listLeaves}
 use mathlib.Core.Path.{ap, _∙_}
 use borrow.Author.Needs.{needs}
@@ -24,8 +24,8 @@ returns c =
     let t = c .before .before .before .list .ensures in
     let m = c .before .before .before .before .before .standing .ensures in
     let e = t .0 ∙ ap (λ (x : Standing). lists (now (a .card)) (configured (now (a .beliefs)) (now (a .goals)) x (now (a .plan))) (now (a .list))) m in (
-      c .answer-number .ensures ∙ ap (λ (x : Written). answerNumber (x .answer)) e,
-      ap (λ (x : Written). x .count) e,
+      c .answer-number .ensures ∙ ap (λ (x : Listed). answerNumber (x .answer)) e,
+      ap (λ (x : Listed). x .count) e,
       t .1 ∙ ap (λ (x : Standing). listLeaves (now (a .card)) (configured (now (a .beliefs)) (now (a .goals)) x (now (a .plan))) (now (a .list))) m,
     )
 

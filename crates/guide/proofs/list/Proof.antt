@@ -2,7 +2,7 @@ use mathlib.Core.Path.{_≡_, ap, _∙_, subst}
 use Rattle.layout.specs.PlaceParts.{configured}
 use Rattle.meaning.specs.declared.Standing.{Standing}
 use Rattle.meaning.specs.declared.Configuration.{Configuration}
-use Rattle.door.specs.InPlace.{writtenWith}
+use Rattle.listing.specs.Looking.{listedWith}
 use Rattle.meaning.specs.Calls.{lists, listLeaves}
 use denote.Ref.{now}
 use borrow.Author.Needs.{needs}
@@ -20,7 +20,7 @@ returns c =
     let s = c .before .before .before .before .before .before .standing .ensures in
     let t = c .before .before .list in
     let d : Standing → Configuration = λ x. configured (m .beliefs) (m .goals) x (a .t2 .plan) in
-    (subst (λ (x : Standing). writtenWith (t .result) (d x) ≡ lists b (d x) (now (a .out))) s (t .ensures .0), t .ensures .1 ∙ ap (λ (x : Standing). listLeaves b (d x) (now (a .out))) s)
+    (subst (λ (x : Standing). listedWith (t .result) (d x) ≡ lists b (d x) (now (a .out))) s (t .ensures .0), t .ensures .1 ∙ ap (λ (x : Standing). listLeaves b (d x) (now (a .out))) s)
 
 pub list-spec : {M : Type 1} → statement M
 list-spec =

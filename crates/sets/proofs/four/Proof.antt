@@ -1,0 +1,13 @@
+use mathlib.Core.Path.{_∙_}
+use native.Mathlib.Nat.{add-comm}
+use native.Mathlib.Omega.{arith}
+use borrow.Author.Needs.{needs}
+use lib.Count.{ones, ones-cat}
+use Rattle.sets.proofs.four.Statement.{statement}
+use Rattle.sets.proofs.four.Tie as tie
+
+returns : tie.Need-returns
+returns c = ones-cat 16 (c .args .hi) (c .args .lo) (omega arith) ∙ add-comm (ones (c .args .hi)) (ones (c .args .lo))
+
+pub four-spec : {M : Type 1} → statement M
+four-spec = tie.close (tie.spec (λ c. search needs) (λ c. search needs) returns)
