@@ -5,7 +5,7 @@
 # crates/drill, and on requests by seed. The last line is 'N passed, M failed'.
 #
 #   tests/c.sh [--engine] [--seed N] [--cards N] [--texts N] [--programs N] [--names N]
-#              [--cuts N] [--next N] [--bounded N] [--largest BYTES]
+#              [--cuts N] [--next N] [--bounded N] [--lists N] [--largest BYTES]
 #
 # --engine puts the C engine of bench/ in the library's place, and so holds that one against the
 # oracle the same way.
@@ -22,6 +22,7 @@ names=400
 cuts=400
 next=400
 bounded=50
+lists=50
 largest=32352
 while [ $# -gt 0 ]; do
     case $1 in
@@ -34,9 +35,10 @@ while [ $# -gt 0 ]; do
     --cuts) cuts=${2:?--cuts takes a number}; shift ;;
     --next) next=${2:?--next takes a number}; shift ;;
     --bounded) bounded=${2:?--bounded takes a number}; shift ;;
+    --lists) lists=${2:?--lists takes a number}; shift ;;
     --largest) largest=${2:?--largest takes a number}; shift ;;
     *) die "usage: c.sh [--engine] [--seed N] [--cards N] [--texts N] [--programs N]" \
-        "[--names N] [--cuts N] [--next N] [--bounded N] [--largest BYTES]" ;;
+        "[--names N] [--cuts N] [--next N] [--bounded N] [--lists N] [--largest BYTES]" ;;
     esac
     shift
 done
@@ -158,10 +160,10 @@ python3 -B "$root/oracle/stored.py" --check >"$work/stored.out" ||
 held 'the stored requests' "$work/stored.out" "$stored/stdin" "$stored/stdout"
 python3 -B "$root/oracle/cases.py" --seed "$seed" --cards "$cards" --texts "$texts" \
     --programs "$programs" --names "$names" --cuts "$cuts" --next "$next" --bounded "$bounded" \
-    --largest "$largest" \
+    --lists "$lists" --largest "$largest" \
     --requests "$work/requests" --answers "$work/answers" >"$work/cases.out"
 fresh="$cards cards, $texts texts, $programs cases of programs, $names of names, $cuts cuts"
-held "seed $seed, $fresh, $next next moves, $bounded on bounded cards" "$work/cases.out" "$work/requests" "$work/answers"
+held "seed $seed, $fresh, $next next moves, $bounded on bounded cards, $lists of lists" "$work/cases.out" "$work/requests" "$work/answers"
 
 printf '%s passed, %s failed\n' "$passed" "$failed"
 [ "$failed" -eq 0 ]

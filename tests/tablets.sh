@@ -7,11 +7,11 @@
 # last line is 'N passed, M failed'.
 #
 #   tests/tablets.sh [--seed N] [--cases N] [--texts N] [--programs N] [--names N] [--cuts N]
-#                    [--next N] [--bounded N] [--emulated]
+#                    [--next N] [--bounded N] [--lists N] [--emulated]
 #
-# --cases, --texts, --programs, --names, --cuts, --next and --bounded are those of tests/compare.py. --emulated
-# takes Debian's compiler and emulator for 64-bit Arm on an Arm machine too. Beside the kit and
-# Python 3 it needs Debian's packages nodejs and, on an Arm machine, gcc, elsewhere
+# --cases, --texts, --programs, --names, --cuts, --next, --bounded and --lists are those of
+# tests/compare.py. --emulated takes Debian's compiler and emulator for 64-bit Arm on an Arm machine
+# too. Beside the kit and Python 3 it needs Debian's packages nodejs and, on an Arm machine, gcc, elsewhere
 # gcc-aarch64-linux-gnu, libc6-dev-arm64-cross and qemu-user. Where there are tsc (node-typescript)
 # and cmake, the types and a build by CMake are tried too.
 set -eu
@@ -26,6 +26,7 @@ names=50
 cuts=200
 next=200
 bounded=20
+lists=20
 emulated=
 while [ $# -gt 0 ]; do
     case $1 in
@@ -37,9 +38,10 @@ while [ $# -gt 0 ]; do
     --cuts) cuts=${2:?--cuts takes a number}; shift ;;
     --next) next=${2:?--next takes a number}; shift ;;
     --bounded) bounded=${2:?--bounded takes a number}; shift ;;
+    --lists) lists=${2:?--lists takes a number}; shift ;;
     --emulated) emulated=yes ;;
     *) die "usage: tablets.sh [--seed N] [--cases N] [--texts N] [--programs N] [--names N]" \
-        "[--cuts N] [--next N] [--bounded N] [--emulated]" ;;
+        "[--cuts N] [--next N] [--bounded N] [--lists N] [--emulated]" ;;
     esac
     shift
 done
@@ -265,7 +267,7 @@ expect 'stack and room in a page' within page
 
 count "seed $seed, fresh requests through both" python3 -B "$tests/compare.py" --seed "$seed" \
     --cases "$cases" --texts "$texts" --programs "$programs" --names "$names" \
-    --cuts "$cuts" --next "$next" --bounded "$bounded" \
+    --cuts "$cuts" --next "$next" --bounded "$bounded" --lists "$lists" \
     --drill "${arm_run:+$arm_run }'$room/arm_drill'" --drill "node '$tests/page_drill.mjs' '$folder'"
 grep ' requests about ' "$room/said" || :
 

@@ -51,7 +51,7 @@ abbrev pub Runs : Bytes → Configuration → ℕ → ℕ → Configuration → 
 Runs card d budget n c count ending = ranTo (runs card d budget) n c count ending
 
 -- 02, Wish 10: "a chosen move for bounded cards": from a configuration d. In the header's numbers 11 has one, which no answer of
--- these calls is (demands/specs/BoundedCalls.antt `take-listed`).
+-- these calls is (every_call/specs/EveryCall.antt `take-bounded-listed`).
 abbrev pub BoundedTakes : Bytes → Configuration → ℕ → ℕ → Configuration → ℕ → Type 0
 BoundedTakes card d choice n c node = took (boundedTakes card d choice) n c node
 

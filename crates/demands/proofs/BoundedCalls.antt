@@ -31,7 +31,7 @@ use Rattle.meaning.specs.BoundedCalls.{asRefusal, asAnswer, asReply, asRan, bou
 use Rattle.meaning.proofs.Calls.{grades-refused}
 use Rattle.meaning.proofs.Configurations.{configuration-laws}
 use Rattle.meaning.proofs.Tables.{done≢refused, table-order}
-use Rattle.meaning.proofs.BoundedCalls.{as-answer-one, as-reply-one, as-ran-one, bounded-refused, bounded-heavy, bounded-good, bounded-takes-done, bounded-takes-refused, bounded-runs-done, bounded-runs-refused}
+use Rattle.meaning.proofs.BoundedCalls.{as-answer-one, bounded-refused, bounded-heavy, bounded-good, bounded-takes-done, bounded-takes-refused, bounded-runs-done, bounded-runs-refused}
 use Rattle.demands.specs.Contracts.{Loads, Grades, Takes, Runs, BoundedTakes, BoundedRuns}
 use Rattle.demands.specs.Demands.{doneOrCard, OnAccepted}
 use Rattle.demands.specs.TurnedScreen.{refusedRun}
@@ -60,7 +60,7 @@ bounded-among b c =
     (wider _ _ refl (listed (boundedTable b) c _ (table-order .bounded b c)))
 
 -- what the calls have words for: 11 is not among them
-word-among : (a : BoundedAnswer) → List·Memᴰ (answerNumber (asAnswer a)) (doneOrCard ++ (13 ∷ 22 ∷ 14 ∷ 15 ∷ 16 ∷ []))
+pub word-among : (a : BoundedAnswer) → List·Memᴰ (answerNumber (asAnswer a)) (doneOrCard ++ (13 ∷ 22 ∷ 14 ∷ 15 ∷ 16 ∷ []))
 unfolding doneOrCard answerNumber numberOf asAnswer asRefusal
 word-among BoundedAnswer.Done = wider (0 ∷ []) _ refl (List·Memᴰ·head refl)
 word-among (BoundedAnswer.Refused BoundedRefusal.Short) = wider (1 ∷ []) _ refl (List·Memᴰ·head refl)
@@ -144,7 +144,7 @@ module _ (b : Bytes) (c : Configuration) where
       λ h. word-22 (ap (λ (x : Reply). x .answer) (take-refused Refusal.OpenOrHeavy (refused-22 (h .0) (h .1)))),
     )
 
-    take-hands-back : (q : BoundedRefusal) → r .answer ≡ BoundedAnswer.Refused q → r .configuration ≡ c
+    pub take-hands-back : (q : BoundedRefusal) → r .answer ≡ BoundedAnswer.Refused q → r .configuration ≡ c
     take-hands-back q e = go (boundedAnswer b c) refl
       where
         go : (a : Answer) → boundedAnswer b c ≡ a → r .configuration ≡ c
@@ -168,7 +168,7 @@ module _ (b : Bytes) (c : Configuration) where
       λ h. word-22 (ap (λ (x : Ran). x .answer) (run-refused Refusal.OpenOrHeavy (refused-22 (h .0) (h .1)))),
     )
 
-    run-listed : List·Memᴰ (answerNumber (asAnswer (r .answer))) (doneOrCard ++ (13 ∷ 22 ∷ []))
+    pub run-listed : List·Memᴰ (answerNumber (asAnswer (r .answer))) (doneOrCard ++ (13 ∷ 22 ∷ []))
     unfolding doneOrCard
     run-listed = go (boundedAnswer b c) refl
       where
@@ -176,7 +176,7 @@ module _ (b : Bytes) (c : Configuration) where
         go Done h = let z = w ∙ bounded-runs-done b c budget h in wider (doneOrCard ++ (13 ∷ [])) _ refl (ran-among b c budget (asRan r) (running b c budget (asRan r) z))
         go (Refused q) h = at-number _ (h ∙ sym (ap (λ (x : Ran). x .answer) (run-refused q h))) (bounded-among b c)
 
-    run-hands-back : (q : BoundedRefusal) → r .answer ≡ BoundedAnswer.Refused q → (r .configuration ≡ c) × (r .count ≡ 0)
+    pub run-hands-back : (q : BoundedRefusal) → r .answer ≡ BoundedAnswer.Refused q → (r .configuration ≡ c) × (r .count ≡ 0)
     run-hands-back q e = go (boundedAnswer b c) refl
       where
         go : (a : Answer) → boundedAnswer b c ≡ a → (r .configuration ≡ c) × (r .count ≡ 0)
@@ -273,16 +273,10 @@ bounded-calls = record {
   run-as-run = λ b c on budget r w old v. run-as-run b c on budget r w ∙ sym v;
   take-has-answer = take-has-answer;
   run-has-answer = run-has-answer;
-  take-one = λ b c n r r′ w w′. as-reply-one (w ∙ sym w′);
-  run-one = λ b c budget r r′ w w′. as-ran-one (w ∙ sym w′);
   take-refused-exactly = take-refused-exactly;
   run-refused-exactly = run-refused-exactly;
   before-22 = λ b c q e. (λ n r w. take-refused b c n r w q (bounded-refused b c q e), λ budget r w. run-refused b c budget r w q (bounded-refused b c q e));
   by-22 = λ b c on h. (λ n r w. take-refused b c n r w _ (refused-22 b c on h), λ budget r w. run-refused b c budget r w _ (refused-22 b c on h));
-  take-listed = λ b c n r w. word-among (r .answer);
-  run-listed = run-listed;
-  take-hands-back = take-hands-back;
-  run-hands-back = run-hands-back;
   take-again = take-again;
   run-again = run-again;
   load-again = λ b r w g e v. load-on b g e v r w (loading b r w);

@@ -49,5 +49,4 @@ how-much = record {
   judged = λ b c out left r h e. judged-by b c out left r h Done e;
   most = looks-most;
   goals = λ b c out left r h e. goals-by b c out left r h Done e;
-  refused = looks-refused;
 }

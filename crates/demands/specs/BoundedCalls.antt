@@ -1,8 +1,7 @@
 -- A chosen move and a run for bounded cards (02, Wish 10), beside take and run, of every answer that meets a call's contract
--- (proved in proofs/). b is the card, c a configuration.
+-- (proved in proofs/). b is the card, c a configuration. What is so of every call is said of these two in every_call.
 use mathlib.Core.Path.{_≡_}
 use mathlib.Core.Logic.{_↔_}
-use mathlib.Core.List.{List, [], _∷_, _++_, List·Memᴰ}
 use Prim.Native.Nat.{ℕ, _≤_, _<_}
 use Rattle.runs.specs.Limits.{heaviestPlan}
 use Rattle.runs.specs.declared.Offender.{Offender}
@@ -21,11 +20,11 @@ use Rattle.meaning.specs.declared.BoundedReply.{BoundedReply}
 use Rattle.meaning.specs.declared.BoundedRan.{BoundedRan}
 use Rattle.meaning.specs.Card.{Bytes, weight}
 use Rattle.meaning.specs.Configurations.{stateOf}
-use Rattle.meaning.specs.Refusals.{answerNumber, configurationAnswer}
+use Rattle.meaning.specs.Refusals.{configurationAnswer}
 use Rattle.meaning.specs.Calls.{reply}
-use Rattle.meaning.specs.BoundedCalls.{asAnswer, asReply, asRan}
+use Rattle.meaning.specs.BoundedCalls.{asReply, asRan}
 use Rattle.demands.specs.Contracts.{Loads, Grades, Takes, Runs, Saves, BoundedTakes, BoundedRuns, Shaped}
-use Rattle.demands.specs.Demands.{doneOrCard, OnAccepted}
+use Rattle.demands.specs.Demands.{OnAccepted}
 use Rattle.demands.specs.TurnedScreen.{Turn, held, refusedRun}
 
 -- ---- where these calls are not refused with 22
@@ -74,9 +73,6 @@ pub record BoundedCalls : Type 0 where
   -- have neither
   pub take-has-answer : (b : Bytes) (c : Configuration) (n : ℕ) → (r : BoundedReply) × BoundedTakes b c n r
   pub run-has-answer : (b : Bytes) (c : Configuration) (budget : ℕ) → (r : BoundedRan) × BoundedRuns b c budget r
-  -- 01, "What the contracts settle": "the contract determines the answer"
-  pub take-one : (b : Bytes) (c : Configuration) (n : ℕ) (r r′ : BoundedReply) → BoundedTakes b c n r → BoundedTakes b c n r′ → r ≡ r′
-  pub run-one : (b : Bytes) (c : Configuration) (budget : ℕ) (r r′ : BoundedRan) → BoundedRuns b c budget r → BoundedRuns b c budget r′ → r ≡ r′
   -- 02, Wish 10: "22 the card is open or the plan too heavy": exactly then
   pub take-refused-exactly : (b : Bytes) (c : Configuration) (n : ℕ) (r : BoundedReply) → BoundedTakes b c n r
       → (r .answer ≡ BoundedAnswer.Refused BoundedRefusal.OpenOrHeavy) ↔ (OnAccepted b c × OpenOrHeavy b c)
@@ -91,16 +87,6 @@ pub record BoundedCalls : Type 0 where
   pub by-22 : (b : Bytes) (c : Configuration) → OnAccepted b c → OpenOrHeavy b c
       → ((n : ℕ) (r : BoundedReply) → BoundedTakes b c n r → asReply r ≡ reply (Refused Refusal.OpenOrHeavy) c)
       × ((budget : ℕ) (r : BoundedRan) → BoundedRuns b c budget r → asRan r ≡ refusedRun Refusal.OpenOrHeavy c)
-  -- 00, demand 1: "with an answer listed in document 01": 11 is not among them
-  pub take-listed : (b : Bytes) (c : Configuration) (n : ℕ) (r : BoundedReply) → BoundedTakes b c n r
-      → List·Memᴰ (answerNumber (asAnswer (r .answer))) (doneOrCard ++ (13 ∷ 22 ∷ 14 ∷ 15 ∷ 16 ∷ []))
-  pub run-listed : (b : Bytes) (c : Configuration) (budget : ℕ) (r : BoundedRan) → BoundedRuns b c budget r
-      → List·Memᴰ (answerNumber (asAnswer (r .answer))) (doneOrCard ++ (13 ∷ 22 ∷ []))
-  -- 00, demand 1: "A refusal hands back the configuration it was given"; 01: "Any count in a refusal is 0."
-  pub take-hands-back : (b : Bytes) (c : Configuration) (n : ℕ) (r : BoundedReply) → BoundedTakes b c n r
-      → (q : BoundedRefusal) → r .answer ≡ BoundedAnswer.Refused q → r .configuration ≡ c
-  pub run-hands-back : (b : Bytes) (c : Configuration) (budget : ℕ) (r : BoundedRan) → BoundedRuns b c budget r
-      → (q : BoundedRefusal) → r .answer ≡ BoundedAnswer.Refused q → (r .configuration ≡ c) × (r .count ≡ 0)
   -- after such a call the plan still weighs at most 1,024, and the same card is bounded: closed under both calls, done or refused
   pub take-again : (b : Bytes) (c : Configuration) → OnBounded b c → (n : ℕ) (r : BoundedReply) → BoundedTakes b c n r
       → OnBounded b (r .configuration)

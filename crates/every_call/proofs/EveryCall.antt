@@ -10,12 +10,13 @@ use Rattle.meaning.specs.declared.Next.{Next}
 use Rattle.meaning.specs.Card.{Bytes}
 use Rattle.meaning.specs.Refusals.{andThen, firstGiven, cardAnswer}
 use Rattle.meaning.specs.Calls.{roomFor, over}
+use Rattle.meaning.proofs.BoundedCalls.{as-reply-one, as-ran-one}
 use Rattle.meaning.proofs.Tables.{done≢refused, and-then-done}
 use Rattle.demands.specs.Contracts.{Nexts}
 use Rattle.demands.specs.Demands.{OnAccepted}
 use Rattle.demands.proofs.Demands.{demand-1, determined}
 use Rattle.demands.proofs.Telling.{next-laws}
-use Rattle.demands.proofs.BoundedCalls.{bounded-calls}
+use Rattle.demands.proofs.BoundedCalls.{word-among, run-listed, take-hands-back, run-hands-back}
 use Rattle.demands.proofs.Testing.{test-order}
 use Rattle.demands.proofs.AcceptedAgain.{again}
 use Rattle.demands.proofs.Striking.{struck}
@@ -34,15 +35,15 @@ pub every-call : EveryCall
 every-call = record {
   eight = demand-1;
   next-listed = next-laws .listed;
-  take-bounded-listed = bounded-calls .take-listed;
-  run-bounded-listed = bounded-calls .run-listed;
+  take-bounded-listed = λ b c n r w. word-among (r .answer);
+  run-bounded-listed = run-listed;
   go-on-listed = λ b p ns c budget lent r w. rw (go-on-answer b p ns c budget lent r w) (go-on-among b p ns c);
   name-listed = λ b q r w. rw (name-answer b q r w) (name-among b q);
   text-listed = text-among;
   print-listed = λ b n out left a count w. rw (w .answer) (print-among b n out);
   next-hands-back = λ b c r w q e. (next-laws .unchanged b c r w, next-laws .refused b c r w q e);
-  take-bounded-hands-back = bounded-calls .take-hands-back;
-  run-bounded-hands-back = bounded-calls .run-hands-back;
+  take-bounded-hands-back = take-hands-back;
+  run-bounded-hands-back = run-hands-back;
   go-on-hands-back = λ b p ns c budget lent r w. refusal-law b p ns c budget lent r w .hands-back;
   name-hands-back = name-refused;
   text-leaves = λ t out left a n w. read-law t out a n left w .nothing-written;
@@ -73,8 +74,8 @@ pub every-answer : EveryAnswer
 every-answer = record {
   eight = determined;
   next = next-laws .determined;
-  take-bounded = bounded-calls .take-one;
-  run-bounded = bounded-calls .run-one;
+  take-bounded = λ b c n r r′ w w′. as-reply-one (w ∙ sym w′);
+  run-bounded = λ b c budget r r′ w w′. as-ran-one (w ∙ sym w′);
   go-on = determined-law;
   name = λ b q r r′ e e′. e ∙ sym e′;
   text = read-determined;

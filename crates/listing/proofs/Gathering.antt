@@ -14,7 +14,8 @@ use Rattle.paper.specs.Next.{enabled}
 use Rattle.paper.specs.Atoms.{Atoms, _∈_}
 use Rattle.runs.specs.Order.{kind, number, code, numbers, ofKind, inTurn, keep, enabledCodes}
 use Rattle.runs.proofs.Order.{each-kind}
-use Rattle.runs.proofs.Listing.{keep-yes, keep-no}
+use Rattle.runs.proofs.Listing.{keep-yes, keep-no, keep-append}
+use Rattle.runs.proofs.Numbers.{numbers-both}
 use Rattle.meaning.specs.declared.Layout.{Layout}
 use Rattle.meaning.specs.declared.Configuration.{Configuration}
 use Rattle.meaning.specs.Card.{Bytes, agentFor}
@@ -39,19 +40,8 @@ module _ (t : ℕ → Bool) where
   passed k n e = keep-no t k (numbers (suc k) n) e
 
   pub codes-append : (k m n : ℕ) → codesOf t k (m + n) ≡ codesOf t k m ++ codesOf t (k + m) n
-  unfolding codesOf numbers
-  codes-append k zero n = ap₂ (codesOf t) (sym (add-zero k)) (zero-add n)
-  codes-append k (suc m) n = go (t k) refl (codes-append (suc k) m n)
-    where
-      e : suc m + n ≡ suc (m + n)
-      e = omega arith
-
-      f : suc k + m ≡ k + suc m
-      f = omega arith
-
-      go : (b : Bool) → t k ≡ b → codesOf t (suc k) (m + n) ≡ codesOf t (suc k) m ++ codesOf t (suc k + m) n → codesOf t k (suc m + n) ≡ codesOf t k (suc m) ++ codesOf t (k + suc m) n
-      go true h ih = rw (e, here k (m + n) h, here k m h, ih, f)
-      go false h ih = rw (e, passed k (m + n) h, passed k m h, ih, f)
+  unfolding codesOf
+  codes-append k m n = ap (keep t) (numbers-both k m n) ∙ keep-append t (numbers k m) (numbers (k + m) n)
 
   pub codes-none : (k n : ℕ) → ((i : ℕ) → i < n → t (k + i) ≡ false) → codesOf t k n ≡ []
   unfolding codesOf numbers
@@ -190,14 +180,6 @@ module _ (l : Layout) (b : Bytes) (c : Configuration) (kind : ℕ) where
       ∙ ap (λ x. codesOf (enabledCode l b c) x n) (add-zero (256 * kind))
       ∙ sym (codes-no (enabledCode l b c) (256 * kind) n (256 - n) (λ i g. (let q : 256 * kind + n + i ≡ 256 * kind + (n + i) = omega arith in ap (enabledCode l b c) q ∙ none-enabled (n + i) (omega arith) (omega arith))))
       ∙ ap (codesOf (enabledCode l b c) (256 * kind)) d
-
-keep-append : (t : Choice → Bool) (xs ys : List Choice) → keep t (xs ++ ys) ≡ keep t xs ++ keep t ys
-keep-append t [] ys = refl
-keep-append t (x ∷ xs) ys = go (t x) refl (keep-append t xs ys)
-  where
-    go : (b : Bool) → t x ≡ b → keep t (xs ++ ys) ≡ keep t xs ++ keep t ys → keep t (x ∷ (xs ++ ys)) ≡ keep t (x ∷ xs) ++ keep t ys
-    go true e ih = keep-yes t x (xs ++ ys) e ∙ ap (λ (r : List Choice). x ∷ r) ih ∙ ap (λ (r : List Choice). r ++ keep t ys) (sym (keep-yes t x xs e))
-    go false e ih = keep-no t x (xs ++ ys) e ∙ ih ∙ ap (λ (r : List Choice). r ++ keep t ys) (sym (keep-no t x xs e))
 
 codes-both : (t : Choice → Bool) (xs ys : List Choice) → map code (keep t (xs ++ ys)) ≡ map code (keep t xs) ++ map code (keep t ys)
 codes-both t xs ys = ap (map code) (keep-append t xs ys) ∙ map-append code (keep t xs) (keep t ys)

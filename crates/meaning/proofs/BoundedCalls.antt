@@ -149,10 +149,6 @@ pub configuration-word : (b : Bytes) (c : Configuration) → HasWord (configurat
 unfolding configurationAnswer configurationTable asAnswer asRefusal
 configuration-word b c = then-word (cardAnswer b) _ (card-word b) (table-word (configurationTable (layout b)) c ((BoundedAnswer.Refused BoundedRefusal.Configuration, refl), tt))
 
-pub bounded-word : (b : Bytes) (c : Configuration) → HasWord (boundedAnswer b c)
-unfolding boundedAnswer boundedTable asAnswer asRefusal
-bounded-word b c = then-word (configurationAnswer b c) _ (configuration-word b c) (table-word (boundedTable b) c ((BoundedAnswer.Refused BoundedRefusal.OpenOrHeavy, refl), tt))
-
 -- ---- what is refused before the call is made
 
 is-bounded : (v : Verdict) → isBounded v ≡ true → v ≡ Verdict.Bounded
@@ -215,3 +211,8 @@ module _ (b : Bytes) (c : Configuration) where
   pub bounded-runs-refused : (budget : ℕ) (q : Refusal) → boundedAnswer b c ≡ Refused q → boundedRuns b c budget ≡ record { answer = Refused q; count = 0; ending = Ending.Spent; configuration = c }
   unfolding boundedRuns
   bounded-runs-refused budget q e = rw (e, boundedRuns)
+
+-- a card or a configuration that is refused, and 22, have a word
+pub bounded-word : (b : Bytes) (c : Configuration) → HasWord (boundedAnswer b c)
+unfolding boundedAnswer boundedTable asAnswer asRefusal
+bounded-word b c = then-word (configurationAnswer b c) _ (configuration-word b c) (table-word (boundedTable b) c ((BoundedAnswer.Refused BoundedRefusal.OpenOrHeavy, refl), tt))

@@ -1,16 +1,17 @@
 -- How much the list looks at: the bound, what a selection rule more adds, and that with a plan no condition settles the number.
-use mathlib.Core.Path.{_≡_, refl, ap, ap₂, _∙_, sym}
+use mathlib.Core.Path.{_≡_, refl, ap, _∙_, sym}
 use mathlib.Core.Bool.{Bool, true, false}
 use mathlib.Core.List.{List, [], _∷_, map}
 use Prim.Native.Nat.{ℕ, zero, suc, _+_, _≤_}
-use native.Mathlib.Nat.{add-zero, zero-add, add-le-add}
+use native.Mathlib.Nat.{add-zero, add-le-add}
 use native.Mathlib.Omega.{arith}
-use lib.ListN.{length}
+use lib.ListN.{length, length-append}
 use Rattle.paper.specs.Language.{Selection, Agent, Config}
 use Rattle.paper.specs.Transitions.{_⊨_}
 use Rattle.paper.specs.Next.{if, isEmpty}
 use Rattle.runs.specs.Order.{numbers, keep}
-use Rattle.runs.proofs.Listing.{keep-yes, keep-no}
+use Rattle.runs.proofs.Listing.{keep-yes, keep-no, keep-append}
+use Rattle.runs.proofs.Numbers.{numbers-both}
 use Rattle.meaning.specs.Looking.{howMany, judgedSelecting, judgedOtherwise, conditionsJudged, goalsOpen, LookingLaws}
 
 module _ {X : Type 0} (t : X → Bool) where
@@ -39,22 +40,9 @@ many-made f t (x ∷ xs) = go (t (f x)) refl (many-made f t xs)
 
 -- ---- how many of the numbers from one on pass a test
 
-module _ (t : ℕ → Bool) where
-  pub many-both : (k m n : ℕ) → howMany t (numbers k (m + n)) ≡ howMany t (numbers k m) + howMany t (numbers (k + m) n)
-  unfolding numbers
-  many-both k zero n = ap₂ (λ x y. howMany t (numbers x y)) (sym (add-zero k)) (zero-add n) ∙ sym (zero-add (howMany t (numbers (k + 0) n)))
-  many-both k (suc m) n = go (t k) refl (many-both (suc k) m n)
-    where
-      e : suc m + n ≡ suc (m + n)
-      e = omega arith
-
-      f : suc k + m ≡ k + suc m
-      f = omega arith
-
-      go : (b : Bool) → t k ≡ b → howMany t (numbers (suc k) (m + n)) ≡ howMany t (numbers (suc k) m) + howMany t (numbers (suc k + m) n)
-          → howMany t (numbers k (suc m + n)) ≡ howMany t (numbers k (suc m)) + howMany t (numbers (k + suc m) n)
-      go true h ih = rw (e, many-yes t k (numbers (suc k) (m + n)) h, many-yes t k (numbers (suc k) m) h, sym f) (omega arith)
-      go false h ih = rw (e, many-no t k (numbers (suc k) (m + n)) h, many-no t k (numbers (suc k) m) h, sym f) ih
+pub many-both : (t : ℕ → Bool) (k m n : ℕ) → howMany t (numbers k (m + n)) ≡ howMany t (numbers k m) + howMany t (numbers (k + m) n)
+many-both t k m n =
+    ap (howMany t) (numbers-both k m n) ∙ ap length (keep-append t (numbers k m) (numbers (k + m) n)) ∙ length-append (keep t (numbers k m)) (keep t (numbers (k + m) n))
 
 pub many-same : (t u : ℕ → Bool) (k j n : ℕ) → ((i : ℕ) → t (k + i) ≡ u (j + i)) → howMany t (numbers k n) ≡ howMany u (numbers j n)
 unfolding numbers

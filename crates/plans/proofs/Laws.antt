@@ -7,7 +7,7 @@ use native.Mathlib.Nat.{sub-zero, zero-sub, suc-sub-suc, zero-add}
 use native.Mathlib.Decide.{decLt}
 use native.Mathlib.Omega.{arith}
 use borrow.Author.Tests.{eqb-true, eq-eqb}
-use lib.Bits.{bitOr, bitXor, and-le-l, and-le-r, or-add-and, xor-add-and, or-zero-l, xor-self}
+use lib.Bits.{bitOr, bitXor, and-le-l, and-le-r, xor-add-and, or-zero-l, xor-self}
 use lib.Dec.{eqb}
 use lib.ListN.{drop-of-length-le, length, getD, set, take, drop, replicate, length-append, length-take, length-drop, length-replicate, getD-replicate, List·getD-append, replicate-append-replicate}
 use lib.Seq.{getD-take, take-nil, set-at, append-snoc, take-suc, drop-cons, take-at, drop-at, length-take-le, paste, paste-suc, take-paste, drop-paste, length-paste, drop-drop}
@@ -18,6 +18,7 @@ use Rattle.meaning.specs.Configurations.{padded}
 use Rattle.meaning.specs.Refusals.{every}
 use Rattle.meaning.proofs.Every.{both-true, same-truth, every-at, every-of}
 use Rattle.meaning.proofs.Parts.{length-part, part-at}
+use Rattle.sets.proofs.Zeros.{or-zero}
 use Rattle.plans.specs.Plans.{Padded, shifted, same}
 
 -- ---- bytes that are copied over others
@@ -192,13 +193,6 @@ filled d b start n k d₁ e ld =
 -- ---- a head compared with a plan's front
 
 -- nothing has differed and two bytes do not, exactly if the bits in which anything differs are none
-or-zero : (a b : ℕ) → bitOr a b ≡ 0 → (a ≡ 0) × (b ≡ 0)
-or-zero a b e =
-    let s = or-add-and a b in
-    let l = and-le-l a b in
-    let r = and-le-r a b in
-    (omega arith, omega arith)
-
 xor-zero : (a b : ℕ) → bitXor a b ≡ 0 → a ≡ b
 xor-zero a b e =
     let s = xor-add-and a b in

@@ -23,6 +23,14 @@ module _ {X : Type 0} (t : X → Bool) where
   pub keep-no : (x : X) (xs : List X) → t x ≡ false → keep t (x ∷ xs) ≡ keep t xs
   keep-no x xs e = rw (e, keep)
 
+  pub keep-append : (xs ys : List X) → keep t (xs ++ ys) ≡ keep t xs ++ keep t ys
+  keep-append [] ys = refl
+  keep-append (x ∷ xs) ys = go (t x) refl (keep-append xs ys)
+    where
+      go : (b : Bool) → t x ≡ b → keep t (xs ++ ys) ≡ keep t xs ++ keep t ys → keep t (x ∷ (xs ++ ys)) ≡ keep t (x ∷ xs) ++ keep t ys
+      go true e ih = keep-yes x (xs ++ ys) e ∙ ap (λ (r : List X). x ∷ r) ih ∙ ap (λ (r : List X). r ++ keep t ys) (sym (keep-yes x xs e))
+      go false e ih = keep-no x (xs ++ ys) e ∙ ih ∙ ap (λ (r : List X). r ++ keep t ys) (sym (keep-no x xs e))
+
   kept : {x : X} (xs : List X) → List·Memᴰ x xs → t x ≡ true → List·Memᴰ x (keep t xs)
   kept [] i e = absurd (List·Memᴰ·not-nil i)
   kept {x} (y ∷ xs) i e = go (t y) refl (λ j. kept xs j e)

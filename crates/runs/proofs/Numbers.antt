@@ -1,9 +1,9 @@
 -- The numbers from k on: how many they are, and what is made of the i-th.
-use mathlib.Core.Path.{_≡_, refl, ap, _∙_, sym}
-use mathlib.Core.List.{_∷_, map}
+use mathlib.Core.Path.{_≡_, refl, ap, ap₂, _∙_, sym}
+use mathlib.Core.List.{_∷_, _++_, map}
 use mathlib.Core.Option.{Option, none, some}
 use Prim.Native.Nat.{ℕ, zero, suc, _+_, _-_, _≤_, _<_}
-use native.Mathlib.Nat.{add-zero, le-of-suc-le-suc, not-suc-le-zero}
+use native.Mathlib.Nat.{add-zero, zero-add, le-of-suc-le-suc, not-suc-le-zero}
 use native.Mathlib.Numerals.{add-one}
 use native.Mathlib.Omega.{arith}
 use lib.ListN.{length, getD, getElem?, length-map}
@@ -13,6 +13,15 @@ length-numbers : (k n : ℕ) → length (numbers k n) ≡ n
 unfolding numbers
 length-numbers k zero = refl
 length-numbers k (suc n) = ap suc (length-numbers (suc k) n)
+
+-- m of them and n more
+pub numbers-both : (k m n : ℕ) → numbers k (m + n) ≡ numbers k m ++ numbers (k + m) n
+unfolding numbers
+numbers-both k zero n = ap₂ numbers (sym (add-zero k)) (zero-add n)
+numbers-both k (suc m) n =
+    let e : suc m + n ≡ suc (m + n) = omega arith in
+    let f : suc k + m ≡ k + suc m = omega arith in
+    rw (e, numbers-both (suc k) m n, f)
 
 module _ {X : Type 0} (f : ℕ → X) where
   pub length-made : (k n : ℕ) → length (map f (numbers k n)) ≡ n

@@ -9,7 +9,8 @@ use lib.Dec.{eqb}
 use Rattle.paper.proofs.Relation.{both}
 use Rattle.meaning.proofs.Every.{both-true, same-truth}
 
-or-zero : (a b : ℕ) → bitOr a b ≡ 0 → (a ≡ 0) × (b ≡ 0)
+-- no bit is in either of two numbers whose bits together are none
+pub or-zero : (a b : ℕ) → bitOr a b ≡ 0 → (a ≡ 0) × (b ≡ 0)
 or-zero a b e =
     let s = or-add-and a b in
     let l = and-le-l a b in
