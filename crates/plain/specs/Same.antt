@@ -1,5 +1,5 @@
--- The plain engine answers as the first does (02, Wish 12: "It answers every load, choice, list and run exactly as the first engine
--- does, counts and refusals included"; proved in proofs/Same.antt). The contracts are those of `guide` and of `plain`, word by word.
+-- The plain engine answers as the first does: 02, Wish 12: "It answers every load, choice, list and run exactly as the first engine
+-- does, counts and refusals included" (proved in proofs/Same.antt). Both have these contracts: `guide` and `plain`, word by word.
 use mathlib.Core.Path.{_≡_}
 use mathlib.Core.List.{List}
 use Prim.Native.Nat.{ℕ}

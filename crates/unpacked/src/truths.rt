@@ -1,6 +1,6 @@
 // A set as one truth value an atom (02, Wish 12: "keeps beliefs and goals as one truth value an atom").
 ghost use mathlib.Core.Path.{_≡_};
-ghost use mathlib.Core.Bool.{true, false, not, _&&_, _||_};
+ghost use mathlib.Core.Bool.{false, not, _&&_, _||_};
 ghost use lib.ListN.{getD};
 ghost use Rattle.runs.specs.Order.{numbers};
 ghost use Rattle.meaning.specs.Looking.{howMany};
