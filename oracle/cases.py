@@ -37,14 +37,21 @@ ANSWER_NUMBERS = (*range(23), 25)
 CALLS_ON_CONFIGURATIONS = (drill.LIST, drill.TAKE, drill.RUN, drill.SAVE)
 
 # The calls of the requests from 10 on, of which the drill may not have all yet.
-LATER_CALLS = {drill.BOUNDED_TAKE: "bound take", drill.BOUNDED_RUN: "bound run"}
+LATER_CALLS = {
+    drill.BOUNDED_TAKE: "bound take",
+    drill.BOUNDED_RUN: "bound run",
+    drill.PLAIN_LOAD: "plain load",
+    drill.PLAIN_LIST: "plain list",
+    drill.PLAIN_TAKE: "plain take",
+    drill.PLAIN_RUN: "plain run",
+}
 CALL_NAMES += tuple(name for kind, name in LATER_CALLS.items() if kind in drill.ANSWERS)
 CALL_KINDS += tuple(kind for kind in LATER_CALLS if kind in drill.ANSWERS)
 
 
 class Case(NamedTuple):
     """A case: its name (which clause or shape), a card, and requests about it
-    (kinds 1 to 14, 21 and 22 of the drill). A text is read whatever the card is."""
+    (kinds 1 to 18, 21 and 22 of the drill). A text is read whatever the card is."""
 
     name: str
     card: bytes
@@ -77,7 +84,7 @@ def request_about(random, kind, configuration, value):
 
 
 def read_about(request):
-    """The kind, the configuration and the number of a request 4 to 7, 13 or 14."""
+    """The kind, the configuration and the number of a request 4 to 7, 13, 14 or 16 to 18."""
     reader = drill.Reader(request)
     return reader.byte(), reader.image(), reader.number()
 
@@ -87,6 +94,13 @@ def on_a_bounded_card(request):
     is no such call."""
     kind = {drill.TAKE: drill.BOUNDED_TAKE, drill.RUN: drill.BOUNDED_RUN}.get(request[0])
     return None if kind is None else bytes([kind]) + request[1:]
+
+
+def on_the_plain_engine(requests):
+    """15, 16, 17 and 18 "as 2, 4, 5, 6": the same requests of the plain engine's calls; those
+    that it has no call for are left out."""
+    asked = [request for request in requests if request[0] in drill.PLAIN]
+    return [bytes([drill.PLAIN[request[0]]]) + request[1:] for request in asked]
 
 
 def request_restore(place):
@@ -808,7 +822,7 @@ def weighed_configurations(random, accepted):
     return [held for held in found if held is not None]
 
 
-def bounded_requests_on(random, card, accepted, held):
+def takes_and_run(random, card, accepted, held):
     """Takes of enabled choices and of refused ones, and a run."""
     _, _, codes = guide.list_choices(card, held, 1024)
     made = take_requests(random, accepted, held, codes, 3)
@@ -835,7 +849,7 @@ def bounded_requests(random, card):
     made += full_requests(random, accepted) + closed_requests(random, accepted)
     made += emptying_requests(random, accepted) + believed_requests(random, accepted)
     for one in held:
-        made += bounded_requests_on(random, card, accepted, one)
+        made += takes_and_run(random, card, accepted, one)
     asked = [on_a_bounded_card(request) for request in made]
     return [request for request in asked if request is not None][:REQUEST_LIMIT]
 
@@ -927,6 +941,58 @@ def generate_lists(seed, count, largest=cards.CARD_LIMIT):
         yield lists_case(Random("%s list %d" % (seed, index)), items, largest)
 
 
+# --- cases of the plain engine ----------------------------------------------
+
+# How many configurations of a good card are asked about beside those of its case.
+HELD_BESIDE = 3
+
+
+def any_take(random, accepted, held):
+    """A take of any code: mostly of an entry, else of whatever number."""
+    codes = damage.choices(accepted) if random.random() < 0.75 else ()
+    code = random.choice(codes) if codes else random.randrange(65536)
+    return request_about(random, drill.TAKE, held, code)
+
+
+def requests_beside(random, card):
+    """A load, and from configurations with plans around the heads of a good card a list, takes
+    of listed codes, of refused ones and of any, and a run."""
+    _, accepted = guide.judge(card)
+    made = [request_plain(drill.LOAD)]
+    for _ in range(HELD_BESIDE):
+        held = listed.some_held(random, accepted)
+        made.append(list_request(random, card, held)[0])
+        made += takes_and_run(random, card, accepted, held)
+        made.append(any_take(random, accepted, held))
+    return made
+
+
+def plain_case(random, items, index, largest):
+    """A case of the plain engine's calls, in turn about a good card, first those with names; a
+    damaged one; one with many entries of one action; and a damaged one again. The requests
+    are those that the first engine is asked."""
+    if index % 2 == 1:
+        case = next_damaged_case(random, items, largest)
+    elif index % 4 == 2:
+        case = lists_case(random, items, largest)
+    elif index // 4 < len(NAMED_CARDS):
+        case = named_case(random, index // 4, largest)
+    else:
+        case = good_case(random, largest)
+    made = case.requests
+    if guide.check(case.card) == guide.DONE:
+        made = made + requests_beside(random, case.card)
+    return Case("plain: " + case.name, case.card, on_the_plain_engine(made))
+
+
+def generate_plain(seed, count, largest=cards.CARD_LIMIT):
+    """So many cases of the plain engine's calls, by seed: no card of more than `largest`
+    bytes."""
+    items = itertools.cycle(damage_order("%s plain" % seed))
+    for index in range(count):
+        yield plain_case(Random("%s plain %d" % (seed, index)), items, index, largest)
+
+
 # --- cases of names ---------------------------------------------------------
 
 # How many actions the cards of these cases have.
@@ -994,6 +1060,7 @@ def generate_names(seed, count, largest=cards.CARD_LIMIT):
 LATER_SORTS = (
     (10, "bounded", "cases of takes and runs on bounded cards", generate_bounded),
     (11, "lists", "cases of lists", generate_lists),
+    (12, "plain", "cases of the plain engine's calls", generate_plain),
 )
 LANDED_SORTS = tuple(sort for sort in LATER_SORTS if sort[0] in drill.LANDED)
 

@@ -17,12 +17,18 @@ import text
 # The requests of document 02 from 10 on that the drill of this tree has: "what the change
 # requests add, each from its landing on". What is not in this set is not answered, and no
 # case of it is made, stored or compared.
-LANDED = {10, 11}
+LANDED = {10, 11, 12}
 
 CARD, CHECK, LOAD, GRADE, LIST, TAKE, RUN, SAVE, RESTORE, TEXT, PRINT = range(11)
 DELIBERATE, NAME = 11, 12
 BOUNDED_TAKE, BOUNDED_RUN = 13, 14
+PLAIN_LOAD, PLAIN_LIST, PLAIN_TAKE, PLAIN_RUN = 15, 16, 17, 18
 GO_ON, NEXT = 21, 22
+
+# "15, 16, 17, 18 the plain engine's load, list, take, run": each by the request that it is
+# read and answered as, "as 2, 4, 5, 6". Only the drill has them: the C header and the module
+# for a page have no such calls.
+PLAIN = {LOAD: PLAIN_LOAD, LIST: PLAIN_LIST, TAKE: PLAIN_TAKE, RUN: PLAIN_RUN}
 
 IMAGE_LIMIT = 1024
 LIST_LIMIT = 1024
@@ -250,6 +256,7 @@ ANSWERS = {
 LATER_ANSWERS = {
     10: {BOUNDED_TAKE: answer_bounded_take, BOUNDED_RUN: answer_bounded_run},
     11: {},
+    12: {plain: ANSWERS[first] for first, plain in PLAIN.items()},
 }
 for landed in LANDED:
     ANSWERS.update(LATER_ANSWERS[landed])

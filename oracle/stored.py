@@ -4,6 +4,9 @@ writes against the second.
 
     python3 oracle/stored.py            # writes both files
     python3 oracle/stored.py --check    # says whether the files are just that
+    python3 oracle/stored.py --header REQUESTS ANSWERS
+                                        # the same, and writes to two other files what of both
+                                        # the C header has calls for
 
 Both files follow from a fixed seed and hold every clause of document 01's refusal
 table and of those of the requests 1, 2, 6, 8 and 9, every range just inside, the edges of
@@ -286,17 +289,21 @@ def long_plan_case(length, edition):
     return Case("a plan of %d actions" % length, STRIPES[edition], made)
 
 
+def full_case(index):
+    """Takes and runs of a growing card, after which the plan has 1,024 actions or would have
+    one more."""
+    random = random_of("full", index)
+    card = tempered_card(random, cards.temper_growing, in_turn(index))
+    return Case("full %d" % index, card, cases.full_requests(random, guide.judge(card)[1]))
+
+
 def long_plan_cases():
     """Plans of 1,022, 1,023 and 1,024 actions, and revisions of growing cards
     that leave exactly 1,024 and 1,025."""
     for length in (1022, 1023, 1024):
         yield long_plan_case(length, 1)
     yield long_plan_case(1024, 2)
-    for index in range(10):
-        random = random_of("full", index)
-        card = tempered_card(random, cards.temper_growing, in_turn(index))
-        made = cases.full_requests(random, guide.judge(card)[1])
-        yield Case("full %d" % index, card, made)
+    yield from map(full_case, range(10))
 
 
 # --- closed moves -----------------------------------------------------------
@@ -499,13 +506,18 @@ def budget_case(name, card):
     return Case(name, card, made)
 
 
+def tempered_budget_case(temper, index):
+    """Runs of a small card of some temper."""
+    name = "budgets, %s %d" % (temper.__name__, index)
+    return budget_case(name, tempered_card(random_of(name, "card"), temper, in_turn(index)))
+
+
 def budget_cases():
     """Budgets of 0 to 65,535 and runs that end spent, at rest and full."""
     yield budget_case("budgets, the stripe card", STRIPE)
     for temper, count in RUN_TEMPERS:
         for index in range(count):
-            name = "budgets, %s %d" % (temper.__name__, index)
-            yield budget_case(name, tempered_card(random_of(name, "card"), temper, in_turn(index)))
+            yield tempered_budget_case(temper, index)
 
 
 # --- verdicts ---------------------------------------------------------------
@@ -1144,10 +1156,141 @@ def list_cases():
     yield from seeded_lists()
 
 
+# --- the plain engine -------------------------------------------------------
+
+# Of the damages of one refusal the first of so many is asked about, and the last of all.
+DAMAGE_STEP = 12
+
+# Entries of the largest cards, which have 256 of each kind.
+SOME_ENTRIES = (0, 1, 7, 8, 63, 64, 127, 128, 254, 255)
+
+
+def plain(case):
+    """A case as the plain engine is asked it, each image with the least m."""
+    asked = cases.on_the_plain_engine(map(narrowed, case.requests))
+    return Case("plain: " + case.name, case.card, asked)
+
+
+def few(case, count):
+    """A case with so many of its short requests at most, from the first one to the end."""
+    short = [request for request in case.requests if len(narrowed(request)) <= SHORT_REQUEST]
+    step = max(1, (len(short) + count - 1) // count)
+    return case._replace(requests=short[::step])
+
+
+def plain_named():
+    """The named cards but for the largest ones, and the card of no bytes."""
+    yield plain(no_card_case("a card of no bytes"))
+    for case in named_cases():
+        if len(case.card) <= LONG_CARD:
+            yield few(plain(case), 18)
+
+
+def largest_case(edition):
+    """The largest card of an edition: loaded and run, the 256 selections listed in just the
+    room and in one less, and entries from the first to the last taken, with the sets that
+    they add and delete and the plans that they leave, up to 1,024 actions and one more."""
+    name, atoms = "the largest card of edition %d" % edition, range(cards.most_atoms(edition))
+    card, random = cards.card(cards.maximal_card(edition)), random_of(name)
+    empty = closed.configuration((), atoms)
+    asked = [(drill.LIST, empty, room) for room in (256, 255, 0)]
+    asked += [(drill.TAKE, empty, n) for n in (0, 128, 255)]
+    for n in SOME_ENTRIES:
+        asked.append((drill.TAKE, closed.configuration(atoms, atoms, (n,)), 256 + n))
+        asked.append((drill.TAKE, closed.configuration((), atoms, (n,), 2, 7), 256 + n))
+        asked.append((drill.TAKE, closed.configuration((), (), (7 * n % 256, 3)), 512 + n))
+    for n, length in ((1, 1024), (64, 961), (64, 962), (255, 771)):
+        plan = bytes([7 * n % 256]) + bytes(k % 256 for k in range(1, length))
+        asked.append((drill.TAKE, closed.configuration((), (), plan), 512 + n))
+    asked += [(drill.RUN, empty, budget) for budget in (0, 1, 2, 1000, 65535)]
+    made = [cases.request_about(random, kind, held, value) for kind, held, value in asked]
+    return plain(Case(name, card, [cases.request_plain(drill.LOAD)] + made))
+
+
+def plain_damaged():
+    """Some clauses of each of the refusals 1 to 9, in cards of either edition, with each
+    call."""
+    for number in range(1, 10):
+        some = damage.damages_of(number)
+        for turn, one in enumerate(some[::DAMAGE_STEP] + some[-1:]):
+            case = damaged_case(one.name, (one,), in_turn(turn))
+            if len(case.card) <= LONG_CARD:
+                yield plain(case)
+
+
+def plain_configurations(edition):
+    """Each clause of 13 and each range just inside, and atoms in any byte of a set that the
+    card of an edition has not, with a list, a take and a run in turn."""
+    name = "configurations of edition %d" % edition
+    random, calls = random_of("plain", name), (drill.LIST, drill.TAKE, drill.RUN)
+    card = cards.card(cards.in_edition(cards.roomy_card(random, SMALL[1], 1), edition))
+    _, accepted = guide.judge(card)
+    held = short_configuration(random, accepted)
+    changes = damage.CONFIGURATION_DAMAGES + damage.CONFIGURATION_RANGES
+    changed = [one.change(random, accepted, held) for one in changes]
+    for name_of_set, atom in itertools.product(("beliefs", "goals"), SET_ATOMS + WIDE_ATOMS):
+        wrong = damage.with_atom(getattr(held, name_of_set), atom)
+        changed.append(held._replace(**{name_of_set: wrong}))
+    made = [
+        cases.call_of_kind(random, calls[(turn + edition) % 3], one)
+        for turn, one in enumerate(changed)
+        if one is not None
+    ]
+    return plain(Case(name, card, made))
+
+
+def plain_closed():
+    """The closed moves by hand, all those about one card together; and of the conditions card
+    every second node under each set of beliefs."""
+    for card, some in itertools.groupby(sorted(closed.ALL, key=card_of), key=card_of):
+        random = random_of("plain closed", card)
+        made = [cases.request_about(random, drill.TAKE, one.held, one.choice) for one in some]
+        yield plain(Case("closed", card, made))
+    case = every_condition_case()
+    yield plain(case._replace(requests=case.requests[::2]))
+
+
+def plain_by_hand():
+    """Struck goals, finished counts and lists by hand, of some sorts each second or third."""
+    actions, others = struck_takes()
+    yield plain(actions._replace(requests=actions.requests[::3]))
+    yield plain(others)
+    yield from map(plain, struck_loads())
+    yield plain(struck_runs())
+    for case in finished_runs():
+        yield plain(case._replace(requests=case.requests[::2]))
+    yield from map(plain, lists_by_hand())
+
+
+def plain_edges():
+    """Plans of 1,022 to 1,024 actions and those that get so long, rooms around the number
+    needed, and budgets from 0 to 65,535."""
+    for length, edition in ((1022, 2), (1023, 1), (1024, 2)):
+        yield plain(long_plan_case(length, edition))
+    yield from map(plain, map(full_case, range(2)))
+    yield from map(plain, itertools.islice(room_cases(), 5))
+    for turn, (temper, _) in enumerate(RUN_TEMPERS):
+        yield plain(tempered_budget_case(temper, turn % 2))
+
+
+def plain_cases():
+    """Request 12: the plain engine's load, list, take and run, asked much of what the first
+    engine is asked above, and others by seed."""
+    yield from plain_named()
+    yield from map(largest_case, cards.EDITIONS)
+    yield from plain_damaged()
+    yield from map(plain_configurations, cards.EDITIONS)
+    yield from plain_closed()
+    yield from plain_by_hand()
+    yield from plain_edges()
+    for case in cases.generate_plain(SEED, 32, 480):
+        yield few(case, 8)
+
+
 # --- all --------------------------------------------------------------------
 
 # What the requests of document 02 from 10 on add, by their number.
-LATER_CASES = {10: bounded_cases, 11: list_cases}
+LATER_CASES = {10: bounded_cases, 11: list_cases, 12: plain_cases}
 
 
 def later_cases():
@@ -1176,8 +1319,9 @@ def narrowed(request):
         return first + drill.image(held) + drill.two(budget)
     if request[0] == drill.NEXT:
         return request[:1] + drill.image(cases.read_next(request))
-    bounded = drill.BOUNDED_TAKE, drill.BOUNDED_RUN
-    if request[0] not in cases.CALLS_ON_CONFIGURATIONS + bounded:
+    later = drill.BOUNDED_TAKE, drill.BOUNDED_RUN
+    later += drill.PLAIN_LIST, drill.PLAIN_TAKE, drill.PLAIN_RUN
+    if request[0] not in cases.CALLS_ON_CONFIGURATIONS + later:
         return request
     kind, held, value = cases.read_about(request)
     return bytes([kind]) + drill.image(held) + drill.two(value)
@@ -1221,13 +1365,24 @@ def stored_cases():
         yield case
 
 
-def make_files():
-    """The bytes of both files, and how often each number was met for each call.
-    "At first the card of no bytes": the first case has no request 0."""
+def header_part(some):
+    """Of some cases what the C header has calls for: all but the plain engine's, which it does
+    not have, and so neither has the module for a page."""
+    for case in some:
+        asked = [one for one in case.requests if one[0] not in drill.PLAIN.values()]
+        if asked:
+            yield case._replace(requests=asked)
+
+
+def make_files(made=None, names=(REQUESTS, ANSWERS)):
+    """The bytes of both files, and how often each number was met for each call; of all that is
+    stored or of some of its cases, under other names too. "At first the card of no bytes":
+    the first case has no request 0."""
     requests, answers = io.BytesIO(), io.BytesIO()
-    met = cases.count_answers(stored_cases(), requests, answers)
+    made = stored_cases() if made is None else made
+    met = cases.count_answers(made, requests, answers)
     before = len(cases.request_card(b""))
-    return {REQUESTS: requests.getvalue()[before:], ANSWERS: answers.getvalue()}, met
+    return dict(zip(names, (requests.getvalue()[before:], answers.getvalue()))), met
 
 
 def read(name):
@@ -1252,12 +1407,20 @@ def differing(files):
 
 
 def main():
-    """Writes both files or checks them, and prints the table."""
+    """Writes both files or checks them, and prints the table: that of the header's requests,
+    where these are written."""
     parser = argparse.ArgumentParser(description="the stored requests of crates/drill and their answers")
     parser.add_argument("--check", action="store_true", help="write nothing; say whether the files are just that")
+    parser.add_argument(
+        "--header",
+        nargs=2,
+        metavar=("REQUESTS", "ANSWERS"),
+        help="check, and write to these two files what the C header has calls for",
+    )
     asked = parser.parse_args()
-    files, met = make_files()
-    if not asked.check:
+    made = list(stored_cases())
+    files, met = make_files(made)
+    if not asked.check and not asked.header:
         write(files)
     wrong = differing(files)
     if wrong:
@@ -1268,6 +1431,9 @@ def main():
         )
     for name, content in files.items():
         print("%s is what oracle/stored.py makes: %d bytes" % (name, len(content)))
+    if asked.header:
+        files, met = make_files(header_part(made), map(os.path.abspath, asked.header))
+        write(files)
     print(cases.table(met))
 
 

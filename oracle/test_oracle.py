@@ -5,7 +5,7 @@ the stored requests hold. Those of request 2 are in `test_text.py`, those of req
 `test_deliberation.py`, those of going on in `test_going_on.py`, those of the next move in
 `test_next.py`, those of request 8 in `test_names.py`, those of request 9 in
 `test_editions.py`, those of request 10 in `test_bounded.py`, those of request 11 in
-`test_listed.py`; they run with these."""
+`test_listed.py`, those of request 12 in `test_plain.py`; they run with these."""
 
 import itertools
 import time
@@ -37,6 +37,7 @@ import test_going_on
 import test_listed
 import test_names
 import test_next
+import test_plain
 import test_text
 import text
 import texts
@@ -783,6 +784,10 @@ class Stored(unittest.TestCase):
         "next": set(range(10)) | {13},
         "bound take": set(range(10)) | {13, 14, 15, 16, 22},
         "bound run": set(range(10)) | {13, 22},
+        "plain load": set(range(10)),
+        "plain list": set(range(10)) | {12, 13},
+        "plain take": set(range(10)) | {11, 13, 14, 15, 16},
+        "plain run": set(range(10)) | {13},
     }
 
     @classmethod
@@ -818,6 +823,21 @@ class Stored(unittest.TestCase):
     def test_one_stream(self):
         """The drill's answers to the one file are the other."""
         self.assertEqual(drill.answers(self.files[stored.REQUESTS]), self.files[stored.ANSWERS])
+
+    def test_header(self):
+        """For the C header just the plain engine's requests are left out, with their answers;
+        as they stand behind all others, what is left is the first bytes of both files."""
+        kept = list(stored.header_part(self.cases))
+        asked = [request for case in kept for request in case.requests]
+        others = [one for _, one, _ in self.answered if one[0] not in range(15, 19)]
+        self.assertEqual(asked, others)
+        files, met = stored.make_files(kept, ("requests", "answers"))
+        self.assertEqual(sum(map(sum, met)), len(others))
+        self.assertTrue(self.files[stored.REQUESTS].startswith(files["requests"]))
+        self.assertTrue(self.files[stored.ANSWERS].startswith(files["answers"]))
+        rest = self.files[stored.REQUESTS][len(files["requests"]):]
+        last = self.files[stored.ANSWERS][len(files["answers"]):]
+        self.assertEqual(drill.answers(rest), last)
 
     def test_before_any_card(self):
         """The first eight requests are the eight calls, and no request 0."""
@@ -1359,6 +1379,27 @@ class DrillBytes(unittest.TestCase):
         found = drill.answers(card + taken + b"\x00\x03" + run + b"\0\0")
         self.assertEqual(found, b"\x16\0\0\0" + self.LOADED + b"\x16\0" + self.LOADED + bytes(3))
 
+    @unittest.skipUnless(12 in drill.LANDED, "the drill has no request 12 yet")
+    def test_plain(self):
+        """15 to 18 on the stripe card: the load; the list 0 alone in a room of 2, and in no
+        room; selection 0 and a code that is none; P6; four steps; and a phase of 3."""
+        listing, taken, run = b"\x10" + self.LOADED, b"\x11" + self.LOADED, b"\x12" + self.LOADED
+        self.assertEqual(self.answers(b"\x0f"), b"\0\0" + self.LOADED)
+        self.assertEqual(drill.answers(b"\x0f"), b"\x01\0" + bytes(71))
+        found = self.answers(listing + b"\x02\0", listing + b"\0\0")
+        expected = "0000 0100 0200 0100 0000 EEEE 0C00 0000 0000 0000"
+        self.assertEqual(found, bytes.fromhex(expected))
+        after = self.LOADED[:64] + bytes([1, 0, 1, 0, 0, 1, 0, 4])
+        found = self.answers(taken + b"\0\0", taken + b"\0\x03")
+        self.assertEqual(found, b"\0\0\0\0" + after + b"\x0e\0\0\0" + self.LOADED)
+        held = bytes(64) + bytes([1, 0, 0, 9, 8, 1, 0, 3])
+        self.assertEqual(self.answers(b"\x11" + held + b"\x01\x02"), b"\x10\0\x02\0" + held)
+        fourth = b"\x0b" + bytes(31) + b"\x04" + bytes(31) + bytes([2, 0, 0, 0, 0, 1, 0, 2])
+        self.assertEqual(self.answers(run + b"\x04\0"), b"\0\0" + fourth + b"\x04\0\0")
+        wrong = self.LOADED[:66] + b"\x03" + self.LOADED[67:]
+        found = self.answers(b"\x12" + wrong + b"\x01\0")
+        self.assertEqual(found, b"\x0d\0" + wrong + bytes(3))
+
     def test_name(self):
         """The stripe card's third move in two languages, of which the shed's has none;
         its second, which it has; an unknown one; and a shed's sheet of one byte."""
@@ -1386,12 +1427,15 @@ class DrillBytes(unittest.TestCase):
             b"\x15\0\0\x01\x02" + bytes(513) + image + b"\0\0",
             b"\x16" + image[:-2] + b"\x01\x04" + bytes(1025),
             b"\x0d" + image[:-2] + b"\x01\x04" + bytes(1025) + b"\0\0",
-            b"\x0f" + image + b"\0\0",
+            b"\x10" + image + b"\x01\x04",
+            b"\x11" + image[:-2] + b"\x01\x04" + bytes(1025) + b"\0\0",
+            b"\x13" + image + b"\0\0\0\0",
             b"\x14" + image,
             b"\x17\0\0",
         ]
         later = {
             10: [b"\x0d" + image + b"\0\0", b"\x0e" + image + b"\0\0"],
+            12: [b"\x0f"] + [bytes([kind]) + image + b"\0\0" for kind in (16, 17, 18)],
         }
         for number, requests in later.items():
             broken += [] if number in drill.LANDED else requests
@@ -1407,10 +1451,10 @@ class DrillBytes(unittest.TestCase):
 
 
 def load_tests(loader, tests, pattern):
-    """The tests of this file, and those of the requests 2, 6 and 8 to 11, of going on and of
+    """The tests of this file, and those of the requests 2, 6 and 8 to 12, of going on and of
     the next move."""
     modules = [test_text, test_deliberation, test_going_on, test_next, test_names, test_editions]
-    modules += [test_bounded, test_listed]
+    modules += [test_bounded, test_listed, test_plain]
     for module in modules:
         tests.addTests(loader.loadTestsFromModule(module))
     return tests

@@ -68,7 +68,8 @@ try tests/tablets.sh --seed "$seed" --cases $((cases / 10)) --texts $((cases / 4
     --lists $((cases / 1000))
 try python3 tests/definitions.py --seed "$seed" --cards 100
 try python3 tests/compare.py --seed "$seed" --cases "$cases" --texts $((cases / 20)) --programs $((cases / 20)) \
-    --names $((cases / 20)) --cuts $((cases / 20)) --next $((cases / 20)) --bounded $((cases / 200)) --lists $((cases / 200))
+    --names $((cases / 20)) --cuts $((cases / 20)) --next $((cases / 20)) --bounded $((cases / 200)) --lists $((cases / 200)) \
+    --plain $((cases / 200))
 try python3 tests/every_place.py
 printf '%d passed, %d failed\n' "$passed" "$failed"
 [ "$failed" -eq 0 ]

@@ -11,8 +11,9 @@ once to three times, and gone on with, each with the same deliberation in one be
 wrong ones; with --next so many next moves are asked for, each with a run with budget 1 beside it. The oracle's parts of a deliberation
 have to be its one deliberation, and its next moves what its runs make, or nothing is compared. With --bounded so many cases of takes and
 runs on bounded cards are added, about forty about a good card and four about a damaged one; with --lists so many cases of lists, twelve
-about a good card and three about a damaged one. A sort of cases whose request of document 02 is not in drill.LANDED of oracle/ has no
-option here.
+about a good card and three about a damaged one. With --plain so many cases of the plain engine's loads, lists, takes and runs are added,
+thirty to seventy about a good card and four about a damaged one: these are for the drill alone, as neither the header nor the module for
+a page has such calls. A sort of cases whose request of document 02 is not in drill.LANDED of oracle/ has no option here.
 
 The cases and the answers to them come from oracle/ by the seed. Each request goes through target/bin/drill, and the answer is compared
 byte for byte; each card that the program of document 01 can read whole goes through target/bin/rigtemple too, and the lines are compared

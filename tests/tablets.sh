@@ -149,6 +149,12 @@ expect 'nothing is left then' test ! -e "$house/target/tablets"
 count 'changes of the module that are refused' \
     python3 -B "$tests/neutral_edits.py" "$room/module.ll" "$folder/rigtemple.h"
 
+# ---- the stored requests
+
+# Those of crates/drill, but for the plain engine's, which header and module have no calls for.
+python3 -B "$root/oracle/stored.py" --header "$room/requests" "$room/answers" >"$room/said" 2>&1 ||
+    { cat "$room/said" >&2; die 'the stored requests are others'; }
+
 # ---- 64-bit Arm
 
 arm=$folder/aarch64/librigtemple.a
@@ -166,7 +172,7 @@ run_arm() { # PROGRAM ARGUMENT...
 }
 
 build_arm arm_drill "$tests/header_drill.c"
-stored_arm() { run_arm arm_drill <"$root/crates/drill/stdin" | cmp - "$root/crates/drill/stdout"; }
+stored_arm() { run_arm arm_drill <"$room/requests" | cmp - "$room/answers"; }
 expect 'the stored requests on 64-bit Arm' stored_arm
 for program in eight_calls edition_calls next_calls bounded_calls text_calls deliberate_calls name_calls; do
     build_arm "$program" "$tests/$program.c" "$tests/cards.c" "$tests/programs.c" "$tests/sheets.c"
@@ -175,18 +181,18 @@ done
 
 # A list that runs over by one entry ends the drill.
 build_arm arm_overrun -Wl,--wrap=rigtemple_4_list_looks_parts "$tests/header_drill.c" "$tests/overrun.c"
-overrun() { ended=0; run_arm arm_overrun <"$root/crates/drill/stdin" || ended=$?; [ "$ended" -eq 3 ]; }
+overrun() { ended=0; run_arm arm_overrun <"$room/requests" || ended=$?; [ "$ended" -eq 3 ]; }
 expect 'a guard byte that is written is seen' overrun
 
 # Reading one number more than are given faults there (signal 11).
 build_arm arm_overread -Wl,--wrap=rigtemple_4_go_on_parts "$tests/header_drill.c" "$tests/overread.c"
-overread() { ended=0; run_arm arm_overread <"$root/crates/drill/stdin" || ended=$?; [ "$ended" -eq 139 ]; }
+overread() { ended=0; run_arm arm_overread <"$room/requests" || ended=$?; [ "$ended" -eq 139 ]; }
 expect 'a byte that is read past the numbers is seen' overread
 
 # ---- WebAssembly
 
 page_drill() { node "$tests/page_drill.mjs" "$folder" "$@"; }
-stored_page() { page_drill <"$root/crates/drill/stdin" | cmp - "$root/crates/drill/stdout"; }
+stored_page() { page_drill <"$room/requests" | cmp - "$room/answers"; }
 expect 'the stored requests in a page' stored_page
 count 'the JavaScript module' node "$tests/page.mjs" "$folder"
 typed() {
@@ -214,7 +220,7 @@ stack_arm() {
     run_arm stack >"$room/arm.stack"
 }
 stack_page() {
-    page_drill --stack <"$root/crates/drill/stdin" >"$room/page.functions"
+    page_drill --stack <"$room/requests" >"$room/page.functions"
     sed 's/^rigtemple_4_\(.*\)_parts /\1 /; s/^list_looks /list /' "$room/page.functions" >"$room/page.stack"
 }
 # Each call within its bound, and with what is lent within 65,536 bytes. The list is measured as

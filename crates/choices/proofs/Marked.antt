@@ -16,16 +16,20 @@ use Rattle.meaning.specs.Card.{Bytes, plan, specificationAt, selectionAt, revis
 use Rattle.meaning.specs.Configurations.{stateOf}
 use Rattle.meaning.specs.Refusals.{other}
 use Rattle.card.specs.GoodCard.{GoodCondition}
+use Rattle.door.specs.Ready.{Ready}
 use Rattle.door.specs.Asking.{judging, both, isThere, frontFits, conditionsOf, askedBy, asked}
 use Rattle.door.proofs.Asking.{isEnabled, asked-is, empty-exactly, first-exactly}
+use Rattle.choices.specs.OnePass.{kept}
 use Rattle.choices.specs.Judged.{markAt, Judged}
 use Rattle.choices.proofs.OnePass.{one-pass-of}
 
-module _ (l : Layout) (b : Bytes) (c : Configuration) (marks : List ℕ) (j : Judged l b c marks) where
-  -- a mark has what the tree of its condition has
-  pub marked : (L : Letter) (x : ℕ) → GoodCondition l b (other L) x → markAt marks x ≡ judging L l b (stateOf c .mental) x
+-- of an accepted card and configuration, by whatever tells of each node what the pass keeps of it
+module _ (l : Layout) (b : Bytes) (c : Configuration) (mark : ℕ → Bool × ℕ) (ready : Ready l b c)
+    (keeps : (n : ℕ) → n < l .nodes .count → mark n ≡ getD (kept l b (c .mind .beliefs) (c .mind .goals)) n (false, 0)) where
+  -- it has what the tree of a condition has
+  pub tells : (L : Letter) (x : ℕ) → GoodCondition l b (other L) x → mark x ≡ judging L l b (stateOf c .mental) x
   unfolding stateOf
-  marked L x k = j .marked x (k .known) ∙ one-pass-of L l b (j .ready .card .nodes) (stateOf c .mental) x k .keeps
+  tells L x k = keeps x (k .known) ∙ one-pass-of L l b (ready .card .nodes) (stateOf c .mental) x k .keeps
 
   -- of a choice that the card has
   asks : (k : Choice) (front : Bool) (p : Bool × ℕ) → isThere l k ≡ true → front ≡ frontFits l b (stateOf c .mental) k → p ≡ conditionsOf l b (stateOf c .mental) k
@@ -41,26 +45,30 @@ module _ (l : Layout) (b : Bytes) (c : Configuration) (marks : List ℕ) (j : Ju
     n = c .mind .length
 
     pub asks-selection : i < l .selections .count
-        → askedBy true (eqb n 0) (both (markAt marks (selectionAt l b i .belief)) (markAt marks (selectionAt l b i .goal))) ≡ asked l b (stateOf c .mental) (select i)
+        → askedBy true (eqb n 0) (both (mark (selectionAt l b i .belief)) (mark (selectionAt l b i .goal))) ≡ asked l b (stateOf c .mental) (select i)
     unfolding stateOf
     asks-selection h =
-        let r = j .ready .card .selections i h in
+        let r = ready .card .selections i h in
         asks (select i) _ _ (lt-ltb i (l .selections .count) h)
-        (sym (empty-exactly d n (let x = j .ready .fits in let y = j .ready .room in omega arith)))
-        (ap₂ both (marked 𝐁 _ (r .belief)) (marked 𝐆 _ (r .goal)))
+        (sym (empty-exactly d n (let x = ready .fits in let y = ready .room in omega arith)))
+        (ap₂ both (tells 𝐁 _ (r .belief)) (tells 𝐆 _ (r .goal)))
 
     pub asks-specification : i < l .specifications .count
-        → askedBy true (not (eqb n 0) && eqb (specificationAt l b i .action) (getD d 0 0)) (markAt marks (specificationAt l b i .node)) ≡ asked l b (stateOf c .mental) (act i)
+        → askedBy true (not (eqb n 0) && eqb (specificationAt l b i .action) (getD d 0 0)) (mark (specificationAt l b i .node)) ≡ asked l b (stateOf c .mental) (act i)
     unfolding stateOf
     asks-specification h =
         asks (act i) _ _ (lt-ltb i (l .specifications .count) h)
-        (sym (first-exactly (specificationAt l b i .action) d n (let y = j .ready .room in omega arith)))
-        (marked 𝐁 _ (j .ready .card .specifications i h .belief))
+        (sym (first-exactly (specificationAt l b i .action) d n (let y = ready .room in omega arith)))
+        (tells 𝐁 _ (ready .card .specifications i h .belief))
 
     pub asks-revision : i < l .revisions .count
-        → askedBy true (isPrefix (plan l b (revisionAt l b i .head)) (take n d)) (markAt marks (revisionAt l b i .node)) ≡ asked l b (stateOf c .mental) (revise i)
+        → askedBy true (isPrefix (plan l b (revisionAt l b i .head)) (take n d)) (mark (revisionAt l b i .node)) ≡ asked l b (stateOf c .mental) (revise i)
     unfolding stateOf
-    asks-revision h = asks (revise i) _ _ (lt-ltb i (l .revisions .count) h) refl (marked 𝐁 _ (j .ready .card .revisions i h .belief))
+    asks-revision h = asks (revise i) _ _ (lt-ltb i (l .revisions .count) h) refl (tells 𝐁 _ (ready .card .revisions i h .belief))
+
+-- a mark has what the tree of its condition has
+pub marked : (l : Layout) (b : Bytes) (c : Configuration) (marks : List ℕ) → Judged l b c marks → (L : Letter) (x : ℕ) → GoodCondition l b (other L) x → markAt marks x ≡ judging L l b (stateOf c .mental) x
+marked l b c marks j = tells l b c (markAt marks) (j .ready) (j .marked)
 
 -- a choice of the card is enabled if its front fits and its conditions hold
 module _ (l : Layout) (b : Bytes) (s : Config) (k : Choice) (front : Bool) (p : Bool × ℕ) (e : askedBy true front p ≡ asked l b s k) where
@@ -118,27 +126,27 @@ module _ (l : Layout) (b : Bytes) (c : Configuration) (marks : List ℕ) (j : Ju
     holding = both (markAt marks (selectionAt l b i .belief)) (markAt marks (selectionAt l b i .goal))
 
     pub selection-shut : eqb (c .mind .length) 0 ≡ false → false ≡ now-enabled (select i)
-    selection-shut = no-front l b (stateOf c .mental) (select i) (eqb (c .mind .length) 0) holding (asks-selection l b c marks j i h)
+    selection-shut = no-front l b (stateOf c .mental) (select i) (eqb (c .mind .length) 0) holding (asks-selection l b c (markAt marks) (j .ready) (j .marked) i h)
 
     pub selection-by : eqb (c .mind .length) 0 ≡ true → holding .0 ≡ now-enabled (select i)
-    selection-by = fitting l b (stateOf c .mental) (select i) (eqb (c .mind .length) 0) holding (asks-selection l b c marks j i h)
+    selection-by = fitting l b (stateOf c .mental) (select i) (eqb (c .mind .length) 0) holding (asks-selection l b c (markAt marks) (j .ready) (j .marked) i h)
 
   module _ (h : i < l .specifications .count) where
     abbrev own : Bool
     own = eqb (specificationAt l b i .action) (getD (c .plan) 0 0)
 
     pub specification-shut : own ≡ false → false ≡ now-enabled (act i)
-    specification-shut = other-action l b (stateOf c .mental) (act i) (not (eqb (c .mind .length) 0)) own (markAt marks (specificationAt l b i .node)) (asks-specification l b c marks j i h)
+    specification-shut = other-action l b (stateOf c .mental) (act i) (not (eqb (c .mind .length) 0)) own (markAt marks (specificationAt l b i .node)) (asks-specification l b c (markAt marks) (j .ready) (j .marked) i h)
 
     pub specification-by : own ≡ true → (not (eqb (c .mind .length) 0) && markAt marks (specificationAt l b i .node) .0) ≡ now-enabled (act i)
-    specification-by = same-action l b (stateOf c .mental) (act i) (not (eqb (c .mind .length) 0)) own (markAt marks (specificationAt l b i .node)) (asks-specification l b c marks j i h)
+    specification-by = same-action l b (stateOf c .mental) (act i) (not (eqb (c .mind .length) 0)) own (markAt marks (specificationAt l b i .node)) (asks-specification l b c (markAt marks) (j .ready) (j .marked) i h)
 
   module _ (h : i < l .revisions .count) where
     abbrev starting : Bool
     starting = isPrefix (plan l b (revisionAt l b i .head)) (take (c .mind .length) (c .plan))
 
     pub revision-shut : markAt marks (revisionAt l b i .node) .0 ≡ false → false ≡ now-enabled (revise i)
-    revision-shut = not-held l b (stateOf c .mental) (revise i) starting (markAt marks (revisionAt l b i .node)) (asks-revision l b c marks j i h)
+    revision-shut = not-held l b (stateOf c .mental) (revise i) starting (markAt marks (revisionAt l b i .node)) (asks-revision l b c (markAt marks) (j .ready) (j .marked) i h)
 
     pub revision-by : markAt marks (revisionAt l b i .node) .0 ≡ true → starting ≡ now-enabled (revise i)
-    revision-by = held l b (stateOf c .mental) (revise i) starting (markAt marks (revisionAt l b i .node)) (asks-revision l b c marks j i h)
+    revision-by = held l b (stateOf c .mental) (revise i) starting (markAt marks (revisionAt l b i .node)) (asks-revision l b c (markAt marks) (j .ready) (j .marked) i h)

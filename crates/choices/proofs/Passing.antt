@@ -7,11 +7,11 @@ use native.Mathlib.Omega.{arith}
 use borrow.Author.Count.{below-more}
 use lib.Dec.{leb}
 use borrow.Author.Tests.{le-leb, lt-leb}
-use lib.ListN.{length, set}
+use lib.ListN.{length, getD, set}
 use lib.Seq.{getD-set-same, getD-set-other}
 use Rattle.paper.specs.Next.{if}
 use Rattle.door.specs.Asking.{both}
-use Rattle.choices.specs.Judged.{ofMark, markAt, either}
+use Rattle.choices.specs.Judged.{ofMark, either}
 
 module _ (v : Bool) (n : ℕ) (h : n < 256) where
   pub tells-true : v ≡ true → ofMark (256 + n) ≡ (v, n)
@@ -46,8 +46,9 @@ module _ (p q : Bool × ℕ) where
   either-second e = ap eitherBy (sym e)
 
 -- a turn of the pass: what the marks below i tell stays, and mark i tells what is due
-pub told-turn : (f : ℕ → Bool × ℕ) (l : List ℕ) (i v : ℕ) → i < length l → ((j : ℕ) → j < i → markAt l j ≡ f j) → ofMark v ≡ f i → (j : ℕ) → j < i + 1 → markAt (set l i v) j ≡ f j
-told-turn f l i v h low e =
-    below-more (λ (j : ℕ). markAt (set l i v) j ≡ f j) i
-    (λ j hj. ap ofMark (getD-set-other l i j v 0 (omega arith)) ∙ low j hj)
-    (ap ofMark (getD-set-same l i v 0 h) ∙ e)
+pub told-turn : {A : Type 0} (tell : A → Bool × ℕ) (z : A) (f : ℕ → Bool × ℕ) (l : List A) (i : ℕ) (v : A) → i < length l
+    → ((j : ℕ) → j < i → tell (getD l j z) ≡ f j) → tell v ≡ f i → (j : ℕ) → j < i + 1 → tell (getD (set l i v) j z) ≡ f j
+told-turn tell z f l i v h low e =
+    below-more (λ (j : ℕ). tell (getD (set l i v) j z) ≡ f j) i
+    (λ j hj. ap tell (getD-set-other l i j v z (omega arith)) ∙ low j hj)
+    (ap tell (getD-set-same l i v z h) ∙ e)

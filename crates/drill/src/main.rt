@@ -1,9 +1,10 @@
 // The drill: requests on standard input, an answer for each on standard output, so that any other program can be compared with the
-// sixteen calls byte for byte. Numbers of two or four bytes are low byte first. "A request that breaks these rules, or is not
-// there yet, ends the program."
+// sixteen calls and the plain engine's four byte for byte. Numbers of two or four bytes are low byte first. "A request that breaks
+// these rules, or is not there yet, ends the program."
 ghost use mathlib.Core.Path.{_≡_};
 ghost use Prim.Native.Nat.{_≤_};
 ghost use lib.ListN.{length};
+ghost use Rattle.demands.specs.Contracts.{Loads, Lists, Takes, Runs};
 use answers::answer_carried;
 use answers::answer_number;
 use answers::bounded_answer_carried;
@@ -23,8 +24,11 @@ use layout::bytes::set_at;
 use meaning::Answer;
 use meaning::Checked;
 use meaning::Configuration;
+use meaning::Listed;
 use meaning::Mind;
 use meaning::Plan;
+use meaning::Ran;
+use meaning::Reply;
 
 // A byte of the input, unless it has ended.
 enum Byte {
@@ -48,6 +52,12 @@ enum Length {
 struct Request {
     whole: bool,
     configuration: Configuration,
+}
+
+// Which of the two engines is asked: requests 2, 4, 5 and 6, or 15 to 18.
+enum Engine {
+    First,
+    Plain,
 }
 
 // After a request: how many bytes the card has now, or the end.
@@ -215,9 +225,49 @@ fn check(card: &[u8]) -> bool {
     true
 }
 
+// A call of either engine: one contract, whichever is asked.
+fn loaded(card: &[u8], engine: Engine) -> Reply
+    ensures { λ r. ⌜ Loads (now (card .entry)) r ⌝ }
+{
+    match engine {
+        Engine::First => guide::load(card),
+        Engine::Plain => plain::load::load(card),
+    }
+}
+
+// The same.
+fn listed(card: &[u8], engine: Engine, c: Configuration, out: &mut [u16]) -> Listed
+    ensures { λ r. ⌜ Lists (now (card .entry)) c (now (out .entry)) r (now (out .exit)) ⌝ }
+{
+    match engine {
+        Engine::First => guide::list(card, c, out),
+        Engine::Plain => plain::list::list(card, c, out),
+    }
+}
+
+// The same.
+fn taken(card: &[u8], engine: Engine, c: Configuration, choice: u16) -> Reply
+    ensures { λ r. ⌜ Takes (now (card .entry)) c choice r ⌝ }
+{
+    match engine {
+        Engine::First => guide::take(card, c, choice),
+        Engine::Plain => plain::take::take(card, c, choice),
+    }
+}
+
+// The same.
+fn ran(card: &[u8], engine: Engine, c: Configuration, budget: u16) -> Ran
+    ensures { λ r. ⌜ Runs (now (card .entry)) c budget r ⌝ }
+{
+    match engine {
+        Engine::First => guide::run(card, c, budget),
+        Engine::Plain => plain::run::run(card, c, budget),
+    }
+}
+
 // Request 2.
-fn load(card: &[u8]) -> bool {
-    let r = guide::load(card);
+fn load(card: &[u8], engine: Engine) -> bool {
+    let r = loaded(card, engine);
     let a = r.answer;
     let c = r.configuration;
     tell(answer_number(a));
@@ -271,8 +321,8 @@ fn entries(list: &[u16]) -> [u8; 2048]
 }
 
 // The call, and then the whole lent list.
-fn list_into(card: &[u8], c: Configuration, out: &mut [u16]) {
-    let w = guide::list(card, c, out);
+fn list_into(card: &[u8], engine: Engine, c: Configuration, out: &mut [u16]) {
+    let w = listed(card, engine, c, out);
     let a = w.answer;
     let n = out.len();
     let bytes = entries(out);
@@ -285,8 +335,8 @@ fn list_into(card: &[u8], c: Configuration, out: &mut [u16]) {
     }
 }
 
-// Request 4.
-fn list(card: &[u8]) -> bool {
+// Requests 4 and 16.
+fn list(card: &[u8], engine: Engine) -> bool {
     let asked = next_image();
     if !asked.whole {
         return false;
@@ -300,12 +350,12 @@ fn list(card: &[u8]) -> bool {
         return false;
     }
     let mut out = lent_list();
-    list_into(card, c, &mut out[..room as usize]);
+    list_into(card, engine, c, &mut out[..room as usize]);
     true
 }
 
-// Request 5: "number (2), … the node (2: with 16 the one that settled it, else 0), image"
-fn take(card: &[u8]) -> bool {
+// Requests 5 and 17: "number (2), … the node (2: with 16 the one that settled it, else 0), image"
+fn take(card: &[u8], engine: Engine) -> bool {
     let asked = next_image();
     if !asked.whole {
         return false;
@@ -315,7 +365,7 @@ fn take(card: &[u8]) -> bool {
     let Number::Is(choice) = code else {
         return false;
     };
-    let r = guide::take(card, c, choice);
+    let r = taken(card, engine, c, choice);
     let a = r.answer;
     let next = r.configuration;
     let node = answer_carried(a) as u16;
@@ -325,8 +375,8 @@ fn take(card: &[u8]) -> bool {
     true
 }
 
-// "ending (1: 0 spent, 1 rest, 2 full)"
-fn run(card: &[u8]) -> bool {
+// Requests 6 and 18: "ending (1: 0 spent, 1 rest, 2 full)"
+fn run(card: &[u8], engine: Engine) -> bool {
     let asked = next_image();
     if !asked.whole {
         return false;
@@ -336,7 +386,7 @@ fn run(card: &[u8]) -> bool {
     let Number::Is(budget) = most else {
         return false;
     };
-    let r = guide::run(card, c, budget);
+    let r = ran(card, engine, c, budget);
     let a = r.answer;
     let e = r.ending;
     let reached = r.configuration;
@@ -742,11 +792,11 @@ fn take_card(card: &mut [u8]) -> After {
 fn answer(card: &[u8], request: u8) -> bool {
     match request {
         1 => check(card),
-        2 => load(card),
+        2 => load(card, Engine::First),
         3 => grade(card),
-        4 => list(card),
-        5 => take(card),
-        6 => run(card),
+        4 => list(card, Engine::First),
+        5 => take(card, Engine::First),
+        6 => run(card, Engine::First),
         7 => save(card),
         8 => restore(card),
         9 => text(),
@@ -755,6 +805,10 @@ fn answer(card: &[u8], request: u8) -> bool {
         12 => name(card),
         13 => take_bounded(card),
         14 => run_bounded(card),
+        15 => load(card, Engine::Plain),
+        16 => list(card, Engine::Plain),
+        17 => take(card, Engine::Plain),
+        18 => run(card, Engine::Plain),
         21 => go_on(card),
         22 => next(card),
         _ => false,

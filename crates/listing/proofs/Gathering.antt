@@ -51,7 +51,7 @@ module _ (t : ℕ → Bool) where
       ∙ codes-none (suc k) n (λ i l. (let e : suc k + i ≡ k + suc i = omega arith in ap t e ∙ h (suc i) (omega arith)))
 
   -- one code more
-  codes-yes : (k n : ℕ) → t (k + n) ≡ true → codesOf t k (n + 1) ≡ codesOf t k n ++ ((k + n) ∷ [])
+  pub codes-yes : (k n : ℕ) → t (k + n) ≡ true → codesOf t k (n + 1) ≡ codesOf t k n ++ ((k + n) ∷ [])
   unfolding codesOf numbers
   codes-yes k n e = codes-append k n 1 ∙ ap (λ (xs : List ℕ). codesOf t k n ++ xs) (here (k + n) 0 e)
 
@@ -59,7 +59,7 @@ module _ (t : ℕ → Bool) where
   pub codes-no : (k m n : ℕ) → ((i : ℕ) → i < n → t (k + m + i) ≡ false) → codesOf t k (m + n) ≡ codesOf t k m
   codes-no k m n h = codes-append k m n ∙ ap (λ (xs : List ℕ). codesOf t k m ++ xs) (codes-none (k + m) n h) ∙ append-nil (codesOf t k m)
 
-  codes-few : (k n : ℕ) → length (codesOf t k n) ≤ n
+  pub codes-few : (k n : ℕ) → length (codesOf t k n) ≤ n
   unfolding codesOf numbers
   codes-few k zero = omega arith
   codes-few k (suc n) = go (t k) refl (codes-few (suc k) n)
@@ -68,7 +68,7 @@ module _ (t : ℕ → Bool) where
       go true h ih = rw (here k n h) (omega arith)
       go false h ih = rw (passed k n h) (omega arith)
 
-codes-same : (t u : ℕ → Bool) (k n : ℕ) → ((i : ℕ) → i < n → t (k + i) ≡ u (k + i)) → codesOf t k n ≡ codesOf u k n
+pub codes-same : (t u : ℕ → Bool) (k n : ℕ) → ((i : ℕ) → i < n → t (k + i) ≡ u (k + i)) → codesOf t k n ≡ codesOf u k n
 unfolding codesOf numbers
 codes-same t u k zero h = refl
 codes-same t u k (suc n) h =

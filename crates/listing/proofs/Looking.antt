@@ -40,16 +40,25 @@ module _ (l : Layout) (b : Bytes) (c : Configuration) where
   abbrev s : Config
   s = stateOf c .mental
 
+  -- the plan, by its length
+  pub is-bare : Ready l b c → c .mind .length ≡ 0 → isEmpty (s .π) ≡ true
+  unfolding stateOf
+  is-bare r z = empty-exactly (c .plan) (c .mind .length) (let y = r .room in omega arith) ∙ eq-eqb _ _ z
+
+  pub not-bare : Ready l b c → (c .mind .length ≡ 0 → ⊥) → isEmpty (s .π) ≡ false
+  unfolding stateOf
+  not-bare r z = empty-exactly (c .plan) (c .mind .length) (let x = r .fits in let y = r .room in omega arith) ∙ ne-eqb _ _ z
+
   -- a selection rule with an empty plan, by whether its belief condition holds
+  pub selection-judged : isEmpty (s .π) ≡ true → (i : ℕ) (v : Bool) → v ≡ (s ⊨ condition (conditions 𝐁 l b) (selectionAt l b i .belief)) → if v 2 1 ≡ judgedFor l b s (select i)
+  selection-judged bare i v held = ap₂ (λ f h. if f (if h 2 1) 0) (sym bare) held
+
   pub selection-look : (marks : List ℕ) → Judged l b c marks → (i : ℕ) → i < l .selections .count → c .mind .length ≡ 0
       → (v : Bool) → v ≡ markAt marks (selectionAt l b i .belief) .0
       → record { enabled = enabled (agentFor l b) s (select i); judged = if v 2 1 } ≡ lookAt l b c 0 i
-  unfolding stateOf
   selection-look marks j i h z v e =
-      let g = j .ready .card .selections i h .belief in
-      let held : v ≡ (s ⊨ condition (conditions 𝐁 l b) (selectionAt l b i .belief)) = e ∙ ap (λ (p : Bool × ℕ). p .0) (marked l b c marks j 𝐁 _ g) in
-      let bare : true ≡ isEmpty (s .π) = sym (empty-exactly (c .plan) (c .mind .length) (let r = j .ready .room in omega arith) ∙ eq-eqb _ _ z) in
-      λ k. record { enabled = enabled (agentFor l b) s (select i); judged = if (bare k) (if (held k) 2 1) 0 }
+      let held : v ≡ (s ⊨ condition (conditions 𝐁 l b) (selectionAt l b i .belief)) = e ∙ ap (λ (p : Bool × ℕ). p .0) (marked l b c marks j 𝐁 _ (j .ready .card .selections i h .belief)) in
+      ap (λ n. record { enabled = enabled (agentFor l b) s (select i); judged = n }) (selection-judged (is-bare (j .ready) z) i v held)
 
   -- another choice that the card has, by what asking for it answers
   by-asked : (f : Bool) (h : Bool) (n : ℕ) → lookBy (askedBy true f (h, n)) ≡ record { enabled = isEnabled (askedBy true f (h, n)); judged = if f 1 0 }
@@ -131,15 +140,6 @@ sum-twice f t h (suc n) = let ih = sum-twice f t h n in let e = h n in let m = m
 module _ (l : Layout) (b : Bytes) (c : Configuration) where
   abbrev here : Config
   here = stateOf c .mental
-
-  -- the plan, by its length
-  pub is-bare : Ready l b c → c .mind .length ≡ 0 → isEmpty (here .π) ≡ true
-  unfolding stateOf
-  is-bare r z = empty-exactly (c .plan) (c .mind .length) (let y = r .room in omega arith) ∙ eq-eqb _ _ z
-
-  pub not-bare : Ready l b c → (c .mind .length ≡ 0 → ⊥) → isEmpty (here .π) ≡ false
-  unfolding stateOf
-  not-bare r z = empty-exactly (c .plan) (c .mind .length) (let x = r .fits in let y = r .room in omega arith) ∙ ne-eqb _ _ z
 
   -- with an empty plan
   pub all-selecting : isEmpty (here .π) ≡ true → judgedIn l b c 0 (countOf l 0) ≡ conditionsJudged (agentFor l b) here

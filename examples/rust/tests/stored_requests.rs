@@ -1,5 +1,6 @@
 //! The stored requests of crates/drill: each is read, the call is made, and every byte that is
-//! answered is held against the stored answers. `drill.md` says how both are written.
+//! answered is held against the stored answers. `drill.md` says how both are written. Those of the
+//! plain engine, which the library does not have, are passed over.
 
 use rigtemple::{
     BoundedEnding, BoundedRefusal, Coming, Configuration, Deliberated, DeliberationEnding, Ending,
@@ -10,7 +11,7 @@ use rigtemple::{
 const LENT_ENTRY: u16 = 0xEEEE;
 const LENT_BYTE: u8 = 0xEE;
 
-/// The requests that are still to be read.
+/// The requests that are still to be read; or the answers.
 struct Requests<'a>(&'a [u8]);
 
 impl<'a> Requests<'a> {
@@ -305,24 +306,55 @@ fn answer<'a>(card: &mut &'a [u8], requests: &mut Requests<'a>, answers: &mut An
     }
 }
 
+/// Passes over a request of the plain engine and its answer: load, list, take or run.
+fn pass_over(requests: &mut Requests, wanted: &mut Requests) {
+    let request = requests.byte();
+    wanted.number();
+    match request {
+        15 => _ = wanted.image(),
+        16 => {
+            requests.image();
+            let room = usize::from(requests.number());
+            wanted.bytes(6 + 2 * room);
+        }
+        17 => {
+            requests.image();
+            requests.number();
+            wanted.number();
+            wanted.image();
+        }
+        _ => {
+            requests.image();
+            requests.number();
+            wanted.image();
+            wanted.bytes(3);
+        }
+    }
+}
+
 #[test]
 fn every_answered_byte_is_the_stored_one() {
     let drill = concat!(env!("CARGO_MANIFEST_DIR"), "/../../crates/drill");
     let asked = std::fs::read(format!("{drill}/stdin")).expect("the stored requests are there");
     let wanted = std::fs::read(format!("{drill}/stdout")).expect("the stored answers are there");
-    let (mut card, mut requests, mut answers) = (&[][..], Requests(&asked), Answers::default());
-    let mut count = 0;
-    while !requests.0.is_empty() {
-        let at = answers.0.len();
+    let (mut requests, mut wanted) = (Requests(&asked), Requests(&wanted));
+    let (mut card, mut count, mut bytes) = (&[][..], 0, 0);
+    while let Some(request) = requests.0.first() {
+        if (15..=18).contains(request) {
+            pass_over(&mut requests, &mut wanted);
+            continue;
+        }
+        let mut answers = Answers::default();
         answer(&mut card, &mut requests, &mut answers);
-        let end = answers.0.len();
+        let size = answers.0.len();
         assert_eq!(
-            answers.0[at..],
-            wanted[at..end.min(wanted.len())],
+            answers.0,
+            wanted.bytes(size.min(wanted.0.len())),
             "request {count}"
         );
         count += 1;
+        bytes += size;
     }
-    assert_eq!(answers.0.len(), wanted.len());
-    println!("{count} requests, {} bytes answered", answers.0.len());
+    assert!(wanted.0.is_empty());
+    println!("{count} requests, {bytes} bytes answered");
 }

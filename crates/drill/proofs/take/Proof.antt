@@ -17,15 +17,15 @@ next-number-requires c κs = search needs
 returns-2 : tie.Need-returns-2
 returns-2 c = search needs
 
-take-requires : tie.Need-take-requires
-take-requires c κs = search needs
+taken-requires : tie.Need-taken-requires
+taken-requires c κs = search needs
 
 answer-carried-requires : tie.Need-answer-carried-requires
 answer-carried-requires c κs = search needs
 
 cast-node : tie.Need-cast-node
 cast-node c =
-    let h = node-narrow (now (c .before .before .before .before .before .before .before .before .before .before .before .before .args .card)) (c .before .before .before .before .before .before .before .before .before .before .next-image .result .configuration) (c .before .before .before .before .code .given .0 .0) (c .before .before .take .result) (c .before .before .take .ensures .0) in
+    let h = node-narrow (now (c .before .before .before .before .before .before .before .before .before .before .before .before .args .card)) (c .before .before .before .before .before .before .before .before .before .before .next-image .result .configuration) (c .before .before .before .before .code .given .0 .0) (c .before .before .taken .result) (c .before .before .taken .ensures) in
     omega (arith, c .answer-carried .ensures)
 
 answer-number-requires : tie.Need-answer-number-requires
@@ -53,7 +53,7 @@ take-spec =
     (λ c. search needs)
     (λ c. search needs)
     returns-2
-    take-requires
+    taken-requires
     answer-carried-requires
     cast-node
     answer-number-requires

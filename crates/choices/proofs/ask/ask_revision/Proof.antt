@@ -45,7 +45,7 @@ returns c = λ σ γ j.
     let at = c .before .before .before .before .before .before .pool-at .ensures in
     let f = c .before .before .before .starts-with .ensures ∙ (λ j. isPrefix (part (now (a .card)) (at j) (r .result .head .length)) (take (a .m .length) (now (a .plan)))) ∙ ap (λ (x : RevisionEntry). isPrefix (plan (a .l) (now (a .card)) (x .head)) (take (a .m .length) (now (a .plan)))) e in
     let p = ap (λ (x : RevisionEntry). markAt M (x .node)) e in
-    c .asked-by .ensures ∙ ap₂ (askedBy true) f p ∙ asks-revision (a .l) (now (a .card)) (configured σ γ (a .m) (now (a .plan))) M j (a .i) (s .pre .1)
+    c .asked-by .ensures ∙ ap₂ (askedBy true) f p ∙ asks-revision (a .l) (now (a .card)) (configured σ γ (a .m) (now (a .plan))) (markAt M) (j .ready) (j .marked) (a .i) (s .pre .1)
 
 pub ask-revision-spec : {M : Type 1} → statement M
 ask-revision-spec =

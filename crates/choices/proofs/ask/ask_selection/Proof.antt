@@ -27,7 +27,7 @@ returns c = λ σ γ j.
     let M = now (a .marks) in
     let e = c .before .before .before .before .before .before .before .read-selection .ensures .0 in
     let p = c .before .both-of .ensures ∙ ap (λ (x : SelectionEntry). both (markAt M (x .belief)) (markAt M (x .goal))) e in
-    c .asked-by .ensures ∙ ap (askedBy true (eqb (a .m .length) 0)) p ∙ asks-selection (a .l) (now (a .card)) (configured σ γ (a .m) (now (a .plan))) M j (a .i) (s .pre .1)
+    c .asked-by .ensures ∙ ap (askedBy true (eqb (a .m .length) 0)) p ∙ asks-selection (a .l) (now (a .card)) (configured σ γ (a .m) (now (a .plan))) (markAt M) (j .ready) (j .marked) (a .i) (s .pre .1)
 
 pub ask-selection-spec : {M : Type 1} → statement M
 ask-selection-spec =

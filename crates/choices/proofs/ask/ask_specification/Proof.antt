@@ -26,7 +26,7 @@ returns c = λ σ γ j.
     let e = c .before .before .before .before .before .before .read-specification .ensures in
     let p = ap (λ (x : SpecificationEntry). markAt M (x .node)) e in
     let f = ap (λ (x : SpecificationEntry). not (eqb (a .m .length) 0) && eqb (x .action) (getD (now (a .plan)) 0 0)) e in
-    c .asked-by .ensures ∙ ap₂ (askedBy true) f p ∙ asks-specification (a .l) (now (a .card)) (configured σ γ (a .m) (now (a .plan))) M j (a .i) (s .pre .1)
+    c .asked-by .ensures ∙ ap₂ (askedBy true) f p ∙ asks-specification (a .l) (now (a .card)) (configured σ γ (a .m) (now (a .plan))) (markAt M) (j .ready) (j .marked) (a .i) (s .pre .1)
 
 pub ask-specification-spec : {M : Type 1} → statement M
 ask-specification-spec =

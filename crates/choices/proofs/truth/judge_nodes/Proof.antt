@@ -4,7 +4,7 @@ use mathlib.Core.Bool.{false}
 use lib.ListN.{length-set, length, getD}
 use Rattle.meaning.specs.Kinds.{nodeKind}
 use Rattle.choices.specs.OnePass.{keptOf, kept}
-use Rattle.choices.specs.Judged.{markAt}
+use Rattle.choices.specs.Judged.{ofMark, markAt}
 use Rattle.choices.proofs.Passing.{told-turn}
 use Rattle.choices.proofs.OnePass.{kept-next}
 use mathlib.Core.Path.{_≡_, ap, _∙_}
@@ -51,7 +51,7 @@ loop-again c =
     let e = c .judge .ensures ∙ ap (λ (x : Node). keptOf (l .i) (nodeKind (x .kind)) (x .a) (x .b) (now (a .beliefs)) (now (a .goals)) (markAt (l .marks))) (c .before .before .read-node .ensures) in (
       omega arith,
       simp length-set (l .inv .1),
-      told-turn (λ j. getD (kept (a .l) b (now (a .beliefs)) (now (a .goals))) j (false, 0)) (l .marks) (l .i) (c .judge .result) (let q = p .layout .nodes in omega arith) (l .inv .2)
+      told-turn ofMark 0 (λ j. getD (kept (a .l) b (now (a .beliefs)) (now (a .goals))) j (false, 0)) (l .marks) (l .i) (c .judge .result) (let q = p .layout .nodes in omega arith) (l .inv .2)
           (e ∙ kept-next (a .l) b (p .nodes) (now (a .beliefs)) (now (a .goals)) (l .i) k (markAt (l .marks)) (l .inv .2)),
     )
 

@@ -1,0 +1,4 @@
+pub mod Judging
+pub mod Asking
+pub mod Calls
+pub mod Same
