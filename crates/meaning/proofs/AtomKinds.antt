@@ -49,7 +49,7 @@ module _ (l : Layout) (b : Bytes) (good : nodes_good l b ≡ true) {kind : ℕ} 
   abbrev free : ℕ → Type 0
   free i = get_or (containing kind l b) i false ≡ false
 
-  without : {i j : ℕ} → i < l.nodes.count → free i → StandsIn l b j i → (node_at l b j).kind ≡ kind → ⊥
+  without : {j i : ℕ} → i < l.nodes.count → free i → StandsIn l b j i → (node_at l b j).kind ≡ kind → ⊥
   without {i} h f is_it e =
       let x = node_at l b i in
       let c : contains_of kind (node_kind x.kind) x.a x.b (λ j. get_or (containing kind l b) j false) ≡ false = sym (contains_at l b good i h kind) ∙ f in

@@ -85,11 +85,11 @@ module _ {R : Type 0} (good : R → Bool) (name : ℕ → Offender) where
     offends : (i : ℕ) (x : R) → ((j : ℕ) (y : R) → j < i → Entry rs j y → good y ≡ true) → Entry rs i x → good x ≡ false → FirstOffence n rs otherwise (Verdict.Open (name (n + i)))
 
   later : (n : ℕ) (r : R) (rs : List R) (o v : Verdict) → good r ≡ true → FirstOffence (suc n) rs o v → FirstOffence n (r ∷ rs) o v
-  later n r rs o v e (all_good h) = all_good (λ i. elim i [ zero ↦ λ x q. (let z : r ≡ x = some_inj q in rw (← z) e) | suc j ↦ h j ])
+  later n r rs o v e (all_good h) = all_good (λ i. elim i as (λ k. (x : R) → Entry (r ∷ rs) k x → good x ≡ true) [ zero ↦ λ x q. (let z : r ≡ x = some_inj q in rw (← z) e) | suc j ↦ h j ])
   later n r rs o v e (offends i x h q b) =
       let k : suc n + i ≡ n + suc i = omega arith in
       rw k
-      (offends (suc i) x (λ j. elim j [ zero ↦ λ y l p. (let z : r ≡ y = some_inj p in rw (← z) e) | suc m ↦ λ y l p. h m y (le_of_suc-le-suc l) p ]) q b)
+      (offends (suc i) x (λ j. elim j as (λ k. (y : R) → k < suc i → Entry (r ∷ rs) k y → good y ≡ true) [ zero ↦ λ y l p. (let z : r ≡ y = some_inj p in rw (← z) e) | suc m ↦ λ y l p. h m y (le_of_suc-le-suc l) p ]) q b)
 
   first_offence : (n : ℕ) (rs : List R) (o : Verdict) → FirstOffence n rs o (first_offender good name n rs o)
   first_offence n [] o = all_good (λ i x e. absurd (none≢some e))
