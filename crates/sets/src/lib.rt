@@ -1,4 +1,6 @@
 // Sets of atoms, 32 bytes by value: "atom k is bit (k modulo 8) of byte (k divided by 8)" (document 01).
+#![tactic(auto)]
+
 ghost use Rattle.std.specs.Prelude.{◌≡◌, ◌+◌, ◌/◌, ◌≤◌, ◌<◌, length, take, drop};
 ghost use Rattle.paper.specs.Atoms.{◌∈◌, ◌∪◌, ◌∖◌};
 ghost use Rattle.std.specs.Int.Count.{ones};

@@ -1,4 +1,6 @@
 // UTF-8 as RFC 3629 has it: whether a part of lent bytes is. One pass over the part, byte by byte.
+#![tactic(auto)]
+
 ghost use Rattle.std.specs.Prelude.{◌≡◌, ◌-◌, ◌≤◌, eqb, length};
 ghost use Rattle.paper.specs.Next as Next;
 ghost use Rattle.meaning.specs.Card.{part};

@@ -1,0 +1,6 @@
+use Rattle.sets.proofs.Members.{one_bit}
+use borrow.Author.Rules.{rules}
+use Rattle.sets.proofs.add_member.Goals as goal
+
+pub returns : goal.returns
+returns c = one_bit c.args.k c.args.s.now

@@ -1,0 +1,16 @@
+use mir.Syntax.{w8}
+use mathlib.Core.Path.{◌≡◌, refl, ap, ◌∙◌}
+use Prim.Native.Nat.{◌-◌, ◌*◌, ◌%◌, ◌≤◌}
+use native.Mathlib.Omega.{arith}
+use borrow.Author.Rules.{rules, elem_Fits}
+use lib.ListN.{take}
+use lib.Seq.{take_all}
+use Rattle.sets.specs.Ones.{ones_of}
+use Rattle.sets.proofs.Ones.{ones_law, ones_more, ones_most}
+use Rattle.sets.proofs.size.Given as goal
+
+abbrev pub invariant-loop-i : goal.invariant-loop-i
+invariant-loop-i l = (l.i ≤ 32) × (l.i % 8 ≡ 0) × (l.n ≡ ones_of (take l.i l.s)) × (l.n ≤ 8 * l.i)
+
+abbrev pub decreases-loop-i : goal.decreases-loop-i
+decreases-loop-i l = 32 - l.i

@@ -1,0 +1,15 @@
+use Rattle.sets.proofs.Loops.{filled, filled_turn, filled_all}
+use Rattle.paper.proofs.Sets.{at-∪, length-∪}
+use Rattle.paper.specs.Atoms.{◌∪◌}
+use mathlib.Core.Path.{◌≡◌, refl, sym, ◌∙◌}
+use Prim.Native.Nat.{◌-◌, ◌≤◌}
+use native.Mathlib.Omega.{arith}
+use borrow.Author.Rules.{rules}
+use lib.ListN.{length}
+use Rattle.sets.proofs.union.Given as goal
+
+abbrev pub invariant-loop-i : goal.invariant-loop-i
+invariant-loop-i l = (l.i ≤ 32) × (l.r ≡ filled (l.a ∪ l.b) l.a l.i)
+
+abbrev pub decreases-loop-i : goal.decreases-loop-i
+decreases-loop-i l = 32 - l.i
