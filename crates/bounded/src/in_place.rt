@@ -2,14 +2,14 @@
 use meaning::{BoundedAnswer, BoundedEnding, Standing};
 
 // Of `BoundedReply`.
-#[derive(Drop)]
+#[derive(Clone, Copy)]
 pub struct BoundedReplyInPlace {
     pub answer: BoundedAnswer,
     pub standing: Standing,
 }
 
 // Of `BoundedRan`.
-#[derive(Drop)]
+#[derive(Clone, Copy)]
 pub struct BoundedRanInPlace {
     pub answer: BoundedAnswer,
     pub count: u16,

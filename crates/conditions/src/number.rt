@@ -4,7 +4,7 @@ ghost use Rattle.notation.specs.Scanning.{digit};
 ghost use Rattle.conditions.specs.Reads.{capped, ReadsNumber};
 
 // A number's value, 65,536 where it is greater than 65,535, and the place behind it.
-#[derive(Drop)]
+#[derive(Clone, Copy)]
 pub struct Numeral {
     pub value: usize,
     pub next: usize,

@@ -8,7 +8,7 @@ use crate::nodes::{put_atom, put_member, put_node, put_not};
 use crate::number::read_number;
 
 // The next place and how many nodes there are, 257 if something is too large; or brackets and `!` nest too deep.
-#[derive(Drop)]
+#[derive(Clone, Copy)]
 pub enum Reading {
     At(usize, usize),
     Nested,

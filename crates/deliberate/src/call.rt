@@ -23,7 +23,7 @@ use plans::clear;
 use program::judge_program;
 
 // Of `Deliberated`, all but what the lent sets, the lent plan and the lent numbers hold: how many of these remain.
-#[derive(Drop)]
+#[derive(Clone, Copy)]
 pub struct DeliberatedInPlace {
     pub standing: Standing,
     pub answer: Answer,

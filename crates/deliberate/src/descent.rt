@@ -12,14 +12,14 @@ use program::read_entry;
 use sets::has_member;
 
 // A part of an entry, and where the numbers behind it begin.
-#[derive(Drop)]
+#[derive(Clone, Copy)]
 pub struct Part {
     pub at: usize,
     pub top: usize,
 }
 
 // Where a descent ends: an entry, its number, and where the numbers behind it begin.
-#[derive(Drop)]
+#[derive(Clone, Copy)]
 pub struct Leaf {
     pub entry: Node,
     pub at: usize,

@@ -20,7 +20,7 @@ use meaning::{Layout, Node, Plan, Set, Standing};
 use moves::step::{Stepped, Transition, step};
 
 // What a move comes to: it is made; there is none; or the plan that it leaves is too long.
-#[derive(Drop)]
+#[derive(Clone, Copy)]
 pub enum MoveMade {
     On,
     Stuck,
@@ -28,14 +28,14 @@ pub enum MoveMade {
 }
 
 // Where a deliberation stands beside the sets, the plan and the numbers that remain: where these begin.
-#[derive(Drop)]
+#[derive(Clone, Copy)]
 pub struct Point {
     pub standing: Standing,
     pub top: usize,
 }
 
 // What a move comes to, where it leaves the deliberation, and whether the marks of the nodes are still true.
-#[derive(Drop)]
+#[derive(Clone, Copy)]
 pub struct AfterMove {
     pub standing: Standing,
     pub made: MoveMade,
@@ -168,7 +168,7 @@ fn turn(e: Node, i: usize, m: Standing, marks: &Marks, stack: &mut [u8; 128], to
 }
 
 // The entry in which a first move is made, and the lowest enabled action where that is an execute.
-#[derive(Drop)]
+#[derive(Clone, Copy)]
 pub struct Reached {
     pub leaf: Leaf,
     pub action: Chosen,

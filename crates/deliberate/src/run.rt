@@ -9,7 +9,7 @@ use deliberation::DeliberationEnding;
 use meaning::{Layout, Plan, Set, Standing};
 
 // What a deliberation comes to beside the sets, the plan and the numbers that remain: where these begin.
-#[derive(Drop)]
+#[derive(Clone, Copy)]
 pub struct RanMoves {
     pub standing: Standing,
     pub count: u16,

@@ -9,7 +9,7 @@ use native.Mathlib.Omega.{arith}
 use Rattle.paper.specs.Language.{Agent, Config}
 use Rattle.paper.specs.Transitions.{Choice}
 use Rattle.paper.proofs.Relation.{false≢true}
-use Rattle.deliberation.specs.Programs.{Bexp, Prog, execute, apply, select, while_doing_od, ◌⨾◌, ◌⊕◌, Rest, E, still, 𝒲}
+use Rattle.deliberation.specs.Programs.{Bexp, Prog, execute, apply, select, while◌doing◌od, ◌⨾◌, ◌⊕◌, Rest, E, still, 𝒲}
 use Rattle.deliberation.specs.MetaTransitions.{Label, idle, taking, MetaStep}
 use Rattle.deliberation.specs.FirstMove.{Move, first_move}
 use Rattle.deliberation.specs.Theorems.{NoTransition, FirstMoveLaws, WayOut, FirstMoveDetermined}

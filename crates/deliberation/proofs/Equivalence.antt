@@ -17,7 +17,7 @@ use Rattle.runs.specs.Order.{numbers}
 use Rattle.runs.specs.Run.{Chain, stay, ◌then◌}
 use Rattle.runs.specs.Weight.{is_selection, selections}
 use Rattle.runs.proofs.Order.{entry_lt}
-use Rattle.deliberation.specs.Programs.{Bexp, Prog, execute, apply, select, while_doing_od, ◌⨾◌, ◌⊕◌, Rest, E, still, ◌⨾'◌, 𝒲}
+use Rattle.deliberation.specs.Programs.{Bexp, Prog, execute, apply, select, while◌doing◌od, ◌⨾◌, ◌⊕◌, Rest, E, still, ◌⨾'◌, 𝒲}
 use Rattle.deliberation.specs.MetaTransitions.{Label, idle, taking, MetaStep, action_execution, rule_application, rule_selection, while_tt, while_ff, in_sequence, choice_left, choice_right, Computation, as_it_is, ◌and_then◌, not_idle}
 use Rattle.deliberation.specs.Interpreter.{or_one_of, any_move, interpreter}
 use Rattle.deliberation.specs.Equivalence.{NoReactiveRules, NoSelection, Proposition1, Lemma1, Theorem1}

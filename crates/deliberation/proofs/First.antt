@@ -15,7 +15,7 @@ use Rattle.paper.specs.Next.{enabled}
 use Rattle.paper.proofs.Relation.{none≢some, some_inj, false≢true, enabled_exactly}
 use Rattle.runs.specs.Order.{numbers, of_kind, first}
 use Rattle.runs.proofs.Order.{entry_lt, first_yes, first_no}
-use Rattle.deliberation.specs.Programs.{Prog, apply, select, while_doing_od, ◌⨾◌, ◌⊕◌, Rest, E, still, ◌⨾'◌, 𝒲}
+use Rattle.deliberation.specs.Programs.{Prog, apply, select, while◌doing◌od, ◌⨾◌, ◌⊕◌, Rest, E, still, ◌⨾'◌, 𝒲}
 use Rattle.deliberation.specs.MetaTransitions.{Label, taking, MetaStep, action_execution, rule_application, rule_selection, while_tt, while_ff, in_sequence, choice_left, choice_right}
 use Rattle.deliberation.specs.FirstMove.{Move, lowest_action, if_enabled, idles, left_else_right, first_move}
 use Rattle.deliberation.proofs.Moves.{takes_some, takes_none, idles_holds, idles_fails, idles_none, followed_some, followed_none, either_left, either_none}

@@ -19,7 +19,7 @@ use Rattle.meaning.specs.Refusals.{within, every, condition_good}
 use Rattle.meaning.proofs.Accepted.{within_low, within_high}
 use Rattle.meaning.proofs.Every.{both_true, every_at, every_of}
 use Rattle.meaning.proofs.Pass.{pass_at}
-use Rattle.deliberation.specs.Programs.{not_empty_plan, holds, Prog, execute, while_doing_od, ◌⨾◌, ◌⊕◌}
+use Rattle.deliberation.specs.Programs.{not_empty_plan, holds, Prog, execute, while◌doing◌od, ◌⨾◌, ◌⊕◌}
 use Rattle.deliberation.specs.Kinds.{EntryKind, Execute, Apply, Select, WhilePlan, WhileBelief, Then, Or, entry_kind}
 use Rattle.deliberation.specs.FirstMove.{Move, followed_by, left_else_right}
 use Rattle.deliberation.specs.Entries.{entry_of, entry_count, entries_of, length_good, kind_good, entry_good, program_good, prog_of, program, move_of, first_move_of}

@@ -11,7 +11,7 @@ use Rattle.paper.proofs.Relation.{some_inj, false≢true}
 use Rattle.meaning.specs.declared.Node.{Node}
 use Rattle.meaning.specs.Card.{Bytes, layout, condition, conditions, agent_for, agent}
 use Rattle.meaning.specs.Refusals.{containing}
-use Rattle.deliberation.specs.Programs.{Bexp, not_empty_plan, holds, Prog, execute, apply, select, while_doing_od, Rest, E, 𝒲}
+use Rattle.deliberation.specs.Programs.{Bexp, not_empty_plan, holds, Prog, execute, apply, select, while◌doing◌od, Rest, E, 𝒲}
 use Rattle.deliberation.specs.MetaTransitions.{Label, MetaStep}
 use Rattle.deliberation.specs.Kinds.{EntryKind, Execute, Apply, Select, WhilePlan, WhileBelief, Then, Or, entry_kind}
 use Rattle.deliberation.specs.FirstMove.{Move, idles, followed_by, left_else_right, first_move}

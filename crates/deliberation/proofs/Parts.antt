@@ -8,7 +8,7 @@ use native.Mathlib.Omega.{arith}
 use Rattle.paper.specs.Language.{Agent, Config}
 use Rattle.paper.specs.Transitions.{Choice}
 use Rattle.paper.proofs.Relation.{none≢some, some_inj}
-use Rattle.deliberation.specs.Programs.{Prog, execute, apply, select, while_doing_od, ◌⨾◌, ◌⊕◌, Rest, E, still, ◌⨾'◌}
+use Rattle.deliberation.specs.Programs.{Prog, execute, apply, select, while◌doing◌od, ◌⨾◌, ◌⊕◌, Rest, E, still, ◌⨾'◌}
 use Rattle.deliberation.specs.MetaTransitions.{Label, MetaStep, action_execution, rule_application, rule_selection, while_tt, while_ff, in_sequence, choice_left, choice_right}
 use Rattle.deliberation.specs.FirstMove.{Move, by_choice, idles, followed_by, left_else_right, first_move}
 use Rattle.deliberation.proofs.Moves.{idles_holds, idles_fails, either_left}

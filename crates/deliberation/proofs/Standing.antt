@@ -12,7 +12,7 @@ use Rattle.meaning.specs.declared.Layout.{Layout}
 use Rattle.meaning.specs.declared.Node.{Node}
 use Rattle.meaning.specs.Card.{Bytes, layout, agent, conditions, condition}
 use Rattle.meaning.specs.Refusals.{containing}
-use Rattle.deliberation.specs.Programs.{Bexp, not_empty_plan, holds, Prog, execute, apply, select, while_doing_od, ◌⨾◌, ◌⊕◌, Rest, E, still, 𝒲}
+use Rattle.deliberation.specs.Programs.{Bexp, not_empty_plan, holds, Prog, execute, apply, select, while◌doing◌od, ◌⨾◌, ◌⊕◌, Rest, E, still, 𝒲}
 use Rattle.deliberation.specs.Kinds.{EntryKind}
 use Rattle.deliberation.specs.FirstMove.{Move, by_choice, lowest_action, if_enabled, idles, followed_by, left_else_right, first_move}
 use Rattle.deliberation.specs.Entries.{entry_count, entries_of, program_good, prog_of, program, standing, move_of, first_move_of, move_at}

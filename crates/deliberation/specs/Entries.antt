@@ -11,7 +11,7 @@ use Rattle.meaning.specs.declared.Node.{Node}
 use Rattle.meaning.specs.declared.Configuration.{Configuration}
 use Rattle.meaning.specs.Card.{Bytes, node_from, layout, pass, condition, conditions, agent_for}
 use Rattle.meaning.specs.Refusals.{Row, ◌given_when◌, first_given, and_then, every, within, containing, condition_good, card_answer, configuration_table}
-use Rattle.deliberation.specs.Programs.{not_empty_plan, holds, Prog, execute, apply, select, while_doing_od, ◌⨾◌, ◌⊕◌, Rest, E, still, 𝒲}
+use Rattle.deliberation.specs.Programs.{not_empty_plan, holds, Prog, execute, apply, select, while◌doing◌od, ◌⨾◌, ◌⊕◌, Rest, E, still, 𝒲}
 use Rattle.deliberation.specs.Kinds.{EntryKind, Execute, Apply, Select, WhilePlan, WhileBelief, Then, Or, entry_kind}
 use Rattle.deliberation.specs.FirstMove.{Move, by_choice, lowest_action, if_enabled, idles, followed_by, left_else_right}
 

@@ -5,7 +5,7 @@ use Rattle.paper.specs.Language.{Agent, Config}
 use Rattle.paper.specs.Transitions.{Choice}
 use Rattle.paper.specs.Next.{enabled}
 use Rattle.runs.specs.Order.{of_kind, first}
-use Rattle.deliberation.specs.Programs.{Prog, execute, apply, select, while_doing_od, ◌⨾◌, ◌⊕◌, Rest, E, still, ◌⨾'◌, 𝒲}
+use Rattle.deliberation.specs.Programs.{Prog, execute, apply, select, while◌doing◌od, ◌⨾◌, ◌⊕◌, Rest, E, still, ◌⨾'◌, 𝒲}
 use Rattle.deliberation.specs.MetaTransitions.{Label, idle, taking}
 
 -- A move: its label, and what remains of the program after it, as a term or as entry numbers.

@@ -2,7 +2,7 @@
 use Rattle.std.specs.Prelude.{List, [], ◌∷◌, map, length}
 use Rattle.paper.specs.Language.{Agent}
 use Rattle.runs.specs.Order.{numbers}
-use Rattle.deliberation.specs.Programs.{not_empty_plan, Prog, execute, apply, while_doing_od, ◌⊕◌}
+use Rattle.deliberation.specs.Programs.{not_empty_plan, Prog, execute, apply, while◌doing◌od, ◌⊕◌}
 
 -- P or one of the others: P + Q₁ + … + Qₙ. Serves any_move.
 unfoldable pub or_one_of : Prog → List Prog → Prog

@@ -3,7 +3,7 @@
 use Rattle.std.specs.Prelude.{◌≡◌, true, false, List, [], ◌∷◌, ℕ}
 use Rattle.paper.specs.Language.{Agent, Config}
 use Rattle.paper.specs.Transitions.{Choice, Step}
-use Rattle.deliberation.specs.Programs.{Bexp, Prog, execute, apply, select, while_doing_od, ◌⨾◌, ◌⊕◌, Rest, E, still, ◌⨾'◌, 𝒲}
+use Rattle.deliberation.specs.Programs.{Bexp, Prog, execute, apply, select, while◌doing◌od, ◌⨾◌, ◌⊕◌, Rest, E, still, ◌⨾'◌, 𝒲}
 
 -- 000, section 3.1: "the transitions are labeled to denote the kind of transition.", Definition 14's x: idle, or the choice that
 -- is taken. 000's execute is an action with a specification, its apply(ρ) a revision; 02, Wish 6 adds the selections.

@@ -24,7 +24,7 @@ pub data Prog : Type 0 where
   -- 02, Wish 6: "add "select" for a named selection rule"
   select : ℕ → Prog
   -- 000, Definition 6: while b do P od
-  while_doing_od : Bexp → Prog → Prog
+  while◌doing◌od : Bexp → Prog → Prog
   -- 000, Definition 6: P₁; P₂
   ◌⨾◌ : Prog → Prog → Prog
   -- 000, Definition 6: P₁ + P₂

@@ -21,7 +21,7 @@ use Rattle.meaning.specs.Refusals.{answer_number, card_answer, containing, confi
 use Rattle.deliberation.specs.declared.DeliberationEnding.{DeliberationEnding}
 use Rattle.deliberation.specs.declared.Remaining.{Remaining}
 use Rattle.deliberation.specs.declared.Deliberated.{Deliberated}
-use Rattle.deliberation.specs.Programs.{not_empty_plan, holds, Prog, execute, apply, select, while_doing_od, ◌⨾◌, ◌⊕◌, Rest, E, still, ◌⨾'◌, 𝒲}
+use Rattle.deliberation.specs.Programs.{not_empty_plan, holds, Prog, execute, apply, select, while◌doing◌od, ◌⨾◌, ◌⊕◌, Rest, E, still, ◌⨾'◌, 𝒲}
 use Rattle.deliberation.specs.MetaTransitions.{Label, idle, taking, MetaStep, Computation, not_idle}
 use Rattle.deliberation.specs.Kinds.{EntryKind, Execute, Apply, Select, WhilePlan, WhileBelief, Then, Or, entry_kind}
 use Rattle.deliberation.specs.FirstMove.{Move, first_move}

@@ -3,7 +3,7 @@
 use meaning::{Answer, Configuration};
 
 // 02, Wish 6: "Endings, in this order: spent, finished, stuck, full."
-#[derive(Drop)]
+#[derive(Clone, Copy)]
 pub enum DeliberationEnding {
     Spent,
     Finished,
@@ -13,7 +13,7 @@ pub enum DeliberationEnding {
 
 // 02, Wish 6: "the remaining program as entry numbers, the next first": the first `length` of the numbers; the rest are 0, but in
 // a refusal, whose `length` is 0, the bytes that were lent.
-#[derive(Drop)]
+#[derive(Clone, Copy)]
 pub struct Remaining {
     pub length: u8,
     pub numbers: [u8; 128],
@@ -21,7 +21,7 @@ pub struct Remaining {
 
 // What `deliberate` and `go on` answer: 02, Wish 6: "Endings", "The answer holds the remaining program"; the count is of moves,
 // idle ones too.
-#[derive(Drop)]
+#[derive(Clone, Copy)]
 pub struct Deliberated {
     pub answer: Answer,
     pub count: u16,

@@ -1,7 +1,7 @@
 // What asking for a choice answers, and a choice as it is told.
 
 // What asking for a choice answers. 02, Wish 1: "Say why a move is closed."
-#[derive(Drop)]
+#[derive(Clone, Copy)]
 pub enum Asked {
     // 01, "A configuration and its transitions": "Enabled if …"
     Enabled,
@@ -14,7 +14,7 @@ pub enum Asked {
 }
 
 // A choice by its kind (0 selection, 1 action, 2 revision) and its number, or none.
-#[derive(Drop)]
+#[derive(Clone, Copy)]
 pub enum Chosen {
     At(u8, usize),
     Nothing,

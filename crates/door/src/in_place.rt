@@ -5,14 +5,14 @@ use meaning::{Answer, Standing};
 use runs::Ending;
 
 // Of `Reply`.
-#[derive(Drop)]
+#[derive(Clone, Copy)]
 pub struct ReplyInPlace {
     pub answer: Answer,
     pub standing: Standing,
 }
 
 // Of `Written`.
-#[derive(Drop)]
+#[derive(Clone, Copy)]
 pub struct WrittenInPlace {
     pub answer: Answer,
     pub count: u16,
@@ -29,7 +29,7 @@ pub fn refused_write(answer: Answer) -> WrittenInPlace
 }
 
 // Of `Ran`.
-#[derive(Drop)]
+#[derive(Clone, Copy)]
 pub struct RanInPlace {
     pub answer: Answer,
     pub count: u16,

@@ -14,42 +14,42 @@ use layout::bytes::set_at;
 use meaning::{Answer, Checked, Configuration, Listed, Mind, Plan, Ran, Reply};
 
 // A byte of the input, unless it has ended.
-#[derive(Drop)]
+#[derive(Clone, Copy)]
 enum Byte {
     Is(u8),
     Ended,
 }
 
 // A number of two bytes.
-#[derive(Drop)]
+#[derive(Clone, Copy)]
 enum Number {
     Is(u16),
     Ended,
 }
 
 // A length of four bytes.
-#[derive(Drop)]
+#[derive(Clone, Copy)]
 enum Length {
     Is(usize),
     Ended,
 }
 
 // A configuration, and whether its image was whole.
-#[derive(Drop)]
+#[derive(Clone, Copy)]
 struct Request {
     whole: bool,
     configuration: Configuration,
 }
 
 // Which of the two engines is asked: requests 2, 4, 5 and 6, or 15 to 18.
-#[derive(Drop)]
+#[derive(Clone, Copy)]
 enum Engine {
     First,
     Plain,
 }
 
 // After a request: how many bytes the card has now, or the end.
-#[derive(Drop)]
+#[derive(Clone, Copy)]
 enum After {
     Goes(u16),
     Ends,

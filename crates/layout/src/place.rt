@@ -11,7 +11,7 @@ use crate::sizes::{place_goals_at, plan_at, set_bytes};
 use meaning::{Layout, Plan, Set, Standing};
 
 // "plan length L at 4; plan offset 44 at 6; phase at 8"; the finished count "in bytes 10 and 11"; "beliefs at 12; goals at 28".
-#[derive(Drop)]
+#[derive(Clone, Copy)]
 pub struct PlaceParts {
     pub length: usize,
     pub offset: usize,

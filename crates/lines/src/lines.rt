@@ -294,7 +294,7 @@ fn read_line(text: &[u8], at: usize, card: &mut [u8], m: Made) -> PartRead
 }
 
 // What all lines make, or brackets and `!` nest too deep in one of them.
-#[derive(Drop)]
+#[derive(Clone, Copy)]
 pub enum Lined {
     All(Made),
     Nested,

@@ -70,7 +70,7 @@ fn with_atom(mut set: Edition1Set, v: usize) -> Edition1Set
 }
 
 // A set that was read, whether all its atoms are below 128, and the place behind it.
-#[derive(Drop)]
+#[derive(Clone, Copy)]
 pub struct SetRead {
     pub set: Edition1Set,
     pub fits: bool,
@@ -117,7 +117,7 @@ fn with_action(pool: &mut [u8], count: usize, v: usize) -> usize
 }
 
 // The place behind a plan, and how many actions the pool has then, 8,193 if something is too large.
-#[derive(Drop)]
+#[derive(Clone, Copy)]
 pub struct PlanRead {
     pub next: usize,
     pub count: usize,

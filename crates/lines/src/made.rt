@@ -2,7 +2,7 @@
 
 // How many there are of each part so far, where the start's plan starts in the pool and how long it is; and whether anything is too
 // large for its field, or more than edition 1 allows.
-#[derive(Drop)]
+#[derive(Clone, Copy)]
 pub struct Made {
     pub large: bool,
     pub atoms: usize,

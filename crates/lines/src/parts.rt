@@ -9,14 +9,14 @@ use crate::put::too_large;
 use conditions::read::{Reading, read_condition};
 
 // The place behind a part of a line, and what is made then.
-#[derive(Drop)]
+#[derive(Clone, Copy)]
 pub struct Placed {
     pub next: usize,
     pub made: Made,
 }
 
 // The same, or brackets and `!` nest too deep.
-#[derive(Drop)]
+#[derive(Clone, Copy)]
 pub enum PartRead {
     At(usize, Made),
     Nested,

@@ -15,14 +15,14 @@ use layout::entries::{count_of, read_selection};
 use meaning::{Layout, Plan, Set, Standing};
 
 // Of a choice: whether it is enabled, and how many conditions are judged for it.
-#[derive(Drop)]
+#[derive(Clone, Copy)]
 pub struct Look {
     pub enabled: bool,
     pub judged: usize,
 }
 
 // Of the choices so far: how many are enabled, and how many conditions are judged for them.
-#[derive(Drop)]
+#[derive(Clone, Copy)]
 pub struct Looked {
     pub enabled: usize,
     pub judged: usize,

@@ -70,7 +70,7 @@ fn no_codes() -> [u8; 96]
 }
 
 // What `list` answers where sets and plan are lent: all of `Listed` but what these hold.
-#[derive(Drop)]
+#[derive(Clone, Copy)]
 pub struct ListedInPlace {
     pub answer: Answer,
     pub count: u16,

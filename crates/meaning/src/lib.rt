@@ -7,7 +7,7 @@ use runs::{Ending, Verdict};
 // Then those of 02, Wish 2: a text with the place of the wrong byte, nested too deep, too large; that of Wish 6: a program; those
 // of Wish 8: a sheet, with which it is (0 the master's, 1 the shed's), and an unknown action; and that of Wish 10: the card is open
 // or the plan too heavy.
-#[derive(Drop)]
+#[derive(Clone, Copy)]
 pub enum Refusal {
     Short,
     Mark,
@@ -34,7 +34,7 @@ pub enum Refusal {
 }
 
 // 01, "Numbers the guide may answer": "done", row 0, or one of the others.
-#[derive(Drop)]
+#[derive(Clone, Copy)]
 pub enum Answer {
     Done,
     Refused(Refusal),
@@ -42,21 +42,21 @@ pub enum Answer {
 
 // 01, "The card, edition 1", the table: "nodes, offset" and the like: how many entries (the pool: bytes) a section has, and
 // where it starts.
-#[derive(Drop)]
+#[derive(Clone, Copy)]
 pub struct Section {
     pub count: u16,
     pub offset: u16,
 }
 
 // 01, "The card, edition 1": "A plan is a start and a length in the pool".
-#[derive(Drop)]
+#[derive(Clone, Copy)]
 pub struct Span {
     pub start: u16,
     pub length: u16,
 }
 
 // 01, "The card, edition 1": "counts and offsets in a header", in the table's order.
-#[derive(Drop)]
+#[derive(Clone, Copy)]
 pub struct Layout {
     pub edition: u16,
     pub atoms: u16,
@@ -70,7 +70,7 @@ pub struct Layout {
 }
 
 // 01, "The card, edition 1": "Node, 4 bytes: kind, a, b, 0."
-#[derive(Drop)]
+#[derive(Clone, Copy)]
 pub struct Node {
     pub kind: u8,
     pub a: u8,
@@ -79,7 +79,7 @@ pub struct Node {
 }
 
 // 01, "The card, edition 1": "Specification, 36 bytes: action, node, 0, 0, Add, Del." The two 0 are one number.
-#[derive(Drop)]
+#[derive(Clone, Copy)]
 pub struct SpecificationEntry {
     pub action: u8,
     pub node: u8,
@@ -89,7 +89,7 @@ pub struct SpecificationEntry {
 }
 
 // 01, "The card, edition 1": "Selection rule, 8 bytes: belief node, goal node, start, length (1..1,024), zero number."
-#[derive(Drop)]
+#[derive(Clone, Copy)]
 pub struct SelectionEntry {
     pub belief: u8,
     pub goal: u8,
@@ -99,7 +99,7 @@ pub struct SelectionEntry {
 
 // 01, "The card, edition 1": "Revision rule, 12 bytes: node, 0, head start, head length (1..1,024), body start, body length
 // (0..1,024), zero number."
-#[derive(Drop)]
+#[derive(Clone, Copy)]
 pub struct RevisionEntry {
     pub node: u8,
     pub plain: u8,
@@ -117,7 +117,7 @@ pub type Plan = [u8; 1024];
 // 01, "A configuration and its transitions": "a set of believed atoms, a set of goal atoms, a plan (0 to 1,024 action numbers)
 // and a phase 0, 1 or 2": all of it but the plan's actions. What a caller hands in may be out of range: row 13. 02, Wish 4: "how
 // many transitions have left the plan empty since load", which has no such rule.
-#[derive(Drop)]
+#[derive(Clone, Copy)]
 pub struct Mind {
     pub beliefs: Set,
     pub goals: Set,
@@ -128,7 +128,7 @@ pub struct Mind {
 
 // Of a mind, all but its sets: how long the plan is, the phase, and the finished count. Where a configuration is lent in parts, its
 // sets and its plan are changed where they lie, and this is handed on.
-#[derive(Drop)]
+#[derive(Clone, Copy)]
 pub struct Standing {
     pub length: u16,
     pub phase: u8,
@@ -137,28 +137,28 @@ pub struct Standing {
 
 // 01, "A configuration and its transitions": "A configuration is …": a mind, and the plan, whose first `length` bytes are its
 // actions.
-#[derive(Drop)]
+#[derive(Clone, Copy)]
 pub struct Configuration {
     pub mind: Mind,
     pub plan: Plan,
 }
 
 // What `check` answers: 01, "Expected forms by place": "each check answers an enum": the card's layout, or the refusal.
-#[derive(Drop)]
+#[derive(Clone, Copy)]
 pub enum Checked {
     Good(Layout),
     Refused(Refusal),
 }
 
 // What `load`, `take` and `restore` answer. 01, "Numbers the guide may answer": "the number and the configuration".
-#[derive(Drop)]
+#[derive(Clone, Copy)]
 pub struct Reply {
     pub answer: Answer,
     pub configuration: Configuration,
 }
 
 // What `grade` answers. 01, "Numbers the guide may answer": "load, restore and grading … answer the empty one".
-#[derive(Drop)]
+#[derive(Clone, Copy)]
 pub struct Graded {
     pub answer: Answer,
     pub verdict: Verdict,
@@ -166,7 +166,7 @@ pub struct Graded {
 }
 
 // What `save` answers. 01, "Numbers the guide may answer": "Saving writes 44 + L bytes and no others."
-#[derive(Drop)]
+#[derive(Clone, Copy)]
 pub struct Written {
     pub answer: Answer,
     pub count: u16,
@@ -175,7 +175,7 @@ pub struct Written {
 
 // What `list` answers. 01, "Numbers the guide may answer": "the answer tells how many". 02, Wish 11: "how many conditions one
 // listing judges" and "how many goals are open".
-#[derive(Drop)]
+#[derive(Clone, Copy)]
 pub struct Listed {
     pub answer: Answer,
     pub count: u16,
@@ -186,7 +186,7 @@ pub struct Listed {
 
 // What `run` answers. 01, "A configuration and its transitions": "the configuration reached, how many transitions were taken,
 // and one of three endings".
-#[derive(Drop)]
+#[derive(Clone, Copy)]
 pub struct Ran {
     pub answer: Answer,
     pub count: u16,
@@ -195,7 +195,7 @@ pub struct Ran {
 }
 
 // What comes next of the guide's own: a move, by its code; rest; or a move, by its code, whose plan would be too long.
-#[derive(Drop)]
+#[derive(Clone, Copy)]
 pub enum Coming {
     Move(u16),
     Rest,
@@ -203,7 +203,7 @@ pub enum Coming {
 }
 
 // What `next` answers, with the configuration as it came in. 00, the card: "The guide shows the next move."
-#[derive(Drop)]
+#[derive(Clone, Copy)]
 pub struct Next {
     pub answer: Answer,
     pub coming: Coming,
@@ -212,7 +212,7 @@ pub struct Next {
 
 // 02, Wish 10: "show that 11 and the ending "full" cannot arise there, and take both out of these answers": the refusals of the two
 // calls for bounded cards, in the order in which they are tested: 1 to 9, 13, 22, 14, 15 and 16 with the node that settled it.
-#[derive(Drop)]
+#[derive(Clone, Copy)]
 pub enum BoundedRefusal {
     Short,
     Mark,
@@ -231,14 +231,14 @@ pub enum BoundedRefusal {
 }
 
 // 01, "Numbers the guide may answer": "done", row 0, or one of these.
-#[derive(Drop)]
+#[derive(Clone, Copy)]
 pub enum BoundedAnswer {
     Done,
     Refused(BoundedRefusal),
 }
 
 // 02, Wish 10: "the ending "full" cannot arise there": the two others.
-#[derive(Drop)]
+#[derive(Clone, Copy)]
 pub enum BoundedEnding {
     // "when the count has reached" the budget
     Spent,
@@ -247,7 +247,7 @@ pub enum BoundedEnding {
 }
 
 // What a chosen move on a bounded card answers. 01, "Numbers the guide may answer": "the number and the configuration".
-#[derive(Drop)]
+#[derive(Clone, Copy)]
 pub struct BoundedReply {
     pub answer: BoundedAnswer,
     pub configuration: Configuration,
@@ -255,7 +255,7 @@ pub struct BoundedReply {
 
 // What a run on a bounded card answers. 01, "A configuration and its transitions": "the configuration reached, how many transitions
 // were taken", and one of two endings.
-#[derive(Drop)]
+#[derive(Clone, Copy)]
 pub struct BoundedRan {
     pub answer: BoundedAnswer,
     pub count: u16,

@@ -38,7 +38,7 @@ pub fn advance(
 }
 
 // What making one move answers beside the sets and the plan.
-#[derive(Drop)]
+#[derive(Clone, Copy)]
 pub struct AdvancedInPlace {
     pub answer: Answer,
     pub step: Stepped,

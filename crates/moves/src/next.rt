@@ -19,7 +19,7 @@ use layout::limits::longest_plan;
 use meaning::{Answer, Checked, Coming, Layout, Plan, Set, Standing};
 
 // What `next` answers where sets and plan are lent: all of `Next` but the configuration, which stays.
-#[derive(Drop)]
+#[derive(Clone, Copy)]
 pub struct NextInPlace {
     pub answer: Answer,
     pub coming: Coming,

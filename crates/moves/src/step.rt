@@ -11,7 +11,7 @@ use layout::limits::{longest_plan, most_finished};
 use meaning::{Layout, Plan, RevisionEntry, Set, Standing};
 
 // What a transition comes to: it is taken, by the kind and number of a choice; there is none; or its plan would be too long.
-#[derive(Drop)]
+#[derive(Clone, Copy)]
 pub enum Transition {
     Taken(u8, usize),
     Nothing,
@@ -19,7 +19,7 @@ pub enum Transition {
 }
 
 // What a transition comes to, and all after it but the sets and the plan. One that is not taken leaves everything as it was.
-#[derive(Drop)]
+#[derive(Clone, Copy)]
 pub struct Stepped {
     pub standing: Standing,
     pub transition: Transition,

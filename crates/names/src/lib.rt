@@ -5,7 +5,7 @@ pub mod sheet;
 use meaning::{Answer, Span};
 
 // The answer, and the part that it hands back: of the master's sheet (0) or of the shed's (1).
-#[derive(Drop)]
+#[derive(Clone, Copy)]
 pub struct Named {
     pub answer: Answer,
     pub sheet: usize,

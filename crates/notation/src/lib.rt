@@ -1,1 +1,3 @@
 // The notation of a text card, in definitions; no code.
+#![tactic(auto)]
+

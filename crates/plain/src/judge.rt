@@ -9,7 +9,7 @@ use unpacked::configuration::Unpacked;
 use unpacked::tables::Tables;
 
 // Whether a condition holds, and "the atom that settled it", by its node.
-#[derive(Drop)]
+#[derive(Clone, Copy)]
 pub struct Judgement {
     pub value: bool,
     pub node: u8,

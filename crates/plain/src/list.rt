@@ -24,7 +24,7 @@ use unpacked::tables::{Tables, unpack_card};
 use unpacked::truths::count_true;
 
 // Codes of choices, and how many they are.
-#[derive(Drop)]
+#[derive(Clone, Copy)]
 pub struct Codes {
     pub codes: [u16; 768],
     pub count: usize,

@@ -16,7 +16,7 @@ use unpacked::configuration::{Unpacked, pack};
 use unpacked::truths::{none_true, strike, unpack_set};
 
 // An answer, and the configuration with it.
-#[derive(Drop)]
+#[derive(Clone, Copy)]
 pub struct Answered {
     pub answer: Answer,
     pub unpacked: Unpacked,

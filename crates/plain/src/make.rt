@@ -17,7 +17,7 @@ use unpacked::tables::Tables;
 use unpacked::truths::{act_on, strike, unpack_set};
 
 // What a transition comes to, and the configuration afterwards: as it was, unless one was taken.
-#[derive(Drop)]
+#[derive(Clone, Copy)]
 pub struct Made {
     pub transition: Transition,
     pub unpacked: Unpacked,

@@ -22,7 +22,7 @@ use unpacked::configuration::{Unpacked, pack, unpack};
 use unpacked::tables::{Tables, unpack_card};
 
 // What a run comes to.
-#[derive(Drop)]
+#[derive(Clone, Copy)]
 pub struct RunsTo {
     pub count: u16,
     pub ending: Ending,

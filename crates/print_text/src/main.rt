@@ -66,7 +66,7 @@ fn no_condition() -> [u8; 2048]
 }
 
 // What the printer says of a condition: its answer's number, and the length of the text.
-#[derive(Drop)]
+#[derive(Clone, Copy)]
 struct Printed {
     number: u16,
     length: usize,

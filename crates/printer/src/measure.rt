@@ -12,7 +12,7 @@ use layout::entries::read_node;
 use meaning::Layout;
 
 // How many nodes a text has, how deep it nests and how many bytes it has.
-#[derive(Drop)]
+#[derive(Clone, Copy)]
 pub struct Measured {
     pub size: u16,
     pub depth: u8,

@@ -13,7 +13,7 @@ use layout::entries::read_node;
 use meaning::{Layout, Node};
 
 // The tasks that a task is taken apart into, in the order of the text.
-#[derive(Drop)]
+#[derive(Clone, Copy)]
 pub enum Parts {
     One(u16),
     Two(u16, u16),

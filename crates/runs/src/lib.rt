@@ -1,7 +1,7 @@
 // Document 01's part: the words in which it speaks of a run's end and of a card's grade. It holds no code.
 
 // 01, "A configuration and its transitions": "one of three endings".
-#[derive(Drop)]
+#[derive(Clone, Copy)]
 pub enum Ending {
     // "when the count has reached" the budget
     Spent,
@@ -12,7 +12,7 @@ pub enum Ending {
 }
 
 // 01, "Weight and grading": "the first offender: the initial plan, then selection rule n, then revision rule n, in that order".
-#[derive(Drop)]
+#[derive(Clone, Copy)]
 pub enum Offender {
     InitialPlan,
     Selection(usize),
@@ -20,7 +20,7 @@ pub enum Offender {
 }
 
 // 01, "Weight and grading": "A card is bounded exactly if …"; "Otherwise it is open, and the verdict carries the first offender".
-#[derive(Drop)]
+#[derive(Clone, Copy)]
 pub enum Verdict {
     Bounded,
     Open(Offender),

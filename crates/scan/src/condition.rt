@@ -5,7 +5,7 @@ ghost use Rattle.scan.specs.Scans.{operator, behind_last, Opens, LeafOver, Close
 use crate::scan::{Scan, scan_number};
 
 // A place in a condition, and how many brackets are open there.
-#[derive(Drop)]
+#[derive(Clone, Copy)]
 pub struct Opened {
     pub at: usize,
     pub brackets: usize,
@@ -87,7 +87,7 @@ fn scan_closing(text: &[u8], at: usize, brackets: usize) -> Opened
 }
 
 // Behind a unit, with how many brackets are open there; or the place of the wrong byte.
-#[derive(Drop)]
+#[derive(Clone, Copy)]
 pub enum UnitScan {
     At(usize, usize),
     Wrong(usize),

@@ -135,7 +135,7 @@ fn scan_begin(text: &[u8], at: usize) -> Scan
 }
 
 // Behind a line, with the stage of the text there; or the place of the wrong byte.
-#[derive(Drop)]
+#[derive(Clone, Copy)]
 pub enum Line {
     At(usize, u8),
     Wrong(usize),

@@ -8,7 +8,7 @@ ghost use Rattle.scan.specs.Scans.{place_of, Scans, ListOver};
 use conditions::number::is_digit;
 
 // Behind a part of the text, or the place of the wrong byte.
-#[derive(Drop)]
+#[derive(Clone, Copy)]
 pub enum Scan {
     At(usize),
     Wrong(usize),

@@ -6,7 +6,7 @@ use crate::truths::{Truths, pack_set, unpack_set};
 use meaning::{Configuration, Mind, Plan, Standing};
 
 // "a set of believed atoms, a set of goal atoms, a plan (0 to 1,024 action numbers) and a phase 0, 1 or 2", unpacked.
-#[derive(Drop)]
+#[derive(Clone, Copy)]
 pub struct Unpacked {
     pub beliefs: Truths,
     pub goals: Truths,

@@ -8,14 +8,14 @@ use layout::entries::{read_node, read_revision, read_selection, read_specificati
 use meaning::{Layout, Node, RevisionEntry, SelectionEntry, Span};
 
 // Of a specification its action and its node; Add and Del are read from the card.
-#[derive(Drop)]
+#[derive(Clone, Copy)]
 pub struct Specified {
     pub action: u8,
     pub node: u8,
 }
 
 // The four tables.
-#[derive(Drop)]
+#[derive(Clone, Copy)]
 pub struct Tables {
     pub nodes: [Node; 256],
     pub specifications: [Specified; 256],

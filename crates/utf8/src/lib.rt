@@ -7,7 +7,7 @@ ghost use Rattle.meaning.specs.Card.{part};
 ghost use Rattle.utf8.specs.Reading.{begins, tails_of, behind_first, behind_tail, behind, utf8};
 
 // What is awaited behind the bytes that were read: so many tails, the next of them within a range.
-#[derive(Drop)]
+#[derive(Clone, Copy)]
 pub struct Awaited {
     pub tails: u8,
     pub low: u8,

@@ -101,7 +101,7 @@ pub fn judge(card: &[u8], l: Layout) -> Verdict
 }
 
 // Of `Graded`: all but the configuration, which is the empty one.
-#[derive(Drop)]
+#[derive(Clone, Copy)]
 pub struct GradedInPlace {
     pub answer: Answer,
     pub verdict: Verdict,
