@@ -13,13 +13,82 @@ from pathlib import Path
 
 
 def plain(name):
-    return name.replace("_", "-").replace("overflow-", "").replace("Need-", "")
+    """A name without what its spellings differ in."""
+    return re.sub(r"-lem$", "", name.replace("_", "-")).replace("overflow-", "").replace("Need-", "")
+
+
+def clause_names(crates):
+    """Of each function the names of its `requires` and of its `ensures`, where it has more than one."""
+    made = {}
+    for path in sorted(crates.glob("*/src/**/*.rt")):
+        crate = path.relative_to(crates).parts[0]
+        module = [part for part in path.relative_to(crates / crate / "src").with_suffix("").parts if part not in ("lib", "main")]
+        text = path.read_text("utf-8")
+        for m in re.finditer(r"(?m)^\s*(?:pub )?(?:extern \"C\" )?fn (\w+)", text):
+            head = re.split(r"(?m)^\s*\{|\{$", text[m.start():], maxsplit=1)[0]
+            pair = [re.findall(rf"(?m)^\s*{kind} (\w+) \{{", head) for kind in ("requires", "ensures")]
+            made["::".join([crate, *module, m.group(1)])] = [names if len(names) > 1 else [] for names in pair]
+    return made
+
+
+def top_parts(text):
+    """The parts of a tuple that ends a body: (what stands before it, its parts), or None."""
+    text = text.rstrip()
+    if not text.endswith(")"):
+        return None
+    depth, k = 0, len(text) - 1
+    while k >= 0:
+        depth += (text[k] in ")]}") - (text[k] in "([{")
+        if depth == 0:
+            break
+        k -= 1
+    before = text[:k].rstrip()
+    if not re.search(r"( in| =)$", before):
+        return None
+    parts, start, depth = [], k + 1, 0
+    for j in range(k + 1, len(text) - 1):
+        depth += (text[j] in "([{") - (text[j] in ")]}")
+        if text[j] == "," and depth == 0:
+            parts.append(text[start:j].strip())
+            start = j + 1
+    last = text[start:-1].strip()
+    return before, parts + ([last] if last else [])
+
+
+def recorded(text, names):
+    """A body whose value is a tuple of the clauses' facts, as the record of them by their names."""
+    if not names:
+        return text
+    found = top_parts(text)
+    if not found or len(found[1]) != len(names):
+        return text
+    before, parts = found
+    inner = "".join(f"      {name} = {part};\n" for name, part in zip(names, parts))
+    return before + " record {\n" + inner + "    }"
+
+
+def by_name(text, f, own):
+    """The parts of clauses by their names in place of their numbers."""
+    paths = [("c.requires", own[0])]
+    for _, (_, new), callee in f.callees:
+        if callee in f.clauses:
+            paths.append((f"c.{new}.ensures", f.clauses[callee][1]))
+            paths.append((f"c.{new}.requires", f.clauses[callee][0]))
+    for path, names in paths:
+        if not names:
+            continue
+        aliases = [re.escape(path)] + [re.escape(m) for m in re.findall(rf"let ([\w'₀-₉]+) = {re.escape(path)} in", text)]
+        for alias in aliases:
+            text = re.sub(rf"(?<![\w.'-]){alias}\.(\d+)(?![\w'-])", lambda m: m.group(0)[: -len(m.group(1))] + (names[int(m.group(1))] if int(m.group(1)) < len(names) else m.group(1)), text)
+    return text
 
 
 class Function:
     """What the check knows of a function's places, in the older names and in today's."""
 
-    def __init__(self, entry):
+    def __init__(self, entry, clauses):
+        self.clauses = clauses
+        self.callees = [(p[0], p[2], p[3]) for p in entry["places"] if p[3]]
         self.needs = {}
         for (old, new), at in zip(entry["needs"], entry["asked_at"]):
             self.needs[plain(old)] = (new, at[0])
@@ -64,7 +133,7 @@ def turned(text, f, place, said):
         for at, (old, new) in chain:
             if plain(field) == plain(old):
                 return f"c.{new}" + rest
-        return "c." + field.replace("well-formed", "well_formed") + rest
+        return "c." + re.sub(r"_lem$", "", field).replace("well-formed", "well_formed") + rest
 
     names = "|".join(re.escape(a) for a in sorted(aliases, key=len, reverse=True))
     text = re.sub(rf"(?<![\w.'-])({names})((?:\.before)*)\.(?!before)([\w'-]+)((?:\.[\w'-]+)*)", one, text)
@@ -108,8 +177,9 @@ def body_of(name, lines):
     return lines[:1], unfolding, lines[k:]
 
 
-def convert(folder, crate, entry, path):
-    f = Function(entry)
+def convert(folder, crate, entry, path, clauses):
+    f = Function(entry, clauses)
+    own = clauses.get("::".join([crate, *path.split(".")]), [[], []])
     text = (folder / "Proof.antt").read_text("utf-8")
     said, answers, invariants, helpers, uses = [], [], [], [], []
     fn = folder.name
@@ -166,7 +236,15 @@ def convert(folder, crate, entry, path):
                     params = [p for p in m.group(1).split() if p not in ("κs",)]
                     line = f"{new} {' '.join(params)} ={m.group(3)}" if params else f"{new} ={m.group(3)}"
                 made.append(line)
-            whole = turned("\n".join(made).rstrip(), f, place, said)
+            whole = by_name(turned("\n".join(made).rstrip(), f, place, said), f, own)
+            if new.startswith("returns"):
+                whole = recorded(whole, own[1])
+            asked = re.match(r"(.*)-requires(-\d+)?$", new)
+            if asked:
+                for _, (_, step), callee in f.callees:
+                    if new.startswith(step.rstrip("-0123456789")) and callee in clauses and callee.split("::")[-1] in new:
+                        whole = recorded(whole, clauses[callee][0])
+                        break
             if re.fullmatch(rf"{re.escape(new)} c = (search rules|omega arith|refl|tt)", whole.strip()) and not unfolding:
                 continue
             answers.append(f"pub {new} : goal.{new}\n" + "".join(u + "\n" for u in unfolding) + whole)
@@ -188,6 +266,7 @@ def main():
     crate = crate_folder.name
     names = json.loads(Path(sys.argv[2]).read_text("utf-8"))
     only = sys.argv[3:]
+    clauses = clause_names(crate_folder.parent)
     for key, entry in names.items():
         m = re.fullmatch(rf"Rattle-{crate}-proofs\.(.*)\.Lts", key)
         if not m:
@@ -197,7 +276,7 @@ def main():
         if only and folder.name not in only or not (folder / "Proof.antt").exists():
             continue
         try:
-            said = convert(folder, crate, entry, path)
+            said = convert(folder, crate, entry, path, clauses)
         except Exception as e:  # told, and left as it is
             said = [repr(e)]
         if said:
