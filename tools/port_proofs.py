@@ -71,6 +71,11 @@ def by_name(text, f, own):
     """The parts of clauses by their names in place of their numbers."""
     paths = [("c.requires", own[0])]
     for _, (_, new), callee in f.callees:
+        params = f.params.get(callee, [])
+        steps = [re.escape(f"c.{new}")] + [re.escape(m) for m in re.findall(rf"let ([\w'₀-₉]+) = c\.{re.escape(new)} in", text)]
+        for step in steps:
+            text = re.sub(rf"(?<![\w.'-]){step}\.new((?:\.1)*)\.0(?![\w'-])", lambda m: m.group(0).split(".new")[0] + ".new." + params[m.group(1).count(".1")] if m.group(1).count(".1") < len(params) else m.group(0), text)
+    for _, (_, new), callee in f.callees:
         if callee in f.clauses:
             paths.append((f"c.{new}.ensures", f.clauses[callee][1]))
             paths.append((f"c.{new}.requires", f.clauses[callee][0]))
@@ -78,6 +83,8 @@ def by_name(text, f, own):
         if not names:
             continue
         aliases = [re.escape(path)] + [re.escape(m) for m in re.findall(rf"let ([\w'₀-₉]+) = {re.escape(path)} in", text)]
+        step, field = path.rsplit(".", 1)
+        aliases += [re.escape(f"{m}.{field}") for m in re.findall(rf"let ([\w'₀-₉]+) = {re.escape(step)} in", text) if step != "c"]
         for alias in aliases:
             text = re.sub(rf"(?<![\w.'-]){alias}\.(\d+)(?![\w'-])", lambda m: m.group(0)[: -len(m.group(1))] + (names[int(m.group(1))] if int(m.group(1)) < len(names) else m.group(1)), text)
     return text
@@ -89,6 +96,7 @@ class Function:
     def __init__(self, entry, clauses):
         self.clauses = clauses
         self.callees = [(p[0], p[2], p[3]) for p in entry["places"] if p[3]]
+        self.params = entry["params"]
         self.needs = {}
         for (old, new), at in zip(entry["needs"], entry["asked_at"]):
             self.needs[plain(old)] = (new, at[0])

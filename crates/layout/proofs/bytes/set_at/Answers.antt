@@ -1,0 +1,27 @@
+use Rattle.layout.proofs.Copying.{copy_set}
+use Rattle.meaning.specs.Card.{part, widened}
+use Rattle.meaning.proofs.Widening.{set_second, set_first}
+use mathlib.Core.Path.{sym, ap, ◌∙◌}
+use native.Mathlib.Omega.{arith}
+use borrow.Author.Rules.{rules}
+use Rattle.layout.proofs.bytes.set_at.Goals as goal
+
+pub copy-requires : goal.copy-requires
+copy-requires c = let e = set_second _ c.if-edition-eq2.true in (omega arith, omega arith)
+
+pub returns-then-edition-eq2 : goal.returns-then-edition-eq2
+returns-then-edition-eq2 c =
+    let e = set_second _ c.if-edition-eq2.true in
+    c.copy.ensures
+    ∙ copy_set c.args.bytes.now c.args.at 32 (omega arith) (omega arith)
+    ∙ ap (λ n. widened (part c.args.bytes.now c.args.at n)) (sym e)
+
+pub copy-requires-2 : goal.copy-requires-2
+copy-requires-2 c = let e = set_first _ c.if-edition-eq2.false in (omega arith, omega arith)
+
+pub returns : goal.returns
+returns c =
+    let e = set_first _ c.if-edition-eq2.false in
+    c.copy-2.ensures
+    ∙ copy_set c.args.bytes.now c.args.at 16 (omega arith) (omega arith)
+    ∙ ap (λ n. widened (part c.args.bytes.now c.args.at n)) (sym e)

@@ -1,0 +1,5 @@
+use borrow.Author.Rules.{rules}
+use Rattle.layout.proofs.entries.initial_beliefs.Goals as goal
+
+pub returns : goal.returns
+returns c = cc

@@ -1,0 +1,5 @@
+use borrow.Author.Rules.{rules}
+use Rattle.layout.proofs.entries.read_weight.Goals as goal
+
+pub returns : goal.returns
+returns c = (cc, c.number_at.ensures.1)
