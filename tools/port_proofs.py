@@ -14,7 +14,7 @@ from pathlib import Path
 
 def plain(name):
     """A name without what its spellings differ in."""
-    return re.sub(r"-lem$", "", name.replace("_", "-")).replace("overflow-", "").replace("Need-", "")
+    return re.sub(r"-lem$", "", name.replace("_", "-")).replace("overflow-", "").replace("Need-", "").lower()
 
 
 def clause_names(crates):
@@ -129,13 +129,14 @@ def turned(text, f, place, said):
         depth = aliases[m.group(1)] + m.group(2).count(".before")
         field = m.group(3)
         rest = m.group(4) or ""
+        given = rest.lstrip(".").split(".") if rest else []
+        for at, _ in chain[depth:] + chain[:depth]:
+            arm = f.arms.get(at)
+            for name, holder, path in (arm[2] if arm else []):
+                if plain(field) == plain(holder) and given[: len(path)] == path:
+                    return ".".join([f"c.{arm[0]}.{name}", *given[len(path):]])
         if depth < len(chain):
             at, (old, new) = chain[depth]
-            arm = f.arms.get(at)
-            if plain(field) == plain(old) and arm and arm[2]:
-                for name, holder, path in arm[2]:
-                    if plain(holder) == plain(old) and (not path or rest.lstrip(".").split(".")[0] == path[0]):
-                        return f"c.{arm[0]}.{name}" + ("" if path else rest)
             if plain(field) == plain(old):
                 return f"c.{new}" + rest
         for at, (old, new) in chain:
@@ -145,6 +146,7 @@ def turned(text, f, place, said):
 
     names = "|".join(re.escape(a) for a in sorted(aliases, key=len, reverse=True))
     text = re.sub(rf"(?<![\w.'-])({names})((?:\.before)*)\.(?!before)([\w'-]+)((?:\.[\w'-]+)*)", one, text)
+    text = re.sub(r"\(?not-(?:true|false) _ \(?(c\.if-not-[\w-]+\.(?:true|false))\)?\)?", lambda m: m.group(1) if m.group(0).count("(") == m.group(0).count(")") else m.group(0), text)
     for old, new in f.args:
         if re.fullmatch(r"t\d+", old):
             text = re.sub(rf"\.{old}(?![\w'-])", f".{new}", text)
@@ -219,10 +221,10 @@ def convert(folder, crate, entry, path, clauses):
             if len(given) != len(meant):
                 said.append(f"{name}: {len(given)} names for {len(meant)}: {' '.join(meant)}")
             rest = clause[m.end():]
-            for g, w in zip(given, meant):
-                if g != "_":
-                    rest = re.sub(rf"(?<![\w.'₀-₉-]){re.escape(g)}(?![\w'₀-₉-])", "\0" + w + "\0", rest)
-            rest = rest.replace("\0", "")
+            by = {g: w for g, w in zip(given, meant) if g != "_"}
+            if by:
+                word = "|".join(re.escape(g) for g in sorted(by, key=len, reverse=True))
+                rest = re.sub(rf"(?<![\w.'₀-₉-])({word})(?![\w'₀-₉-])", lambda m: by[m.group(1)], rest)
             kind = sig.group(1)
             invariants.append(f"abbrev pub {kind}{new} : goal.{kind}{new}\n" + "".join(u + "\n" for u in unfolding) + f"{kind}{new} l ={rest}")
             continue
