@@ -120,10 +120,13 @@ def turned(text, f, place, said):
     """A body at a place: each way through the places in today's names."""
     chain = f.chain(place)
     aliases = {"c": 0}
-    for m in re.finditer(r"let ([\w'₀-₉]+) = c((?:\.before)+) in", text):
-        aliases[m.group(1)] = m.group(2).count(".before")
-    text = re.sub(r"let [\w'₀-₉]+ = c(?:\.before)+ in\n\s*", "", text)
-    text = re.sub(r"let [\w'₀-₉]+ = c(?:\.before)+ in ", "", text)
+    while True:
+        known = "|".join(re.escape(a) for a in sorted(aliases, key=len, reverse=True))
+        m = re.search(rf"let ([\w'₀-₉]+) = ({known})((?:\.before)+) in\s*", text)
+        if not m:
+            break
+        aliases[m.group(1)] = aliases[m.group(2)] + m.group(3).count(".before")
+        text = text[: m.start()] + text[m.end():]
 
     def one(m):
         depth = aliases[m.group(1)] + m.group(2).count(".before")
@@ -146,12 +149,30 @@ def turned(text, f, place, said):
 
     names = "|".join(re.escape(a) for a in sorted(aliases, key=len, reverse=True))
     text = re.sub(rf"(?<![\w.'-])({names})((?:\.before)*)\.(?!before)([\w'-]+)((?:\.[\w'-]+)*)", one, text)
-    text = re.sub(r"\(?not-(?:true|false) _ \(?(c\.if-not-[\w-]+\.(?:true|false))\)?\)?", lambda m: m.group(1) if m.group(0).count("(") == m.group(0).count(")") else m.group(0), text)
+    text = re.sub(r"not-(?:true|false) _ (?:\((c\.if-not-[\w-]+\.(?:true|false))\)|(c\.if-not-[\w-]+\.(?:true|false)))", lambda m: m.group(1) or m.group(2), text)
     for old, new in f.args:
         if re.fullmatch(r"t\d+", old):
             text = re.sub(rf"\.{old}(?![\w'-])", f".{new}", text)
     if re.search(rf"(?<![\w.'-])({names})\.before", text):
         said.append("a place is handed on")
+    return text
+
+
+def apart(text, names):
+    """A body in which no bound variable has one of the names."""
+    for name in names:
+        while True:
+            m = re.search(rf"\(λ ((?:[\w'₀-₉]+ )*){re.escape(name)}((?: [\w'₀-₉]+)*)\. ", text)
+            if not m:
+                break
+            depth, k = 0, m.start()
+            while k < len(text):
+                depth += (text[k] in "([{") - (text[k] in ")]}")
+                if depth == 0:
+                    break
+                k += 1
+            inner = re.sub(rf"(?<![\w.'₀-₉-]){re.escape(name)}(?![\w'₀-₉-])", name + "₁", text[m.start():k])
+            text = text[: m.start()] + inner + text[k:]
     return text
 
 
@@ -223,6 +244,7 @@ def convert(folder, crate, entry, path, clauses):
             rest = clause[m.end():]
             by = {g: w for g, w in zip(given, meant) if g != "_"}
             if by:
+                rest = apart(rest, by)
                 word = "|".join(re.escape(g) for g in sorted(by, key=len, reverse=True))
                 rest = re.sub(rf"(?<![\w.'₀-₉-])({word})(?![\w'₀-₉-])", lambda m: by[m.group(1)], rest)
             kind = sig.group(1)
