@@ -6,30 +6,20 @@ use mathlib.Core.List.{List}
 use Prim.Native.Nat.{ℕ, ◌+◌, ◌-◌, ◌≤◌}
 use native.Mathlib.Omega.{arith}
 use borrow.Author.Rules.{rules}
-use Rattle.plans.proofs.clear.Statement.{statement}
-use Rattle.plans.proofs.clear.Tie as tie
+use Rattle.plans.proofs.clear.Goals as goal
 
-abbrev invariant-loop : tie.invariant-loop
-invariant-loop s₀ from to i₀ s i = (from ≤ i) × (i ≤ to) × (s ≡ paste s₀ from (replicate (to - from) 0) (i - from)) × (length s ≡ length s₀)
-
-abbrev decreases-loop : tie.decreases-loop
-decreases-loop s₀ from to i₀ s i = to - i
-
-loop-holds : tie.Need-loop-init invariant-loop decreases-loop
-loop-holds c =
+pub loop-i-init : goal.loop-i-init
+loop-i-init c =
     let a = c.args in
     let d : List ℕ = a.s.now in
     let e : 0 ≡ a.from - a.from = omega arith in
     let z : List ℕ = replicate (a.to - a.from) 0 in
     (omega arith, omega arith, paste-zero d a.from z ∙ ap (paste d a.from z) e, refl)
 
-loop-less : tie.Need-loop-smaller invariant-loop decreases-loop
-loop-less c = search rules
-
-loop-again : tie.Need-loop-preserved invariant-loop decreases-loop
-loop-again c =
-    let a = c.before.before.args in
-    let l = c.before.loop in
+pub loop-i-preserved : goal.loop-i-preserved
+loop-i-preserved c =
+    let a = c.args in
+    let l = c.loop-i in
     let d = l.invariant.3 in (
       omega arith,
       omega arith,
@@ -37,10 +27,10 @@ loop-again c =
       simp length-set l.invariant.3,
     )
 
-returns : tie.Need-returns invariant-loop decreases-loop
+pub returns : goal.returns
 returns c =
-    let a = c.before.before.args in
-    let l = c.before.loop in
+    let a = c.args in
+    let l = c.loop-i in
     let d : List ℕ = a.s.now in
     let z : List ℕ = replicate (a.to - a.from) 0 in
     let e : l.i ≡ a.to = omega arith in
@@ -48,8 +38,3 @@ returns c =
     l.invariant.2
     ∙ ap (λ (k : ℕ). paste d a.from z (k - a.from)) e
     ∙ rw (f, take_all (a.to - a.from) z (omega (arith, length-replicate {A = ℕ} (a.to - a.from) 0)))
-
-pub clear_spec : {M : Type 1} → statement M
-clear_spec =
-    tie.close
-    (tie.spec invariant-loop decreases-loop loop-holds (λ c. search rules) (λ c. search rules) loop-less loop-again (λ c. search rules) returns)
