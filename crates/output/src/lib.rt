@@ -1,19 +1,22 @@
-// What the programs write: words, numbers, the front of a buffer.
+// What the programs write: words, numbers, the front of a buffer. A failed write may have written a part.
+#![tactic(auto)]
+
+use std::io;
 
 // Words, on standard output.
-pub fn write(words: &[u8]) {
-    io::write_all(1, words);
+pub fn write(rt: HostRuntime, words: &[u8]) -> io::Result<()> {
+    rt.write_all(words)
 }
 
 // A number after a space, on standard output or standard error.
-pub fn also(to: i32, n: u64) {
-    io::write_all(to, b" ");
-    io::print_decimal(to, n);
+pub fn also<P: Print + Drop>(to: P, n: u64) -> io::Result<()> {
+    print!(to; " {n}")
 }
 
 // The first n bytes, on standard output.
-pub fn write_front(bytes: &[u8], n: usize) {
+pub fn write_front(rt: HostRuntime, bytes: &[u8], n: usize) -> io::Result<()> {
     if n <= bytes.len() {
-        io::write_all(1, &bytes[0..n]);
+        rt.write_all(&bytes[0..n])?;
     }
+    Ok(())
 }

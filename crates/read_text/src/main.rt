@@ -1,10 +1,14 @@
 // Reads a text card on standard input and writes the card that it stands for on standard output; of a refused text one line,
 // `refused` and the number, and with 17 the place. Standard error then has the bytes that could have stood there, by their numbers.
+#![tactic(auto)]
+
 ghost use Rattle.std.specs.Prelude.{◌≡◌, ◌≤◌, length};
 
 use answers::{answer_carried, answer_number};
+use input::read_full;
 use meaning::Answer;
-use output::{also, write_front};
+use output::{also, write, write_front};
+use std::io;
 
 // Room for a text: 65,536 bytes, and one more, in which a longer text shows.
 fn no_text() -> [u8; 65537]
@@ -23,14 +27,14 @@ fn no_card() -> [u8; 24128]
 // ---- a refused text
 
 // The number of a refusal, and the place with 17.
-fn refused(answer: Answer) {
+fn refused(rt: HostRuntime, answer: Answer) -> io::Result<()> {
     let number = answer_number(answer);
-    io::write_all(1, b"refused");
-    also(1, number as u64);
+    write(rt, b"refused")?;
+    also(rt, number as u64)?;
     if number == 17 {
-        also(1, answer_carried(answer) as u64);
+        also(rt, answer_carried(answer) as u64)?;
     }
-    io::write_all(1, b"\n");
+    write(rt, b"\n")
 }
 
 // Whether a text is refused with 17 at a place.
@@ -42,7 +46,7 @@ fn slips_at(text: &[u8], place: usize) -> bool {
 }
 
 // The bytes that could have stood at the end of a text's front: with any other one there it slips at that same place.
-fn say_what_could_stand(front: &mut [u8])
+fn say_what_could_stand(rt: HostRuntime, front: &mut [u8]) -> io::Result<()>
     requires { 1 ≤ length front.old }
 {
     let place = front.len() - 1;
@@ -50,45 +54,46 @@ fn say_what_could_stand(front: &mut [u8])
     while byte < 256 {
         front[place] = byte as u8;
         if !slips_at(front, place) {
-            also(2, byte as u64);
+            also(rt.stderr(), byte as u64)?;
         }
         byte += 1;
     }
-    io::write_all(2, b"\n");
+    rt.eprintln("")
 }
 
 // The same of a place in a text.
-fn say_of_place(text: &mut [u8], place: usize) {
+fn say_of_place(rt: HostRuntime, text: &mut [u8], place: usize) -> io::Result<()> {
     if place < text.len() {
-        say_what_could_stand(&mut text[0..place + 1]);
+        say_what_could_stand(rt, &mut text[0..place + 1])?;
     }
+    Ok(())
 }
 
 // ---- the text
 
 // The card of a text, or its refusal.
-fn show(text: &[u8]) -> Answer {
+fn show(rt: HostRuntime, text: &[u8]) -> io::Result<Answer> {
     let mut card = no_card();
     let read = reader::read::read(text, &mut card);
     let answer = read.answer;
     let n = read.count as usize;
     let Answer::Done = answer else {
-        refused(answer);
-        return answer;
+        refused(rt, answer)?;
+        return Ok(answer);
     };
-    write_front(&card, n);
-    answer
+    write_front(rt, &card, n)?;
+    Ok(answer)
 }
 
-fn main() {
+fn main(rt: HostRuntime) -> io::Result<()> {
     let mut text = no_text();
-    let n = io::read_full(0, &mut text);
+    let n = read_full(&mut rt.stdin(), &mut text)?;
     if 65536 < n {
-        io::write_all(2, b"the text has over 65,536 bytes\n");
-        return;
+        return rt.eprintln("the text has over 65,536 bytes");
     }
-    let answer = show(&text[..n]);
+    let answer = show(rt, &text[..n])?;
     if answer_number(answer) == 17 {
-        say_of_place(&mut text, answer_carried(answer));
+        say_of_place(rt, &mut text, answer_carried(answer))?;
     }
+    Ok(())
 }

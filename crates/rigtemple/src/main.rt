@@ -1,5 +1,7 @@
 // Document 01's program: it reads a card on standard input (at most 24,129 bytes), loads it and runs it with budget 1,000, a line
 // a step on standard output. Standard error says in words what is left.
+#![tactic(auto)]
+
 ghost use Rattle.std.specs.Prelude.{◌≤◌, ◌<◌};
 ghost use Rattle.layout.specs.GoodLayout.{GoodLayout};
 ghost use Rattle.choices.specs.Judged.{SomeSets};
@@ -10,41 +12,43 @@ use choices::ask::{ask, choose};
 use choices::truth::{Marks, judge_nodes, no_marks};
 use door::admit::admit;
 use door::asked::{Asked, Chosen};
+use input::read_full;
 use layout::entries::{count_of, read_weight};
 use layout::sizes::most_atoms;
 use meaning::{Checked, Configuration, Layout, Plan, Set, Standing};
 use moves::advance::advance_once;
 use moves::step::Transition;
-use output::also;
+use output::{also, write};
 use runs::{Ending, Offender, Verdict};
+use std::io;
 
 // ---- the lines
 
 // A word, and the end of the line.
-fn end(word: &[u8]) {
-    io::write_all(1, word);
-    io::write_all(1, b"\n");
+fn end(rt: HostRuntime, word: &[u8]) -> io::Result<()> {
+    write(rt, word)?;
+    write(rt, b"\n")
 }
 
 // "First line: bytes, verdict (bounded or open)."
-fn first_line(bytes: usize, verdict: Verdict) {
-    io::write_all(1, b"card");
-    also(1, bytes as u64);
+fn first_line(rt: HostRuntime, bytes: usize, verdict: Verdict) -> io::Result<()> {
+    write(rt, b"card")?;
+    also(rt, bytes as u64)?;
     match verdict {
-        Verdict::Bounded => end(b" bounded"),
-        Verdict::Open(_) => end(b" open"),
+        Verdict::Bounded => end(rt, b" bounded"),
+        Verdict::Open(_) => end(rt, b" open"),
     }
 }
 
 // "Last: ending (rest, spent, full), count."
-fn last_line(ending: Ending, count: u16) {
+fn last_line(rt: HostRuntime, ending: Ending, count: u16) -> io::Result<()> {
     match ending {
-        Ending::Rest => io::write_all(1, b"rest"),
-        Ending::Spent => io::write_all(1, b"spent"),
-        Ending::Full => io::write_all(1, b"full"),
+        Ending::Rest => write(rt, b"rest")?,
+        Ending::Spent => write(rt, b"spent")?,
+        Ending::Full => write(rt, b"full")?,
     };
-    also(1, count as u64);
-    end(b"");
+    also(rt, count as u64)?;
+    end(rt, b"")
 }
 
 // The weight of an action, as the card has it; 0 if it has none.
@@ -76,151 +80,158 @@ fn plan_weight(card: &[u8], l: Layout, plan: &Plan, n: usize) -> u64
 }
 
 // "Step lines: count, kind, number, plan length after, plan weight after."
-fn step_line(count: u16, kind: u8, number: usize, length: u16, weight: u64) {
-    io::print_decimal(1, count as u64);
+fn step_line(
+    rt: HostRuntime,
+    count: u16,
+    kind: u8,
+    number: usize,
+    length: u16,
+    weight: u64,
+) -> io::Result<()> {
+    rt.print(count as u64)?;
     match kind {
-        0 => io::write_all(1, b" select"),
-        1 => io::write_all(1, b" act"),
-        _ => io::write_all(1, b" revise"),
+        0 => write(rt, b" select")?,
+        1 => write(rt, b" act")?,
+        _ => write(rt, b" revise")?,
     };
-    also(1, number as u64);
-    also(1, length as u64);
-    also(1, weight);
-    end(b"");
+    also(rt, number as u64)?;
+    also(rt, length as u64)?;
+    also(rt, weight)?;
+    end(rt, b"")
 }
 
 // ---- what is left, in words
 
-// Words, by one write: `io::write_all` has 4,096 bytes on the stack for what one write leaves, in every function that says words.
-fn say(words: &[u8]) {
-    libc::write(2, words);
+// Words, on standard error.
+fn say(rt: HostRuntime, words: &[u8]) -> io::Result<()> {
+    rt.stderr().write_all(words)
 }
 
 // A number after a space.
-fn say_number(n: u64) {
-    let mut text = [0u8; 20];
-    let k = io::decimal(n, &mut text);
-    say(b" ");
-    say(&text[..k]);
+fn say_number(rt: HostRuntime, n: u64) -> io::Result<()> {
+    also(rt.stderr(), n)
 }
 
 // A choice as the lines have it: the kind, and the number after it.
-fn say_choice(kind: u8, number: usize) {
+fn say_choice(rt: HostRuntime, kind: u8, number: usize) -> io::Result<()> {
     match kind {
-        0 => say(b" select"),
-        1 => say(b" act"),
-        _ => say(b" revise"),
+        0 => say(rt, b" select")?,
+        1 => say(rt, b" act")?,
+        _ => say(rt, b" revise")?,
     };
-    say_number(number as u64);
-    say(b"\n");
+    say_number(rt, number as u64)?;
+    say(rt, b"\n")
 }
 
 // "the verdict carries the first offender: the initial plan, then selection rule n, then revision rule n"
-fn say_offender(offender: Offender) {
-    say(b"the card is open:");
+fn say_offender(rt: HostRuntime, offender: Offender) -> io::Result<()> {
+    say(rt, b"the card is open:")?;
     match offender {
-        Offender::InitialPlan => say(b" the initial plan weighs over 1,024\n"),
+        Offender::InitialPlan => say(rt, b" the initial plan weighs over 1,024\n"),
         Offender::Selection(n) => {
-            say(b" selection");
-            say_number(n as u64);
-            say(b" has a plan that weighs over 1,024\n");
+            say(rt, b" selection")?;
+            say_number(rt, n as u64)?;
+            say(rt, b" has a plan that weighs over 1,024\n")
         }
         Offender::Revision(n) => {
-            say(b" revision");
-            say_number(n as u64);
-            say(b" has a body that is not lighter than its head\n");
+            say(rt, b" revision")?;
+            say_number(rt, n as u64)?;
+            say(rt, b" has a body that is not lighter than its head\n")
         }
     }
 }
 
 // What a designer may not have meant: that the card is open, or begins with no goal.
-fn say_doubts(verdict: Verdict, goals: Set) {
+fn say_doubts(rt: HostRuntime, verdict: Verdict, goals: Set) -> io::Result<()> {
     if let Verdict::Open(offender) = verdict {
-        say_offender(offender);
+        say_offender(rt, offender)?;
     }
     if sets::known(goals, 0) {
-        say(b"the card begins with no goal\n");
+        say(rt, b"the card begins with no goal\n")?;
     }
+    Ok(())
 }
 
 // A thing and its number, in a row of such: after a comma, unless it is the first.
-fn say_in_row(first: bool, thing: &[u8], number: u64) {
+fn say_in_row(rt: HostRuntime, first: bool, thing: &[u8], number: u64) -> io::Result<()> {
     if !first {
-        say(b",");
+        say(rt, b",")?;
     }
-    say(thing);
-    say_number(number);
+    say(rt, thing)?;
+    say_number(rt, number)
 }
 
 // The goals that are open, by their atoms.
-fn say_goals(l: Layout, goals: Set) {
-    say(b"goals open:");
+fn say_goals(rt: HostRuntime, l: Layout, goals: Set) -> io::Result<()> {
+    say(rt, b"goals open:")?;
     let n = most_atoms(l);
     let mut none = true;
     let mut k: usize = 0;
     while k < n {
         if sets::member(goals, k as u8) {
-            say_in_row(none, b" atom", k as u64);
+            say_in_row(rt, none, b" atom", k as u64)?;
             none = false;
         }
         k += 1;
     }
     if none {
-        say(b" none");
+        say(rt, b" none")?;
     }
-    say(b"\n");
+    say(rt, b"\n")
 }
 
 // How many actions are in the plan, and its first.
-fn say_plan(length: u16, first: u8) {
-    say(b"actions in the plan:");
+fn say_plan(rt: HostRuntime, length: u16, first: u8) -> io::Result<()> {
+    say(rt, b"actions in the plan:")?;
     if length == 0 {
-        say(b" none\n");
-        return;
+        return say(rt, b" none\n");
     }
-    say_number(length as u64);
-    say(b", the first is action");
-    say_number(first as u64);
-    say(b"\n");
+    say_number(rt, length as u64)?;
+    say(rt, b", the first is action")?;
+    say_number(rt, first as u64)?;
+    say(rt, b"\n")
 }
 
 // That no choice of a kind is enabled: for a specification, that the plan's first action has no move.
-fn say_kind(kind: u8, first: u8) {
+fn say_kind(rt: HostRuntime, kind: u8, first: u8) -> io::Result<()> {
     match kind {
-        0 => say(b"no selection fits:"),
+        0 => say(rt, b"no selection fits:"),
         1 => {
-            say(b"action");
-            say_number(first as u64);
-            say(b" has no move:");
+            say(rt, b"action")?;
+            say_number(rt, first as u64)?;
+            say(rt, b" has no move:")
         }
-        _ => say(b"no revision fits:"),
+        _ => say(rt, b"no revision fits:"),
     }
 }
 
 // That false conditions close the choices of a kind that follow.
-fn say_conditions(kind: u8) {
+fn say_conditions(rt: HostRuntime, kind: u8) -> io::Result<()> {
     match kind {
-        0 => say(b" a condition is false in"),
-        1 => say(b" the condition is false in"),
-        _ => say(b" the plan begins with the head, but the condition is false in"),
+        0 => say(rt, b" a condition is false in"),
+        1 => say(rt, b" the condition is false in"),
+        _ => say(
+            rt,
+            b" the plan begins with the head, but the condition is false in",
+        ),
     }
 }
 
 // A choice of a kind, in a row of such.
-fn say_closed_choice(first: bool, kind: u8, number: u64) {
+fn say_closed_choice(rt: HostRuntime, first: bool, kind: u8, number: u64) -> io::Result<()> {
     match kind {
-        0 => say_in_row(first, b" selection", number),
-        1 => say_in_row(first, b" specification", number),
-        _ => say_in_row(first, b" revision", number),
+        0 => say_in_row(rt, first, b" selection", number),
+        1 => say_in_row(rt, first, b" specification", number),
+        _ => say_in_row(rt, first, b" revision", number),
     }
 }
 
 // That there is no choice of a kind for the front of the plan.
-fn say_front(kind: u8) {
+fn say_front(rt: HostRuntime, kind: u8) -> io::Result<()> {
     match kind {
-        0 => say(b" the card has none"),
-        1 => say(b" it has no specification"),
-        _ => say(b" the plan begins with the head of none"),
+        0 => say(rt, b" the card has none"),
+        1 => say(rt, b" it has no specification"),
+        _ => say(rt, b" the plan begins with the head of none"),
     }
 }
 
@@ -235,45 +246,62 @@ fn waits(asked: Asked) -> bool {
 }
 
 // Why no choice of a kind is enabled: the numbers of those that only a false condition closes, or that there are none.
-fn say_closed(card: &[u8], l: Layout, m: Standing, plan: &Plan, marks: &Marks, kind: u8)
+fn say_closed(
+    rt: HostRuntime,
+    card: &[u8],
+    l: Layout,
+    m: Standing,
+    plan: &Plan,
+    marks: &Marks,
+    kind: u8,
+) -> io::Result<()>
     requires { SomeSets l card.now m plan.now marks.now × (kind < 3) }
 {
-    say_kind(kind, plan[0]);
+    say_kind(rt, kind, plan[0])?;
     let n = count_of(l, kind);
     let mut none = true;
     let mut i: usize = 0;
     while i < n {
         if waits(ask(card, l, m, plan, marks, kind, i)) {
             if none {
-                say_conditions(kind);
+                say_conditions(rt, kind)?;
             }
-            say_closed_choice(none, kind, i as u64);
+            say_closed_choice(rt, none, kind, i as u64)?;
             none = false;
         }
         i += 1;
     }
     if none {
-        say_front(kind);
+        say_front(rt, kind)?;
     }
-    say(b"\n");
+    say(rt, b"\n")
 }
 
 // Why there is no move: with an empty plan by the selections, where a goal is open; else by the specifications and the revisions.
-fn say_no_move(card: &[u8], l: Layout, goals: Set, m: Standing, plan: &Plan, marks: &Marks)
+fn say_no_move(
+    rt: HostRuntime,
+    card: &[u8],
+    l: Layout,
+    goals: Set,
+    m: Standing,
+    plan: &Plan,
+    marks: &Marks,
+) -> io::Result<()>
     requires { SomeSets l card.now m plan.now marks.now }
 {
     if m.length != 0 {
-        say_closed(card, l, m, plan, marks, 1);
-        say_closed(card, l, m, plan, marks, 2);
-        return;
+        say_closed(rt, card, l, m, plan, marks, 1)?;
+        return say_closed(rt, card, l, m, plan, marks, 2);
     }
     if !sets::known(goals, 0) {
-        say_closed(card, l, m, plan, marks, 0);
+        say_closed(rt, card, l, m, plan, marks, 0)?;
     }
+    Ok(())
 }
 
 // The move that the guide would make next, or why there is none.
 fn say_next(
+    rt: HostRuntime,
     card: &[u8],
     l: Layout,
     goals: Set,
@@ -281,37 +309,46 @@ fn say_next(
     plan: &Plan,
     marks: &Marks,
     ending: Ending,
-)
+) -> io::Result<()>
     requires { SomeSets l card.now m plan.now marks.now }
 {
     let chosen = choose(card, l, m, plan, marks);
     let Chosen::At(kind, i) = chosen else {
-        say_no_move(card, l, goals, m, plan, marks);
-        return;
+        return say_no_move(rt, card, l, goals, m, plan, marks);
     };
     match ending {
-        Ending::Rest => say(b"the next move would be"),
-        Ending::Spent => say(b"1,000 moves are made, and the next would be"),
+        Ending::Rest => say(rt, b"the next move would be")?,
+        Ending::Spent => say(rt, b"1,000 moves are made, and the next would be")?,
         Ending::Full => say(
+            rt,
             b"over 1,024 actions would be in the plan after the next move, which is",
-        ),
+        )?,
     };
-    say_choice(kind, i);
+    say_choice(rt, kind, i)
 }
 
 // The same, of a card and a configuration that are judged first.
-fn say_why(card: &[u8], beliefs: &Set, goals: &Set, m: Standing, plan: &Plan, ending: Ending) {
+fn say_why(
+    rt: HostRuntime,
+    card: &[u8],
+    beliefs: &Set,
+    goals: &Set,
+    m: Standing,
+    plan: &Plan,
+    ending: Ending,
+) -> io::Result<()> {
     let admitted = admit(card, beliefs, goals, m, plan);
     let Checked::Good(l) = admitted else {
-        return;
+        return Ok(());
     };
     let mut marks = no_marks();
     judge_nodes(card, l, beliefs, goals, &mut marks);
-    say_next(card, l, *goals, m, plan, &marks, ending);
+    say_next(rt, card, l, *goals, m, plan, &marks, ending)
 }
 
 // What is left where a run ended: the goals, the plan, and the next move or why there is none.
 fn say_left(
+    rt: HostRuntime,
     card: &[u8],
     l: Layout,
     beliefs: &Set,
@@ -319,14 +356,15 @@ fn say_left(
     m: Standing,
     plan: &Plan,
     ending: Ending,
-) {
-    say_goals(l, *goals);
-    say_plan(m.length, plan[0]);
-    say_why(card, beliefs, goals, m, plan, ending);
+) -> io::Result<()> {
+    say_goals(rt, l, *goals)?;
+    say_plan(rt, m.length, plan[0])?;
+    say_why(rt, card, beliefs, goals, m, plan, ending)
 }
 
 // The last line of a run, and what is left. Where there are step lines, what their numbers are.
 fn ended(
+    rt: HostRuntime,
     card: &[u8],
     l: Layout,
     beliefs: &Set,
@@ -335,20 +373,21 @@ fn ended(
     plan: &Plan,
     ending: Ending,
     count: u16,
-) {
-    last_line(ending, count);
+) -> io::Result<()> {
+    last_line(rt, ending, count)?;
     if 0 < count {
         say(
+            rt,
             b"select 0 is selection 0, act 0 is specification 0 (not action 0), revise 0 is revision 0\n",
-        );
+        )?;
     }
-    say_left(card, l, beliefs, goals, m, plan, ending);
+    say_left(rt, card, l, beliefs, goals, m, plan, ending)
 }
 
 // ---- the run
 
 // The run with budget 1,000, a move of the guide's own at a time, and a line for each.
-fn steps(card: &[u8], l: Layout, start: Configuration)
+fn steps(rt: HostRuntime, card: &[u8], l: Layout, start: Configuration) -> io::Result<()>
     requires { GoodLayout l card.now }
 {
     let mind = start.mind;
@@ -371,51 +410,59 @@ fn steps(card: &[u8], l: Layout, start: Configuration)
                 m = after;
                 count += 1;
                 let weight = plan_weight(card, l, &plan, after.length as usize);
-                step_line(count, kind, number, after.length, weight);
+                step_line(rt, count, kind, number, after.length, weight)?;
             }
             Transition::Nothing => {
-                ended(card, l, &beliefs, &goals, m, &plan, Ending::Rest, count);
-                return;
+                return ended(rt, card, l, &beliefs, &goals, m, &plan, Ending::Rest, count);
             }
             Transition::Full => {
-                ended(card, l, &beliefs, &goals, m, &plan, Ending::Full, count);
-                return;
+                return ended(rt, card, l, &beliefs, &goals, m, &plan, Ending::Full, count);
             }
         }
     }
-    ended(card, l, &beliefs, &goals, m, &plan, Ending::Spent, count);
+    ended(
+        rt,
+        card,
+        l,
+        &beliefs,
+        &goals,
+        m,
+        &plan,
+        Ending::Spent,
+        count,
+    )
 }
 
 // The lines of an accepted card.
-fn show_run(card: &[u8], l: Layout)
+fn show_run(rt: HostRuntime, card: &[u8], l: Layout) -> io::Result<()>
     requires { GoodLayout l card.now }
 {
     let loaded = guide::load(card);
     let graded = guide::grade(card);
     let verdict = graded.verdict;
-    first_line(card.len(), verdict);
+    first_line(rt, card.len(), verdict)?;
     let start = loaded.configuration;
     let mind = start.mind;
     let goals = mind.goals;
-    say_doubts(verdict, goals);
-    steps(card, l, start);
+    say_doubts(rt, verdict, goals)?;
+    steps(rt, card, l, start)
 }
 
 // A card's lines: "A refused card prints only "refused" and its number."
-fn show(card: &[u8]) {
+fn show(rt: HostRuntime, card: &[u8]) -> io::Result<()> {
     let checked = check(card);
     match checked {
-        Checked::Good(l) => show_run(card, l),
+        Checked::Good(l) => show_run(rt, card, l),
         Checked::Refused(refusal) => {
-            io::write_all(1, b"refused");
-            also(1, refusal_number(refusal) as u64);
-            end(b"");
+            write(rt, b"refused")?;
+            also(rt, refusal_number(refusal) as u64)?;
+            end(rt, b"")
         }
     }
 }
 
-fn main() {
+fn main(rt: HostRuntime) -> io::Result<()> {
     let mut buffer = [0u8; 32353];
-    let n = io::read_full(0, &mut buffer);
-    show(&buffer[..n]);
+    let n = read_full(&mut rt.stdin(), &mut buffer)?;
+    show(rt, &buffer[..n])
 }
