@@ -245,8 +245,8 @@ def convert(folder, crate, entry, path, clauses):
                 said.append(f"no loop {sig.group(2)}")
                 continue
             new, names, changed = loop
-            _, unfolding, clauses = body_of(name, lines)
-            clause = "\n".join(clauses).rstrip()
+            _, unfolding, written = body_of(name, lines)
+            clause = "\n".join(written).rstrip()
             m = re.match(rf"{re.escape(name)}((?: [^\s=]+)*) =", clause)
             if not m:
                 said.append(f"{name} has a form of its own")
@@ -275,9 +275,9 @@ def convert(folder, crate, entry, path, clauses):
                 helpers.append("-- was " + joined.rstrip().replace("\n", "\n-- "))
                 continue
             new, place = wanted
-            _, unfolding, clauses = body_of(name, lines)
+            _, unfolding, written = body_of(name, lines)
             made = []
-            for line in clauses:
+            for line in written:
                 m = re.match(rf"^{re.escape(name)}(( [^=]*?)?) =(.*)$", line)
                 if m and line.startswith(name):
                     params = [p for p in m.group(1).split() if p not in ("κs",)]
