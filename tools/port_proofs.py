@@ -284,6 +284,10 @@ def convert(folder, crate, entry, path, clauses):
         if "tie." in joined or "lts." in joined:
             said.append(f"{name} names a place")
         helpers.append(joined.rstrip())
+    for k, text in enumerate(answers):
+        answers[k] = re.sub(r"(?<!opened )(c\.in_default\.in_default-own\.keys\d+)", r"(opened \1)", re.sub(r"\.ptr(?![\w'-])", ".ref_ptr", text))
+    if any("(opened " in text for text in answers):
+        uses.append("use borrow.Enum.Refused.{opened}")
     head = f"Rattle.{crate}.proofs.{path}"
     if invariants:
         (folder / "Invariants.antt").write_text("\n".join(uses) + f"\nuse {head}.Given as goal\n\n" + "\n\n".join(invariants) + "\n", "utf-8")
