@@ -60,11 +60,26 @@ def recorded(text, names):
     if not names:
         return text
     found = top_parts(text)
-    if not found or len(found[1]) != len(names):
+    if not found or len(found[1]) != 2:
         return text
     before, parts = found
+    while len(parts) < len(names):
+        more = top_parts("x = " + parts[-1])
+        if not more or len(more[1]) != 2:
+            return text
+        parts = parts[:-1] + more[1]
     inner = "".join(f"      {name} = {part};\n" for name, part in zip(names, parts))
     return before + " record {\n" + inner + "    }"
+
+
+def nested(way, names):
+    """A way into clauses that stand as pairs in pairs, by the clause's name."""
+    steps = way.lstrip(".").split(".")
+    for k, name in enumerate(names):
+        path = ["1"] * k + ([] if k + 1 == len(names) else ["0"])
+        if steps[: len(path)] == path:
+            return "".join("." + s for s in [name, *steps[len(path):]])
+    return way
 
 
 def by_name(text, f, own):
@@ -86,7 +101,7 @@ def by_name(text, f, own):
         step, field = path.rsplit(".", 1)
         aliases += [re.escape(f"{m}.{field}") for m in re.findall(rf"let ([\w'₀-₉]+) = {re.escape(step)} in", text) if step != "c"]
         for alias in aliases:
-            text = re.sub(rf"(?<![\w.'-]){alias}\.(\d+)(?![\w'-])", lambda m: m.group(0)[: -len(m.group(1))] + (names[int(m.group(1))] if int(m.group(1)) < len(names) else m.group(1)), text)
+            text = re.sub(rf"(?<![\w.'-]){alias}((?:\.[01](?![\w'-]))+)", lambda m: m.group(0)[: -len(m.group(1))] + nested(m.group(1), names), text)
     return text
 
 
@@ -230,8 +245,8 @@ def convert(folder, crate, entry, path, clauses):
                 said.append(f"no loop {sig.group(2)}")
                 continue
             new, names, changed = loop
-            _, unfolding, clauses = body_of(name, lines)
-            clause = "\n".join(clauses).rstrip()
+            _, unfolding, written = body_of(name, lines)
+            clause = "\n".join(written).rstrip()
             m = re.match(rf"{re.escape(name)}((?: [^\s=]+)*) =", clause)
             if not m:
                 said.append(f"{name} has a form of its own")
@@ -260,9 +275,9 @@ def convert(folder, crate, entry, path, clauses):
                 helpers.append("-- was " + joined.rstrip().replace("\n", "\n-- "))
                 continue
             new, place = wanted
-            _, unfolding, clauses = body_of(name, lines)
+            _, unfolding, written = body_of(name, lines)
             made = []
-            for line in clauses:
+            for line in written:
                 m = re.match(rf"^{re.escape(name)}(( [^=]*?)?) =(.*)$", line)
                 if m and line.startswith(name):
                     params = [p for p in m.group(1).split() if p not in ("κs",)]
@@ -284,6 +299,10 @@ def convert(folder, crate, entry, path, clauses):
         if "tie." in joined or "lts." in joined:
             said.append(f"{name} names a place")
         helpers.append(joined.rstrip())
+    for k, text in enumerate(answers):
+        answers[k] = re.sub(r"(?<!opened )(c\.in_default\.in_default-own\.keys\d+)", r"(opened \1)", re.sub(r"\.ptr(?![\w'-])", ".ref_ptr", text))
+    if any("(opened " in text for text in answers):
+        uses.append("use borrow.Enum.Refused.{opened}")
     head = f"Rattle.{crate}.proofs.{path}"
     if invariants:
         (folder / "Invariants.antt").write_text("\n".join(uses) + f"\nuse {head}.Given as goal\n\n" + "\n\n".join(invariants) + "\n", "utf-8")
