@@ -35,7 +35,7 @@ READING = (
     ("what is proved of the definitions", ("paper/specs/Theorems.antt", "runs/specs/Theorems.antt", "meaning/specs/Theorems.antt")),
     ("edition 1 as before, and edition 2", ("editions/specs/Edition1.antt", "editions/specs/Moves.antt", "editions/specs/Calls.antt", "editions/specs/AsBefore.antt",
                                             "editions/specs/Edition2.antt")),
-    ("the letter's demands", ("demands/specs/Contracts.antt", "demands/specs/Demands.antt", "demands/specs/TestOrder.antt",
+    ("the letter's demands", ("demands/specs/CallContracts.antt", "demands/specs/Demands.antt", "demands/specs/TestOrder.antt",
                               "demands/specs/AcceptedAgain.antt", "demands/specs/Struck.antt", "demands/specs/Shown.antt", "demands/specs/Closed.antt")),
     ("the turned screen", ("demands/specs/TurnedScreen.antt",)),
     ("what comes next, and the rule for an app", ("demands/specs/Next.antt",)),
@@ -198,9 +198,10 @@ def edits():
 
 
 def field_edits():
-    """The edits that are named by the fields of the three demands: `Demand1.check-listed` has demands/must-fail/demand1_check_listed."""
+    """The edits that are named by the fields of the three demands: `Demand1.check_listed` has demands/must-fail/demand1_check_listed. A field
+    that would have a function's name ends in _lem, and its edit does not."""
     names = antt_names(read(os.path.join(TOP, "crates", "demands", "specs", "Demands.antt")))
-    return {f"demands/must-fail/{demand.lower()}_{field.replace('-', '_')}"
+    return {f"demands/must-fail/{demand.lower()}_{re.sub('_lem$', '', field).replace('-', '_')}"
             for demand in ("Demand1", "Demand2", "Demand3") for field in names[demand]}
 
 
@@ -312,11 +313,12 @@ def check_remarks(folder, tally):
 
 
 def check_cited(tally):
-    """No file of src/ or specs/ cites a definition under proofs/."""
+    """No file of src/ or specs/ cites a definition under proofs/. What std takes from its mathematics has a path with proofs in it, and is
+    none of these."""
     for pattern in ("*/src/**/*.rt", "*/specs/**/*.antt"):
         for path in sorted(glob.glob(os.path.join(TOP, "crates", pattern), recursive=True)):
             cited = [(number, line) for number, line in enumerate(read(path).split("\n"), 1)
-                     if re.match(r"\s*(?:pub )?(?:ghost )?use \S*\.proofs\.", line)]
+                     if re.match(r"\s*(?:pub )?(?:ghost )?use (?!Rattle\.std\.proofs\.Math\.)\S*\.proofs\.", line)]
             tally.hold(cited[0][0] if cited else 1, not cited, "a definition under proofs/ is cited", os.path.relpath(path, TOP))
 
 
@@ -324,9 +326,9 @@ def check_cited(tally):
 
 
 def counted(path):
-    """Lines that are neither blank nor a comment nor an import."""
+    """Lines that are neither blank nor a comment nor an import nor an attribute."""
     lines = (line.strip() for line in read(os.path.join(TOP, "crates", path)).split("\n"))
-    return sum(1 for line in lines if line and not line.startswith(("--", "//", "use ", "ghost use ")))
+    return sum(1 for line in lines if line and not line.startswith(("--", "//", "use ", "ghost use ", "#[", "#![")))
 
 
 def check_lines(tally):
