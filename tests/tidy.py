@@ -23,6 +23,7 @@ MOST_LINES, MOST_CHARACTERS = 40, 132
 # The crates whose public functions are the calls of an app.
 CALLS = ("guide", "board")
 FUNCTION = re.compile(r'(pub )?(?:extern "C" )?fn (\w+)')
+CLAUSE = re.compile(r"\s*(?:requires|ensures)\b")
 LINE_NAMED = re.compile(r"-- src/\w+\.rt:\d+:\d+$")
 BROUGHT = re.compile(r"(?:ghost )?use (\S+?)(?:\.\{([^}]*)\})?( as [^\s;]+)?;?$")
 
@@ -44,7 +45,7 @@ def functions(text):
     for at, line in enumerate(lines):
         match = FUNCTION.match(line)
         if match:
-            body = next(n for n in range(at, len(lines)) if lines[n].endswith("{") and "⌜" not in lines[n])
+            body = next(n for n in range(at, len(lines)) if lines[n].endswith("{") and not CLAUSE.match(lines[n]))
             end = next(n for n in range(body, len(lines)) if lines[n] == "}")
             yield at + 1, bool(match[1]), match[2], "\n".join(lines[at:body]), end - at + 1
 
@@ -58,10 +59,10 @@ def code_kept():
         for at, public, name, clauses, length in functions(text):
             where = "%s:%d: %s" % (path, at, name)
             if (public or not program) and ("->" in clauses or "&mut" in clauses):
-                yield where, "says what it answers", "ensures {" in clauses
+                yield where, "says what it answers", re.search(r"^\s*ensures\b", clauses, re.M) is not None
             yield where, "has at most %d lines" % MOST_LINES, length <= MOST_LINES
             if public and crate in CALLS:
-                yield where, "requires nothing", "requires {" not in clauses
+                yield where, "requires nothing", not re.search(r"^\s*requires\b", clauses, re.M)
 
 
 def names_brought(line):
@@ -78,11 +79,11 @@ def names_brought(line):
 
 def used(name, rest):
     """Whether a name stands in the rest of a file; of an operator, its sign or the name itself."""
-    if name in rest and "_" in name:
+    if name in rest and "◌" in name:
         return True
-    sign = name.strip("_").split("_")[0]
-    if re.fullmatch(r"\w[\w′₀-₉-]*", sign):
-        return re.search(r"(?<![\w′-])" + re.escape(sign) + r"(?![\w′-])", rest) is not None
+    sign = name.strip("◌").split("◌")[0]
+    if re.fullmatch(r"\w[\w'₀-₉-]*", sign):
+        return re.search(r"(?<![\w'-])" + re.escape(sign) + r"(?![\w'-])", rest) is not None
     return sign == "[]" and "[]" in rest or re.search(r"(?<![^\s({])" + re.escape(sign) + r"(?![^\s)};,])", rest) is not None
 
 
@@ -139,7 +140,8 @@ def edits_kept():
         held = ""
         for line in lines:
             if line.startswith("file: "):
-                held = read(os.path.join(crate, line[len("file: ") :]))
+                changed = os.path.join(crate, line[len("file: ") :])
+                held = read(changed) if os.path.isfile(changed) else ""
             elif line.startswith("old: "):
                 yield path, "changes a line that stands once", held.count(line[len("old: ") :]) == 1
 
@@ -148,7 +150,7 @@ def listed():
     """Whether every crate stands in crates.txt and in README.md."""
     listing, readme = read("crates.txt"), read("README.md")
     for crate in sorted(os.listdir("crates")):
-        yield crate, "stands in crates.txt", re.search(r"^%s:" % crate, listing, re.M) is not None
+        yield crate, "stands in crates.txt", re.search(r"^%s( [^:]*)?:" % crate, listing, re.M) is not None
         yield crate, "stands in README.md", "`crates/%s`" % crate in readme
 
 

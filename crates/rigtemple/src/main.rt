@@ -420,17 +420,8 @@ fn steps(rt: HostRuntime, card: &[u8], l: Layout, start: Configuration) -> io::R
             }
         }
     }
-    ended(
-        rt,
-        card,
-        l,
-        &beliefs,
-        &goals,
-        m,
-        &plan,
-        Ending::Spent,
-        count,
-    )
+    let ending = Ending::Spent;
+    ended(rt, card, l, &beliefs, &goals, m, &plan, ending, count)
 }
 
 // The lines of an accepted card.
