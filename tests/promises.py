@@ -198,10 +198,9 @@ def edits():
 
 
 def field_edits():
-    """The edits that are named by the fields of the three demands: `Demand1.check_listed` has demands/must-fail/demand1_check_listed. A field
-    that would have a function's name ends in _lem, and its edit does not."""
+    """The edits that are named by the fields of the three demands: `Demand1.check-listed` has demands/must-fail/demand1_check_listed."""
     names = antt_names(read(os.path.join(TOP, "crates", "demands", "specs", "Demands.antt")))
-    return {f"demands/must-fail/{demand.lower()}_{re.sub('_lem$', '', field).replace('-', '_')}"
+    return {f"demands/must-fail/{demand.lower()}_{field.replace('-', '_')}"
             for demand in ("Demand1", "Demand2", "Demand3") for field in names[demand]}
 
 
@@ -313,12 +312,11 @@ def check_remarks(folder, tally):
 
 
 def check_cited(tally):
-    """No file of src/ or specs/ cites a definition under proofs/. What std takes from its mathematics has a path with proofs in it, and is
-    none of these."""
+    """No file of src/ or specs/ cites a definition under proofs/, but for those of the kit's library, which lie there too."""
     for pattern in ("*/src/**/*.rt", "*/specs/**/*.antt"):
         for path in sorted(glob.glob(os.path.join(TOP, "crates", pattern), recursive=True)):
             cited = [(number, line) for number, line in enumerate(read(path).split("\n"), 1)
-                     if re.match(r"\s*(?:pub )?(?:ghost )?use (?!Rattle\.std\.proofs\.Math\.)\S*\.proofs\.", line)]
+                     if re.match(r"\s*(?:pub )?(?:ghost )?use (?!Rattle\.std\.)\S*\.proofs\.", line)]
             tally.hold(cited[0][0] if cited else 1, not cited, "a definition under proofs/ is cited", os.path.relpath(path, TOP))
 
 
