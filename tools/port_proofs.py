@@ -60,11 +60,26 @@ def recorded(text, names):
     if not names:
         return text
     found = top_parts(text)
-    if not found or len(found[1]) != len(names):
+    if not found or len(found[1]) != 2:
         return text
     before, parts = found
+    while len(parts) < len(names):
+        more = top_parts("x = " + parts[-1])
+        if not more or len(more[1]) != 2:
+            return text
+        parts = parts[:-1] + more[1]
     inner = "".join(f"      {name} = {part};\n" for name, part in zip(names, parts))
     return before + " record {\n" + inner + "    }"
+
+
+def nested(way, names):
+    """A way into clauses that stand as pairs in pairs, by the clause's name."""
+    steps = way.lstrip(".").split(".")
+    for k, name in enumerate(names):
+        path = ["1"] * k + ([] if k + 1 == len(names) else ["0"])
+        if steps[: len(path)] == path:
+            return "".join("." + s for s in [name, *steps[len(path):]])
+    return way
 
 
 def by_name(text, f, own):
@@ -86,7 +101,7 @@ def by_name(text, f, own):
         step, field = path.rsplit(".", 1)
         aliases += [re.escape(f"{m}.{field}") for m in re.findall(rf"let ([\w'₀-₉]+) = {re.escape(step)} in", text) if step != "c"]
         for alias in aliases:
-            text = re.sub(rf"(?<![\w.'-]){alias}\.(\d+)(?![\w'-])", lambda m: m.group(0)[: -len(m.group(1))] + (names[int(m.group(1))] if int(m.group(1)) < len(names) else m.group(1)), text)
+            text = re.sub(rf"(?<![\w.'-]){alias}((?:\.[01](?![\w'-]))+)", lambda m: m.group(0)[: -len(m.group(1))] + nested(m.group(1), names), text)
     return text
 
 
@@ -120,10 +135,13 @@ def turned(text, f, place, said):
     """A body at a place: each way through the places in today's names."""
     chain = f.chain(place)
     aliases = {"c": 0}
-    for m in re.finditer(r"let ([\w'₀-₉]+) = c((?:\.before)+) in", text):
-        aliases[m.group(1)] = m.group(2).count(".before")
-    text = re.sub(r"let [\w'₀-₉]+ = c(?:\.before)+ in\n\s*", "", text)
-    text = re.sub(r"let [\w'₀-₉]+ = c(?:\.before)+ in ", "", text)
+    while True:
+        known = "|".join(re.escape(a) for a in sorted(aliases, key=len, reverse=True))
+        m = re.search(rf"let ([\w'₀-₉]+) = ({known})((?:\.before)+) in\s*", text)
+        if not m:
+            break
+        aliases[m.group(1)] = aliases[m.group(2)] + m.group(3).count(".before")
+        text = text[: m.start()] + text[m.end():]
 
     def one(m):
         depth = aliases[m.group(1)] + m.group(2).count(".before")
@@ -146,12 +164,30 @@ def turned(text, f, place, said):
 
     names = "|".join(re.escape(a) for a in sorted(aliases, key=len, reverse=True))
     text = re.sub(rf"(?<![\w.'-])({names})((?:\.before)*)\.(?!before)([\w'-]+)((?:\.[\w'-]+)*)", one, text)
-    text = re.sub(r"\(?not-(?:true|false) _ \(?(c\.if-not-[\w-]+\.(?:true|false))\)?\)?", lambda m: m.group(1) if m.group(0).count("(") == m.group(0).count(")") else m.group(0), text)
+    text = re.sub(r"not-(?:true|false) _ (?:\((c\.if-not-[\w-]+\.(?:true|false))\)|(c\.if-not-[\w-]+\.(?:true|false)))", lambda m: m.group(1) or m.group(2), text)
     for old, new in f.args:
         if re.fullmatch(r"t\d+", old):
             text = re.sub(rf"\.{old}(?![\w'-])", f".{new}", text)
     if re.search(rf"(?<![\w.'-])({names})\.before", text):
         said.append("a place is handed on")
+    return text
+
+
+def apart(text, names):
+    """A body in which no bound variable has one of the names."""
+    for name in names:
+        while True:
+            m = re.search(rf"\(λ ((?:[\w'₀-₉]+ )*){re.escape(name)}((?: [\w'₀-₉]+)*)\. ", text)
+            if not m:
+                break
+            depth, k = 0, m.start()
+            while k < len(text):
+                depth += (text[k] in "([{") - (text[k] in ")]}")
+                if depth == 0:
+                    break
+                k += 1
+            inner = re.sub(rf"(?<![\w.'₀-₉-]){re.escape(name)}(?![\w'₀-₉-])", name + "₁", text[m.start():k])
+            text = text[: m.start()] + inner + text[k:]
     return text
 
 
@@ -209,8 +245,8 @@ def convert(folder, crate, entry, path, clauses):
                 said.append(f"no loop {sig.group(2)}")
                 continue
             new, names, changed = loop
-            _, unfolding, clauses = body_of(name, lines)
-            clause = "\n".join(clauses).rstrip()
+            _, unfolding, written = body_of(name, lines)
+            clause = "\n".join(written).rstrip()
             m = re.match(rf"{re.escape(name)}((?: [^\s=]+)*) =", clause)
             if not m:
                 said.append(f"{name} has a form of its own")
@@ -223,6 +259,7 @@ def convert(folder, crate, entry, path, clauses):
             rest = clause[m.end():]
             by = {g: w for g, w in zip(given, meant) if g != "_"}
             if by:
+                rest = apart(rest, by)
                 word = "|".join(re.escape(g) for g in sorted(by, key=len, reverse=True))
                 rest = re.sub(rf"(?<![\w.'₀-₉-])({word})(?![\w'₀-₉-])", lambda m: by[m.group(1)], rest)
             kind = sig.group(1)
@@ -238,9 +275,9 @@ def convert(folder, crate, entry, path, clauses):
                 helpers.append("-- was " + joined.rstrip().replace("\n", "\n-- "))
                 continue
             new, place = wanted
-            _, unfolding, clauses = body_of(name, lines)
+            _, unfolding, written = body_of(name, lines)
             made = []
-            for line in clauses:
+            for line in written:
                 m = re.match(rf"^{re.escape(name)}(( [^=]*?)?) =(.*)$", line)
                 if m and line.startswith(name):
                     params = [p for p in m.group(1).split() if p not in ("κs",)]
@@ -262,6 +299,10 @@ def convert(folder, crate, entry, path, clauses):
         if "tie." in joined or "lts." in joined:
             said.append(f"{name} names a place")
         helpers.append(joined.rstrip())
+    for k, text in enumerate(answers):
+        answers[k] = re.sub(r"(?<!opened )(c\.in_default\.in_default-own\.keys\d+)", r"(opened \1)", re.sub(r"\.ptr(?![\w'-])", ".ref_ptr", text))
+    if any("(opened " in text for text in answers):
+        uses.append("use borrow.Enum.Refused.{opened}")
     head = f"Rattle.{crate}.proofs.{path}"
     if invariants:
         (folder / "Invariants.antt").write_text("\n".join(uses) + f"\nuse {head}.Given as goal\n\n" + "\n\n".join(invariants) + "\n", "utf-8")

@@ -1,4 +1,6 @@
 // The numbers in which what the guide answers is told to others: the header, the drill and the program.
+#![tactic(auto)]
+
 ghost use Rattle.std.specs.Prelude.{◌≡◌, ◌<◌};
 ghost use Rattle.meaning.specs.Refusals.{number_of, answer_number, carried, answer_carried};
 ghost use Rattle.meaning.specs.Numbers.{sheet_number, ending_number, coming_number, coming_choice};

@@ -1,5 +1,7 @@
 // The board: the guide's sixteen calls for C, as include/rigtemple.h declares them. A configuration is lent in its six parts;
 // the return value is the answer's number.
+#![tactic(auto)]
+
 ghost use Rattle.std.specs.Prelude.{◌≡◌};
 ghost use Rattle.meaning.specs.Refusals.{answer_number};
 ghost use Rattle.deliberation.specs.Deliberate.{deliberation_ending_number};

@@ -67,7 +67,7 @@ fn comes(text: &[u8], at: usize, x: u8) -> bool
 }
 
 // "unit = "T" | "B" number | "G" number | "!" unit | "(" or-list ")"", with how many may still nest.
-#[cycle(read_and_list_read_or_list_read_unit)]
+#[cycle(condition)]
 fn read_unit(text: &[u8], at: usize, left: usize, nodes: &mut [u8], k: usize) -> Reading
     requires at_in_bounds { at ≤ length text.now }
     requires nodes_len { (length nodes.old ≡ 1024) × (k ≤ 257) }
@@ -98,7 +98,7 @@ fn read_unit(text: &[u8], at: usize, left: usize, nodes: &mut [u8], k: usize) ->
 }
 
 // "and-list = unit { "&" unit }"
-#[cycle(read_and_list_read_or_list_read_unit)]
+#[cycle(condition)]
 fn read_and_list(text: &[u8], at: usize, left: usize, nodes: &mut [u8], k: usize) -> Reading
     requires at_in_bounds { at ≤ length text.now }
     requires nodes_len { (length nodes.old ≡ 1024) × (k ≤ 257) }
@@ -123,7 +123,7 @@ fn read_and_list(text: &[u8], at: usize, left: usize, nodes: &mut [u8], k: usize
 }
 
 // "or-list = and-list { "|" and-list }"
-#[cycle(read_and_list_read_or_list_read_unit)]
+#[cycle(condition)]
 fn read_or_list(text: &[u8], at: usize, left: usize, nodes: &mut [u8], k: usize) -> Reading
     requires at_in_bounds { at ≤ length text.now }
     requires nodes_len { (length nodes.old ≡ 1024) × (k ≤ 257) }

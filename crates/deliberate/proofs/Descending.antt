@@ -89,12 +89,12 @@ into_lower l b g (first_of k) = then_lower (subst (EntryLaws _ _ _ _ _ _) k g.na
 into_lower l b g (one_of k) = or_lower (subst (EntryLaws _ _ _ _ _ _) k g.names)
 
 -- no entry that is reached is higher
-down_lower : {has : ℕ → Bool} {n i : ℕ} {ns is : List ℕ} (l : Layout) (b p : Bytes) → GoodProgram l b p → Down p has n ns i is → i ≤ n
-down_lower l b p good here = omega arith
-down_lower l b p good (lower {i} h d k) =
+down_lower : {p : Bytes} {has : ℕ → Bool} {n : ℕ} {ns : List ℕ} {i : ℕ} {is : List ℕ} (l : Layout) (b : Bytes) → GoodProgram l b p → Down p has n ns i is → i ≤ n
+down_lower l b good here = omega arith
+down_lower l b good (lower {i} h d k) =
     let (f, g) = into_lower l b (good.entries i h) k in
     let low = part_lower k f g in
-    let most = down_lower l b p good d in
+    let most = down_lower l b good d in
     omega arith
 
 -- what the first move of an entry comes to is what that of the one comes to that it is made in, where it is known of the lower
@@ -107,13 +107,13 @@ module _ (l : Layout) (b p : Bytes) (c : Configuration) (good : GoodProgram l b 
   abbrev q : ℕ → Option (Move (List ℕ))
   q = move_at l b p (state_of c).mental
 
-  pub down_came : {i : ℕ} {ns is : List ℕ} → Down p has n ns i is → move_result A (state_of c) (q n) ns ≡ move_result A (state_of c) (q i) is
+  pub down_came : {ns : List ℕ} {i : ℕ} {is : List ℕ} → Down p has n ns i is → move_result A (state_of c) (q n) ns ≡ move_result A (state_of c) (q i) is
   down_came here = refl
   down_came (lower {i} {j} {is} {js} h d k) =
       let x = entry_of p i in
       let f = move_at_lem (containing 2 l b) l p good.good i h A (conditions 𝐁 l b) (state_of c).mental in
       let low = (into_lower l b (good.entries i h) k).0 in
-      let most = down_lower l b p good d in
+      let most = down_lower l b good d in
       down_came d ∙ ap (λ o. move_result A (state_of c) o is) f
       ∙ passes A (state_of c) (conditions 𝐁 l b) i x q (has x.a) (marked x.a (omega arith)) k
 

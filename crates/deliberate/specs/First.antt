@@ -19,7 +19,7 @@ abbrev pub is_at : Chosen → Bool
 is_at (Chosen.At k n) = true
 is_at Chosen.Nothing = false
 
--- whether an entry has a first move, by whether its parts have one (moveOf)
+-- whether an entry has a first move, by whether its parts have one (move_of)
 abbrev pub movable_of : Agent → Config → EntryKind → ℕ → ℕ → (ℕ → Bool) → Bool
 movable_of A s Execute a b movable = is_some (lowest_action A s)
 movable_of A s Apply a b movable = enabled A s (Choice.revise a)

@@ -72,7 +72,7 @@ MakesNext l b p c stack top r d left =
 abbrev pub stayed : Standing → MoveMade → ℕ → AfterMove
 stayed m x top = record { standing = m; made = x; known = true; top = top }
 
--- the choice that an execute, an apply or a select takes, if it takes one (moveOf); no other kind takes one by itself
+-- the choice that an execute, an apply or a select takes, if it takes one (move_of); no other kind takes one by itself
 abbrev pub taken : Agent → Config → EntryKind → ℕ → Option Choice
 taken A s Execute a = lowest_action A s
 taken A s Apply a = if_enabled A s (Choice.revise a)

@@ -13,7 +13,7 @@ pub record Move (R : Type 0) : Type 0 where
   pub label : Label
   pub remaining : R
 
--- A move that takes a choice, if there is one, after which r remains. Serves first_move and moveOf.
+-- A move that takes a choice, if there is one, after which r remains. Serves first_move and move_of.
 abbrev pub by_choice : {R : Type 0} → Option Choice → R → Option (Move R)
 by_choice none r = none
 by_choice (some k) r = some (record { label = taking k; remaining = r })

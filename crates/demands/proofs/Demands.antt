@@ -37,8 +37,8 @@ demand_1 =
       load_hands_empty = λ b r h. Refusing.replied_refused _ _ r (loading b r h);
       grade_hands_empty = λ b r h q e. Refusing.graded_empty b r (grading b r h);
       restore_hands_empty = λ b p r h. Refusing.replied_refused _ _ r (restoring b p r h);
-      list_leaves_lem = λ b c out left r h q e. (Refusing.written_refused b c _ out left (written_of r) (listing b c out left r h) q e).0;
-      save_leaves_lem = λ b c out left r h q e. (Refusing.written_refused b c _ out left r (saving b c out left r h) q e).0;
+      list_leaves = λ b c out left r h q e. (Refusing.written_refused b c _ out left (written_of r) (listing b c out left r h) q e).0;
+      save_leaves = λ b c out left r h q e. (Refusing.written_refused b c _ out left r (saving b c out left r h) q e).0;
     }
 
 pub demand_2 : Demand2

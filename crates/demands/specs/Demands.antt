@@ -69,9 +69,9 @@ pub record Demand1 : Type 0 where
   pub grade_hands_empty : (b : Bytes) (r : Graded) → Grades b r → (q : Refusal) → r.answer ≡ Refused q → r.configuration ≡ empty
   pub restore_hands_empty : (b p : Bytes) (r : Reply) → Restores b p r → (q : Refusal) → r.answer ≡ Refused q → r.configuration ≡ empty
   -- 00, demand 1: "and writes to no lent buffer"
-  pub list_leaves_lem : (b : Bytes) (c : Configuration) (out left : List ℕ) (r : Listed) → Lists b c out r left
+  pub list_leaves : (b : Bytes) (c : Configuration) (out left : List ℕ) (r : Listed) → Lists b c out r left
       → (q : Refusal) → r.answer ≡ Refused q → left ≡ out
-  pub save_leaves_lem : (b : Bytes) (c : Configuration) (out left : Bytes) (r : Written) → Saves b c out r left
+  pub save_leaves : (b : Bytes) (c : Configuration) (out left : Bytes) (r : Written) → Saves b c out r left
       → (q : Refusal) → r.answer ≡ Refused q → left ≡ out
 
 -- ---- demand 2

@@ -1,5 +1,7 @@
 // The guide: the fourteen calls. Nothing is assumed of any byte or number; each contract cites one definition of the whole answer,
 // refusals too, and of what a lent buffer holds afterwards. A configuration goes in and comes back by value.
+#![tactic(auto)]
+
 ghost use Rattle.std.specs.Prelude.{◌≡◌, ◌+◌, ◌≤◌, replicate};
 ghost use Rattle.paper.specs.Theorems.{AreBytes};
 ghost use Rattle.demands.specs.CallContracts.{Checks, Loads, Grades, Lists, Takes, Runs, Nexts, BoundedTakes, BoundedRuns, Saves, Restores, Shaped};

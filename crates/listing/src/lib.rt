@@ -1,3 +1,5 @@
 // Listing: the call list where the plan is lent.
+#![tactic(auto)]
+
 pub mod gather;
 pub mod list;

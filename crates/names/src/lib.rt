@@ -1,4 +1,6 @@
 // Move names in two languages: the name of an action, in the shed's own language or in the master's.
+#![tactic(auto)]
+
 pub mod name;
 pub mod sheet;
 

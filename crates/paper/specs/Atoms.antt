@@ -8,7 +8,7 @@ use Rattle.std.specs.Int.Bits.{bit_and, bit_or, bit_xor}
 abbrev pub Atoms : Type 0
 Atoms = List ℕ
 
--- Bit i of a byte. Serves _∈_: 01, "The card, edition 1": "atom k is bit (k modulo 8)".
+-- Bit i of a byte. Serves ◌∈◌: 01, "The card, edition 1": "atom k is bit (k modulo 8)".
 unfoldable pub bit : ℕ → ℕ → Bool
 bit i b = eqb (b / 2 ^ i % 2) 1
 

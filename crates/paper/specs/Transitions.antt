@@ -5,7 +5,7 @@ use Rattle.std.proofs.Math.ListN.{get_elem?}
 use Rattle.paper.specs.Atoms.{Atoms, ◌∈◌, ◌∪◌, ◌∖◌}
 use Rattle.paper.specs.Language.{Plan, Letter, 𝐁, 𝐆, Query, ⊤, atom, ¬', ◌∧'◌, ◌∨'◌, Specification, Selection, Revision, Agent, Config, ⟨◌/◌/◌⟩}
 
--- Where an atom is looked up. Serves _⊨_: 004, section 2.2: "A formula B(p) is true in a configuration iff p is in the belief
+-- Where an atom is looked up. Serves ◌⊨◌: 004, section 2.2: "A formula B(p) is true in a configuration iff p is in the belief
 -- base, and G(p) is true iff p is in the goal base."
 abbrev pub base : Letter → Config → Atoms
 base 𝐁 c = c.σ

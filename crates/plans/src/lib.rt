@@ -1,4 +1,6 @@
 // Plans, changed in place in their 1,024 bytes: the first len are the actions, and zeros stand after their end.
+#![tactic(auto)]
+
 ghost use Rattle.std.specs.Prelude.{◌≡◌, ◌++◌, ◌+◌, ◌-◌, ◌≤◌, length, take, drop, replicate};
 ghost use Rattle.std.proofs.Math.Seq.{paste};
 ghost use Rattle.paper.specs.Next.{is_prefix};

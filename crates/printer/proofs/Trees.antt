@@ -1,6 +1,6 @@
 -- The tree of a node, by the trees of its children, and the measures of its text.
 use mathlib.Core.Path.{◌≡◌, refl, ap, ◌∙◌}
-use mathlib.Core.Bool.{Bool, true}
+use mathlib.Core.Bool.{Bool}
 use mathlib.Core.List.{◌++◌}
 use Prim.Native.Nat.{ℕ, min, ◌+◌, ◌*◌, ◌≤◌}
 use native.Mathlib.Omega.{arith}

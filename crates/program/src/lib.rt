@@ -1,4 +1,6 @@
 // A deliberation program: its entries, judged for a card by row 19 (02, Wish 6). Whatever its bytes, the answer is document 02's.
+#![tactic(auto)]
+
 ghost use Rattle.std.specs.Prelude.{◌≡◌, ◌&&◌, ◌+◌, ◌*◌, ◌≤◌, ltb, length};
 ghost use Rattle.meaning.specs.declared.Refusal.{Refusal};
 ghost use Rattle.meaning.specs.Card.{Bytes};

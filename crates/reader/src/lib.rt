@@ -1,4 +1,5 @@
 // A text card read: docs/TEXT.md.
+#![tactic(auto)]
 
 pub mod assemble;
 pub mod read;

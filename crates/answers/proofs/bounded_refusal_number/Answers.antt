@@ -1,0 +1,60 @@
+use Rattle.meaning.specs.BoundedCalls.{as_refusal}
+use Rattle.meaning.specs.Refusals.{number_of}
+use borrow.Author.Rules.{rules}
+use Rattle.answers.proofs.bounded_refusal_number.Goals as goal
+
+pub returns-in-Short : goal.returns-in-Short
+unfolding number_of as_refusal
+returns-in-Short c = rw c.in-Short.is
+
+pub returns-in-Mark : goal.returns-in-Mark
+unfolding number_of as_refusal
+returns-in-Mark c = rw c.in-Mark.is
+
+pub returns-in-Count : goal.returns-in-Count
+unfolding number_of as_refusal
+returns-in-Count c = rw c.in-Count.is
+
+pub returns-in-Offsets : goal.returns-in-Offsets
+unfolding number_of as_refusal
+returns-in-Offsets c = rw c.in-Offsets.is
+
+pub returns-in-Weight : goal.returns-in-Weight
+unfolding number_of as_refusal
+returns-in-Weight c = rw c.in-Weight.is
+
+pub returns-in-Node : goal.returns-in-Node
+unfolding number_of as_refusal
+returns-in-Node c = rw c.in-Node.is
+
+pub returns-in-Rule : goal.returns-in-Rule
+unfolding number_of as_refusal
+returns-in-Rule c = rw c.in-Rule.is
+
+pub returns-in-ActionByte : goal.returns-in-ActionByte
+unfolding number_of as_refusal
+returns-in-ActionByte c = rw c.in-ActionByte.is
+
+pub returns-in-Atom : goal.returns-in-Atom
+unfolding number_of as_refusal
+returns-in-Atom c = rw c.in-Atom.is
+
+pub returns-in-Configuration : goal.returns-in-Configuration
+unfolding number_of as_refusal
+returns-in-Configuration c = rw c.in-Configuration.is
+
+pub returns-in-OpenOrHeavy : goal.returns-in-OpenOrHeavy
+unfolding number_of as_refusal
+returns-in-OpenOrHeavy c = rw c.in-OpenOrHeavy.is
+
+pub returns-in-NoRule : goal.returns-in-NoRule
+unfolding number_of as_refusal
+returns-in-NoRule c = rw c.in-NoRule.is
+
+pub returns-in-Front : goal.returns-in-Front
+unfolding number_of as_refusal
+returns-in-Front c = rw c.in-Front.is
+
+pub returns-in-Condition : goal.returns-in-Condition
+unfolding number_of as_refusal
+returns-in-Condition c = rw c.in-Condition.is

@@ -1,0 +1,33 @@
+use Rattle.bounded.proofs.Calling.{door_word, take_refused, take_word, take_made}
+use Rattle.door.specs.InPlace.{reply_with}
+use Rattle.layout.specs.PlaceParts.{configured}
+use borrow.Author.Rules.{rules}
+use Rattle.bounded.proofs.take.take.Goals as goal
+
+pub answer_word-requires : goal.answer_word-requires
+answer_word-requires c =
+    let a = c.args in
+    door_word a.card.now (configured a.beliefs.now a.goals.now a.m a.plan.now) _ c.admit_bounded-admitted.ensures.value _ c.answer_of.ensures
+
+pub returns-in_default : goal.returns-in_default
+returns-in_default c =
+    let a = c.args in
+    let d = configured a.beliefs.now a.goals.now a.m a.plan.now in
+    take_refused a.card.now d _ c.admit_bounded-admitted.ensures.value _ c.in_default.is _ c.answer_of.ensures _ c.answer_word.ensures a.choice
+
+pub take_choice-taken-requires : goal.take_choice-taken-requires
+take_choice-taken-requires c = c.admit_bounded-admitted.ensures.ready _ c.in-Good.is
+
+pub answer_word-requires-2 : goal.answer_word-requires-2
+answer_word-requires-2 c =
+    let a = c.args in
+    let d = configured a.beliefs.now a.goals.now a.m a.plan.now in
+    let t = c.take_choice-taken in
+    take_word a.card.now d _ c.admit_bounded-admitted.ensures.value _ c.in-Good.is a.choice (reply_with t.result t.new.beliefs t.new.goals t.new.plan) t.ensures
+
+pub returns : goal.returns
+returns c =
+    let a = c.args in
+    let d = configured a.beliefs.now a.goals.now a.m a.plan.now in
+    let t = c.take_choice-taken in
+    take_made a.card.now d _ c.admit_bounded-admitted.ensures.value _ c.in-Good.is a.choice (reply_with t.result t.new.beliefs t.new.goals t.new.plan) t.ensures _ c.answer_word-2.ensures

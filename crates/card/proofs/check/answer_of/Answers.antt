@@ -1,0 +1,8 @@
+use borrow.Author.Rules.{rules}
+use Rattle.card.proofs.check.answer_of.Goals as goal
+
+pub returns-in-Good : goal.returns-in-Good
+returns-in-Good c = rw c.in-Good.is
+
+pub returns-in-Refused : goal.returns-in-Refused
+returns-in-Refused c = rw c.in-Refused.is

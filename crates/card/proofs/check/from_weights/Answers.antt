@@ -1,0 +1,22 @@
+use Rattle.card.proofs.Rows.{stops, goes_on}
+use Rattle.card.specs.Rows.{rows_from}
+use Rattle.meaning.specs.Refusals.{card_table, weights_good}
+use Rattle.meaning.specs.Card.{layout}
+use mathlib.Core.Bool.{not}
+use mathlib.Core.Path.{◌≡◌, sym, ap, ◌∙◌}
+use borrow.Author.Rules.{rules}
+use Rattle.card.proofs.check.from_weights.Goals as goal
+
+pub returns-in_default : goal.returns-in_default
+unfolding rows_from card_table
+returns-in_default c =
+    let b = c.args.card.now in
+    let e : c.weights_good.result ≡ weights_good (layout b) b = c.weights_good.ensures ∙ ap (λ l. weights_good l b) c.requires.0.says in
+    stops _ _ b c.weights_good.result (ap not (sym e)) c.row-a.result c.row-a.ensures _ c.in_default.is
+
+pub returns : goal.returns
+unfolding rows_from card_table
+returns c =
+    let b = c.args.card.now in
+    let e : c.weights_good.result ≡ weights_good (layout b) b = c.weights_good.ensures ∙ ap (λ l. weights_good l b) c.requires.0.says in
+    c.from_nodes.ensures ∙ sym (goes_on _ _ b c.weights_good.result (ap not (sym e)) c.row-a.result c.row-a.ensures c.in-Done.is)

@@ -1,0 +1,14 @@
+use Rattle.meaning.specs.Sizes.{set_bytes}
+use Rattle.card.proofs.AddDel.{Joined, joined_start, joined_turn, joined_all}
+use mathlib.Core.Path.{◌≡◌, refl}
+use Prim.Native.Nat.{◌-◌, ◌*◌, ◌≤◌}
+use native.Mathlib.Omega.{arith}
+use borrow.Author.Rules.{rules}
+use lib.ListN.{length}
+use Rattle.card.proofs.contents.all_add_del_1.Given as goal
+
+abbrev pub invariant-loop-i : goal.invariant-loop-i
+invariant-loop-i l = (l.i ≤ l.n) × (length l.all ≡ 32) × Joined l.l l.card l.all l.i
+
+abbrev pub decreases-loop-i : goal.decreases-loop-i
+decreases-loop-i l = l.n - l.i

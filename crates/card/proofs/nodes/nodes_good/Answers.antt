@@ -1,0 +1,26 @@
+use Rattle.sets.proofs.Loops.{Kept, kept_start, kept_turn, kept_all}
+use Rattle.meaning.specs.Refusals.{node_good, nodes_good}
+use Rattle.meaning.specs.Card.{node_at}
+use mathlib.Core.Bool.{Bool}
+use Prim.Native.Nat.{ℕ, ◌-◌, ◌≤◌}
+use native.Mathlib.Omega.{arith}
+use borrow.Author.Rules.{rules}
+use Rattle.card.proofs.nodes.nodes_good.Goals as goal
+
+pub loop-i-init : goal.loop-i-init
+loop-i-init c = (omega arith, kept_start _ _)
+
+pub loop-i-preserved : goal.loop-i-preserved
+loop-i-preserved c =
+    let a = c.args in
+    let l = c.loop-i in
+    let t : ℕ → Bool = λ i. node_good a.l.atoms i (node_at a.l a.card.now i) in
+    (omega arith, rw (c.kind_good-kept.ensures, c.read_node-x.ensures) (kept_turn t a.l.nodes.count l.good l.i (omega arith) l.invariant.1))
+
+pub returns : goal.returns
+unfolding nodes_good
+returns c =
+    let a = c.args in
+    let l = c.loop-i in
+    let t : ℕ → Bool = λ i. node_good a.l.atoms i (node_at a.l a.card.now i) in
+    kept_all t a.l.nodes.count l.good l.i (omega arith) l.invariant.1

@@ -1,0 +1,6 @@
+use borrow.Author.Tests.{not-false}
+use borrow.Author.Rules.{rules}
+use Rattle.moves.proofs.run.refresh.Goals as goal
+
+pub returns-else-not-known : goal.returns-else-not-known
+returns-else-not-known c = (c.requires.2 (c.if-not-known.false), c.requires.1)

@@ -1,0 +1,22 @@
+use Rattle.door.specs.declared.in_place.RanInPlace.{RanInPlace}
+use Rattle.door.specs.InPlace.{ran_with}
+use mathlib.Core.Bool.{true, false}
+use lib.ListN.{length}
+use Rattle.paper.proofs.Relation.{false≢true}
+use Rattle.meaning.specs.Configurations.{state_of}
+use Rattle.choices.specs.Judged.{Marked}
+use Rattle.moves.proofs.Running.{Running, running_start, running_spent, running_rest, running_full, running_moved}
+use Rattle.layout.specs.PlaceParts.{configured}
+use mathlib.Core.Path.{◌≡◌, ap, ◌∙◌}
+use Prim.Native.Nat.{◌-◌}
+use native.Mathlib.Omega.{arith}
+use borrow.Author.Rules.{rules}
+use Rattle.moves.proofs.run.run_on.Given as goal
+
+abbrev pub invariant-loop-count : goal.invariant-loop-count
+invariant-loop-count l =
+    Running l.l l.card l.budget (state_of (configured l.initial.beliefs l.initial.goals l.initial.cur l.initial.plan)) (configured l.beliefs l.goals l.cur l.plan) l.count × (length l.marks ≡ 256)
+    × (l.known ≡ true → Marked l.l l.card l.beliefs l.goals l.marks)
+
+abbrev pub decreases-loop-count : goal.decreases-loop-count
+decreases-loop-count l = l.budget - l.count

@@ -1,0 +1,15 @@
+use mathlib.Core.Bool.{true}
+use Rattle.names.specs.Sheets.{offset_at, name_good}
+use Rattle.names.proofs.Sheets.{not_every, from_is, name_falls, name_wrong, name_right, all_right, one_more}
+use mathlib.Core.Path.{◌≡◌, sym, ◌∙◌}
+use Prim.Native.Nat.{ℕ, ◌-◌, ◌≤◌, ◌<◌}
+use native.Mathlib.Omega.{arith}
+use borrow.Author.Rules.{rules}
+use lib.ListN.{length}
+use Rattle.names.proofs.sheet.names_good.Given as goal
+
+abbrev pub invariant-loop-i : goal.invariant-loop-i
+invariant-loop-i l = (l.i ≤ l.n) × (l.to ≡ offset_at l.sheet l.i) × (l.to ≤ length l.sheet) × ((j : ℕ) → l.i ≤ j → j < l.n → name_good l.least l.sheet j ≡ true)
+
+abbrev pub decreases-loop-i : goal.decreases-loop-i
+decreases-loop-i l = l.i

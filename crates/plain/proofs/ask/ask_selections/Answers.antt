@@ -1,0 +1,29 @@
+use mathlib.Core.Path.{◌≡◌, refl, ap, ◌∙◌}
+use mathlib.Core.Bool.{true}
+use mathlib.Core.List.{[]}
+use Prim.Native.Nat.{◌-◌, ◌≤◌}
+use native.Mathlib.Omega.{arith}
+use lib.Dec.{eqb}
+use lib.ListN.{length-set, length}
+use Rattle.door.specs.Asking.{asked_by}
+use Rattle.plain.specs.Asking.{Asks, ask_selection}
+use Rattle.plain.proofs.Asking.{rules, planned, asks_start, asks_turn, asks_all}
+use Rattle.plain.proofs.ask.ask_selections.Goals as goal
+
+pub loop-i-init : goal.loop-i-init
+loop-i-init c = (omega arith, refl, asks_start _)
+
+pub loop-i-preserved : goal.loop-i-preserved
+loop-i-preserved c =
+    let a = c.args in
+    let l = c.loop-i in (
+      omega arith,
+      simp length-set l.invariant.1,
+      asks_turn (ask_selection a.t a.u a.judged) l.i l.answers c.asked_by.result (omega arith) (c.asked_by.ensures ∙ ap (asked_by true (eqb a.u.standing.length 0)) c.both_of-both.ensures) l.invariant.2,
+    )
+
+pub returns : goal.returns
+returns c =
+    let a = c.args in
+    let l = c.loop-i in
+    asks_all (ask_selection a.t a.u a.judged) l.i a.l.selections.count l.answers (omega arith) l.invariant.2

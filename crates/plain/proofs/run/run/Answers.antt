@@ -1,0 +1,42 @@
+use mathlib.Core.Path.{sym, ap, ◌∙◌, subst}
+use borrow.Author.Rules.{rules}
+use Rattle.runs.specs.declared.Ending.{Ending}
+use Rattle.runs.specs.Run.{run}
+use Rattle.meaning.specs.declared.Answer.TheVariants.{Done}
+use Rattle.meaning.specs.declared.Configuration.{Configuration}
+use Rattle.meaning.specs.Card.{agent_for}
+use Rattle.meaning.specs.Configurations.{state_of}
+use Rattle.meaning.specs.Calls.{ran}
+use Rattle.meaning.proofs.Calls.{runs_refused}
+use Rattle.door.specs.Ready.{Ready}
+use Rattle.door.proofs.Accepting.{admitted_good, admitted_refused}
+use Rattle.moves.proofs.Running.{runs_by}
+use Rattle.plain.proofs.run.run.Goals as goal
+
+pub returns-in_default : goal.returns-in_default
+returns-in_default c =
+    let a = c.args in
+    let b = a.card.now in
+    let (e, s) = admitted_refused b a.c _ c.admit_configuration-admitted.ensures.value _ c.in_default.is _ c.answer_of.ensures in
+    (λ i. record { answer = s i; count = 0; ending = Ending.Spent; configuration = a.c }) ∙ sym (runs_refused b a.c a.budget _ e)
+
+pub unpack_card-requires : goal.unpack_card-requires
+unpack_card-requires c = (c.admit_configuration-admitted.ensures.ready _ c.in-Good.is).card.layout
+
+pub run_on-reached-requires : goal.run_on-reached-requires
+run_on-reached-requires c =
+    let a = c.args in
+    let r = c.admit_configuration-admitted.ensures.ready _ c.in-Good.is in
+    (subst (Ready _ a.card.now) (sym c.unpack.ensures) r, c.unpack_card.ensures)
+
+pub returns : goal.returns
+returns c =
+    let a = c.args in
+    let b = a.card.now in
+    let l = c.in-Good.l in
+    let (e, s) = admitted_good b a.c _ c.admit_configuration-admitted.ensures.value _ c.in-Good.is in
+    let o = c.run_on-reached in
+    (λ i. record { answer = Done; count = o.result.count; ending = o.result.ending; configuration = c.pack.ensures i })
+    ∙ o.ensures
+    ∙ ap (λ (x : Configuration). ran (run (agent_for l b) a.budget (state_of x))) c.unpack.ensures
+    ∙ runs_by b a.c e a.budget _ s

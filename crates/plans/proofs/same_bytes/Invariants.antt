@@ -1,0 +1,16 @@
+use Rattle.plans.proofs.Laws.{differing_more}
+use Rattle.sets.proofs.Loops.{Kept, kept_start, kept_turn, kept_all}
+use Rattle.plans.specs.Plans.{same}
+use lib.Dec.{eqb}
+use mathlib.Core.Bool.{Bool, ◌&&◌}
+use Prim.Native.Nat.{ℕ, ◌+◌, ◌-◌, ◌≤◌}
+use native.Mathlib.Omega.{arith}
+use borrow.Author.Rules.{rules}
+use lib.ListN.{get_or}
+use Rattle.plans.proofs.same_bytes.Given as goal
+
+abbrev pub invariant-loop-i : goal.invariant-loop-i
+invariant-loop-i l = (l.i ≤ l.n) × Kept (same l.card l.at l.plan l.from) l.n (eqb l.differing 0) l.i
+
+abbrev pub decreases-loop-i : goal.decreases-loop-i
+decreases-loop-i l = l.n - l.i

@@ -1,0 +1,16 @@
+use mathlib.Core.Bool.{Bool}
+use Rattle.deliberation.specs.Entries.{entry_of, entry_good}
+use Rattle.card.specs.Marks.{Marks}
+use Rattle.meaning.specs.Refusals.{containing}
+use Rattle.meaning.specs.Card.{Bytes}
+use Rattle.sets.proofs.Loops.{Kept, kept_start, kept_turn, kept_all}
+use Prim.Native.Nat.{ℕ, ◌-◌, ◌≤◌}
+use native.Mathlib.Omega.{arith}
+use borrow.Author.Rules.{rules}
+use Rattle.program.proofs.entries_good.Given as goal
+
+abbrev pub invariant-loop-i : goal.invariant-loop-i
+invariant-loop-i l = (l.i ≤ l.n) × ((b : Bytes) → Marks 2 l.l b l.marks → Kept (λ i₁. entry_good (containing 2 l.l b) l.l i₁ (entry_of l.program i₁)) l.n l.good l.i)
+
+abbrev pub decreases-loop-i : goal.decreases-loop-i
+decreases-loop-i l = l.n - l.i

@@ -1,0 +1,8 @@
+use mathlib.Core.Path.{ap}
+use borrow.Author.Rules.{rules}
+use Rattle.meaning.specs.declared.SpecificationEntry.{SpecificationEntry}
+use Rattle.unpacked.specs.declared.tables.Specified.{Specified}
+use Rattle.unpacked.proofs.tables.read_specified.Goals as goal
+
+pub returns : goal.returns
+returns c = ap {B = Specified} (λ (e : SpecificationEntry). record { action = e.action; node = e.node }) c.read_specification-e.ensures

@@ -1,0 +1,19 @@
+use mathlib.Core.Path.{refl}
+use Prim.Native.Nat.{◌-◌, ◌≤◌}
+use native.Mathlib.Omega.{arith}
+use borrow.Author.Rules.{rules}
+use Rattle.meaning.specs.Card.{selection_at}
+use Rattle.unpacked.specs.Tables.{no_selection}
+use Rattle.unpacked.proofs.Filling.{Filled, filled_none, filled_turn}
+use Rattle.unpacked.proofs.tables.unpack_selections.Goals as goal
+
+pub loop-i-init : goal.loop-i-init
+loop-i-init c = (omega arith, filled_none refl)
+
+pub loop-i-preserved : goal.loop-i-preserved
+loop-i-preserved c =
+    let p = c.requires.selections in
+    (omega arith, filled_turn (omega arith) c.loop-i.invariant.1 c.read_selection.ensures.0)
+
+pub returns : goal.returns
+returns c = λ i h. c.loop-i.invariant.1.holds i (omega arith)

@@ -1,0 +1,17 @@
+use mathlib.Core.Bool.{false, not, ◌&&◌}
+use mathlib.Core.Path.{refl}
+use Prim.Native.Nat.{◌-◌, ◌≤◌}
+use native.Mathlib.Omega.{arith}
+use borrow.Author.Rules.{rules}
+use lib.ListN.{get_or}
+use Rattle.unpacked.proofs.Filling.{Filled, filled_none, filled_turn}
+use Rattle.unpacked.proofs.truths.strike.Goals as goal
+
+pub loop-k-init : goal.loop-k-init
+loop-k-init c = (omega arith, filled_none (omega arith))
+
+pub loop-k-preserved : goal.loop-k-preserved
+loop-k-preserved c = (omega arith, filled_turn (omega arith) c.loop-k.invariant.1 refl)
+
+pub returns : goal.returns
+returns c = λ k h. c.loop-k.invariant.1.holds k (omega arith)

@@ -1,0 +1,14 @@
+use mathlib.Core.Bool.{false, not, ◌&&◌}
+use mathlib.Core.Path.{refl}
+use Prim.Native.Nat.{◌-◌, ◌≤◌}
+use native.Mathlib.Omega.{arith}
+use borrow.Author.Rules.{rules}
+use lib.ListN.{get_or}
+use Rattle.unpacked.proofs.Filling.{Filled, filled_none, filled_turn}
+use Rattle.unpacked.proofs.truths.strike.Given as goal
+
+abbrev pub invariant-loop-k : goal.invariant-loop-k
+invariant-loop-k l = (l.k ≤ 256) × Filled false (λ j. get_or l.goals j false && not (get_or l.beliefs j false)) 256 l.k l.after
+
+abbrev pub decreases-loop-k : goal.decreases-loop-k
+decreases-loop-k l = 256 - l.k

@@ -1,0 +1,24 @@
+use Rattle.verdict.proofs.Offenders.{Left, left_start, left_turn, left_bad, left_none}
+use Rattle.meaning.specs.Card.{Bytes, weight, conditions, revision_at, revision_of, agent_of, agent_for}
+use Rattle.runs.specs.Weight.{lowers}
+use Rattle.runs.specs.declared.Verdict.{Verdict}
+use Rattle.runs.specs.declared.Offender.{Offender}
+use Rattle.paper.specs.Language.{𝐁, Revision}
+use Rattle.meaning.specs.declared.Layout.{Layout}
+use borrow.Author.Tests.{not-true, not-false}
+use mathlib.Core.Path.{sym, ◌∙◌}
+use Prim.Native.Nat.{ℕ, ◌-◌, ◌≤◌}
+use native.Mathlib.Omega.{arith}
+use borrow.Author.Rules.{rules}
+use Rattle.verdict.proofs.grade.from_revisions.Given as goal
+
+-- revision rule i
+
+abbrev rule : Layout → Bytes → ℕ → Revision
+rule l b i = revision_of (conditions 𝐁 l b) l b (revision_at l b i)
+
+abbrev pub invariant-loop-i : goal.invariant-loop-i
+invariant-loop-i l = (l.i ≤ l.n) × Left (lowers (weight l.card)) Offender.Revision (rule l.l l.card) l.n Verdict.Bounded l.i
+
+abbrev pub decreases-loop-i : goal.decreases-loop-i
+decreases-loop-i l = l.n - l.i

@@ -1,0 +1,24 @@
+use Rattle.verdict.proofs.Offenders.{Left, left_start, left_turn, left_bad, left_none}
+use Rattle.meaning.specs.Card.{Bytes, weight, conditions, selection_at, selection_of, agent_of, agent_for}
+use Rattle.runs.specs.Weight.{light}
+use Rattle.runs.specs.declared.Offender.{Offender}
+use Rattle.paper.specs.Language.{𝐁, 𝐆, Selection}
+use Rattle.verdict.specs.Verdicts.{revisions_verdict}
+use Rattle.meaning.specs.declared.Layout.{Layout}
+use borrow.Author.Tests.{not-true, not-false}
+use mathlib.Core.Path.{sym, ◌∙◌}
+use Prim.Native.Nat.{ℕ, ◌-◌, ◌≤◌}
+use native.Mathlib.Omega.{arith}
+use borrow.Author.Rules.{rules}
+use Rattle.verdict.proofs.grade.from_selections.Given as goal
+
+-- selection rule i
+
+abbrev rule : Layout → Bytes → ℕ → Selection
+rule l b i = selection_of (conditions 𝐁 l b) (conditions 𝐆 l b) l b (selection_at l b i)
+
+abbrev pub invariant-loop-i : goal.invariant-loop-i
+invariant-loop-i l = (l.i ≤ l.n) × Left (λ x. light (weight l.card) x.π) Offender.Selection (rule l.l l.card) l.n (revisions_verdict l.l l.card) l.i
+
+abbrev pub decreases-loop-i : goal.decreases-loop-i
+decreases-loop-i l = l.n - l.i

@@ -1,0 +1,11 @@
+use Rattle.verdict.proofs.Weights.{weighable}
+use borrow.Author.Rules.{rules}
+use Rattle.verdict.proofs.grade.judge.Goals as goal
+
+pub sum-requires : goal.sum-requires
+sum-requires c =
+    let a = c.args in
+    (weighable a.l a.card.now c.requires _ c.header_bytes.ensures.0, c.no_sums-sums.ensures)
+
+pub from_initial-requires : goal.from_initial-requires
+from_initial-requires c = (c.requires, c.sum.ensures)

@@ -1,0 +1,16 @@
+use Rattle.verdict.proofs.Weights.{weigh_next, weigh_done}
+use Rattle.meaning.proofs.Parts.{length_part, part_at}
+use Rattle.meaning.specs.Card.{byte, part, weight}
+use Rattle.runs.specs.Weight.{weigh}
+use mathlib.Core.Path.{◌≡◌, ap, ◌∙◌}
+use Prim.Native.Nat.{◌+◌, ◌-◌, ◌*◌, ◌≤◌}
+use native.Mathlib.Omega.{arith}
+use borrow.Author.Rules.{rules}
+use lib.ListN.{length, get_or, drop}
+use Rattle.verdict.proofs.sums.part_weight.Given as goal
+
+abbrev pub invariant-loop-i : goal.invariant-loop-i
+invariant-loop-i l = (l.i ≤ l.n) × (l.total ≤ 1024 * l.i) × (l.total + weigh (weight l.card) (drop l.i (part l.card l.at l.n)) ≡ weigh (weight l.card) (part l.card l.at l.n))
+
+abbrev pub decreases-loop-i : goal.decreases-loop-i
+decreases-loop-i l = l.n - l.i
