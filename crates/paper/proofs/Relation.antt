@@ -80,10 +80,10 @@ sound (execute {σ = σ} {γ = γ} {π = π} {s = s} e p) =
     rw e (outcome_yes can_act acted c s (rw (T→≡ (eqb s.a s.a) (eqb_refl s.a)) (T→≡ (c ⊨ s.β) p)))
 sound (apply_PS {σ = σ} {γ = γ} {r = r} e p q) =
     let c = ⟨ σ / [] / γ ⟩ in
-    rw e (outcome_yes can_select selected c r (rw (T→≡ (c ⊨ r.β) p) (T→≡ (c ⊨ r.κ) q)))
+    rw e (outcome_yes can_select selected c r (rw (T→≡ (c ⊨ r.β) p) (let g = T→≡ (c ⊨ r.κ) q in cc)))
 sound (apply_PR {σ = σ} {γ = γ} π {r = r} e p) =
     let c = ⟨ σ / r.πₕ ++ π / γ ⟩ in
-    let s : outcome can_revise revised c (some r) ≡ some (revised c r) = outcome_yes can_revise revised c r (rw (prefix-append r.πₕ π) (T→≡ (c ⊨ r.β) p)) in
+    let s : outcome can_revise revised c (some r) ≡ some (revised c r) = outcome_yes can_revise revised c r (rw (prefix-append r.πₕ π) (let b = T→≡ (c ⊨ r.β) p in cc)) in
     rw e (s ∙ ap {B = Option Config} (λ ρ. some ⟨ σ / r.πb ++ ρ / γ ⟩) (drop_append r.πₕ π))
 
 -- ---- and back

@@ -5,6 +5,7 @@ use Rattle.meaning.specs.Configurations.{state_of}
 use Rattle.layout.specs.PlaceParts.{configured}
 use Rattle.choices.specs.Judged.{AllSets}
 use Rattle.layout.specs.Entries.{count_of}
+use Rattle.layout.proofs.GoodLayout.{at_most_256}
 use Rattle.door.proofs.First.{LeftOf, left_start, left_turn, found_of_kind, none_of_kind}
 use mathlib.Core.Path.{sym, ◌∙◌}
 use Prim.Native.Nat.{◌-◌, ◌≤◌}
@@ -21,6 +22,12 @@ returns-then-is_enabled c = λ σ γ j.
     let l = c.loop-i in
     let s : Config = (state_of (configured σ γ a.m a.plan.now)).mental in
     found_of_kind a.l a.card.now s a.kind l.i c.requires.1 (omega (arith, c.loop-i-test.true)) (sym (c.is_enabled.ensures σ γ j) ∙ c.if-is_enabled.true) (l.invariant.1 σ γ j)
+
+pub overflow_add-i : goal.overflow_add-i
+overflow_add-i c =
+    let a = c.args in
+    let h = at_most_256 a.l a.card.now c.requires.0.judged.ready.card.layout a.kind in
+    search (rules, h)
 
 pub loop-i-preserved : goal.loop-i-preserved
 loop-i-preserved c =
