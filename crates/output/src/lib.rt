@@ -1,4 +1,5 @@
 // What the programs write: words, numbers, the front of a buffer.
+#![tactic(auto)]
 
 // Words, on standard output.
 pub fn write(words: &[u8]) {
