@@ -3,7 +3,6 @@ use mathlib.Core.Path.{subst, sym}
 use Rattle.meaning.specs.Numbers.{verdict_rule}
 use Rattle.meaning.specs.declared.Graded.{Graded}
 use Prim.Native.Nat.{◌<◌}
-use borrow.Author.Rules.{rules}
 use Rattle.drill.proofs.grade.Goals as goal
 
 pub verdict_rule-rule-requires : goal.verdict_rule-rule-requires

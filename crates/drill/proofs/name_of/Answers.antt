@@ -1,7 +1,6 @@
 use Rattle.names.specs.Naming.{asked}
 use Rattle.names.proofs.Told.{sheet_told}
 use native.Mathlib.Omega.{arith}
-use borrow.Author.Rules.{rules}
 use Rattle.drill.proofs.name_of.Goals as goal
 
 pub sheet_number-requires : goal.sheet_number-requires

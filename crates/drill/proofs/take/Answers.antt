@@ -1,6 +1,5 @@
 use Rattle.demands.proofs.Showing.{node_narrow}
 use native.Mathlib.Omega.{arith}
-use borrow.Author.Rules.{rules}
 use Rattle.drill.proofs.take.Goals as goal
 
 pub overflow_cast-node : goal.overflow_cast-node

@@ -1,6 +1,5 @@
 use Rattle.bounded.proofs.Narrow.{bounded_node_narrow}
 use native.Mathlib.Omega.{arith}
-use borrow.Author.Rules.{rules}
 use Rattle.drill.proofs.take_bounded.Goals as goal
 
 pub overflow_cast-node : goal.overflow_cast-node

@@ -1,5 +1,4 @@
 use mathlib.Core.Path.{sym, ◌∙◌}
-use borrow.Author.Rules.{rules}
 use Rattle.meaning.proofs.Calls.{good_judged}
 use Rattle.card.proofs.GoodCard.{good_card}
 use Rattle.move_names.proofs.show.Goals as goal

@@ -1,6 +1,5 @@
 use mathlib.Core.Path.{sym, ◌∙◌}
 use native.Mathlib.Omega.{arith}
-use borrow.Author.Rules.{rules}
 use Rattle.door.proofs.Accepting.{accepted_card}
 use lib.ListN.{length}
 use Rattle.print_text.proofs.show.Goals as goal

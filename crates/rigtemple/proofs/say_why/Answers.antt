@@ -1,4 +1,3 @@
-use borrow.Author.Rules.{rules}
 use Rattle.rigtemple.proofs.say_why.Goals as goal
 
 pub judge_nodes-requires : goal.judge_nodes-requires

@@ -1,5 +1,4 @@
 use mathlib.Core.Path.{sym, ◌∙◌}
-use borrow.Author.Rules.{rules}
 use Rattle.door.proofs.Accepting.{accepted_card}
 use Rattle.rigtemple.proofs.show.Goals as goal
 
