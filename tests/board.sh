@@ -13,15 +13,16 @@ archive=$root/target/staticlib/libboard.a
 build_board() {
     [ -d "$root/crates/board" ] || die "crates/board is missing"
     [ -f "$archive" ] &&
-        [ -z "$(find "$root/crates" "$root/crates.txt" -type f -newer "$archive")" ] && return
+        [ -z "$(find "$root/crates" "$root/crates.txt" -name out -prune -o -type f -newer "$archive" -print)" ] && return
     mkdir -p "$root/target/c"
     touch "$root/target/c/asked" # what changes from here on is newer than the archive
     built=0
-    prove_with_progress rt staticlib board >&2 || built=$?
+    prove_with_progress board rt lib >&2 || built=$?
     if [ "$built" -ne 0 ]; then
-        rm -f "$archive" # it may be half written
         [ "$built" -le 128 ] || exit "$built"
-        die "rt staticlib board failed, so there is no library"
+        die "rt lib failed in crates/board, so there is no library"
     fi
+    mkdir -p "${archive%/*}"
+    cp "$root/crates/board/out/libboard.a" "$archive"
     touch -r "$root/target/c/asked" "$archive"
 }

@@ -51,7 +51,7 @@ END
 build_module() {
     [ -f "$module" ] && [ -f "$words" ] && [ -f "${archive:?}" ] &&
         [ -z "$(find "$archive" -newer "$module")" ] &&
-        [ -z "$(find "$root/crates" "$root/crates.txt" -type f -newer "$archive")" ] && return
+        [ -z "$(find "$root/crates" "$root/crates.txt" -name out -prune -o -type f -newer "$archive" -print)" ] && return
     keep=$root/target/module before=${RATTLE_HOME-}
     rm -rf "$keep" "$archive"
     watched_kit "$keep"

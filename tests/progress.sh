@@ -1,8 +1,8 @@
 # shellcheck shell=sh
-# Read by the scripts that have rt prove something. `prove_with_progress rt check NAME` and
-# `prove_with_progress rt staticlib NAME` run the command in $root, and say on standard error what
-# the time usually is and each crate as rt finishes it. The status is the command's; where it fails,
-# its last two lines are shown.
+# Read by the scripts that have rt prove something. `prove_with_progress NAME rt lib` and
+# `prove_with_progress NAME rt run` run the command in the folder of the crate NAME, and say on
+# standard error what the time usually is and each crate as rt finishes it. The status is the
+# command's; where it fails, its last two lines are shown.
 #
 # HUP, INT and TERM end the command and all that it started; the status is then 128 and the signal's
 # number. The traps of these three are prove_with_progress's own, and none are set after it: a
@@ -11,7 +11,7 @@
 # How many crates of crates.txt some crates need, themselves among them; other words count nothing.
 crates_needed() { # WORD...
     awk -v words="$*" '
-        { sub(/#.*/, ""); sub(/:/, " ") }
+        { sub(/#.*/, ""); sub(/ staticlib/, ""); sub(/:/, " ") }
         NF { crate = $1; $1 = ""; below[crate] = $0 }
         END {
             count = split(words, todo)
@@ -28,24 +28,17 @@ crates_needed() { # WORD...
 
 # Reads what rt says and tells of each crate; FILE keeps all of it.
 tell_crates() { # NEEDED FILE
-    finished=0
+    finished=0 crate=
     while IFS= read -r line; do
         printf '%s\n' "$line" >&3
-        word=proved
         case $line in
-        'rt: '*' proved (unchanged'*) word='proved before' ;;
-        'rt: '*' proved ('*) ;;
-        'rt: target/staticlib/lib'*' has the functions of '*) line=${line#*has the functions of } ;;
-        'rt: '*' NOT PROVED'* | 'rt: '*' its run FAILED'*)
-            printf '%s\n' "${line#rt: }" >&2
-            continue
+        'crate '*:*) crate=${line#crate } crate=${crate%%:*} ;;
+        'logic=proved '*)
+            finished=$((finished + 1))
+            printf '%s proved, %d of %d, %d left\n' "$crate" "$finished" "$1" $(($1 - finished)) >&2
             ;;
-        *) continue ;;
+        'logic='*) printf '%s NOT PROVED\n' "$crate" >&2 ;;
         esac
-        line=${line#rt: }
-        finished=$((finished + 1))
-        printf '%s %s, %d of %d, %d left\n' "${line%% *}" "$word" "$finished" "$1" \
-            $(($1 - finished)) >&2
     done 3>"$2"
 }
 
@@ -71,8 +64,9 @@ wait_for_job() {
     done
 }
 
-prove_with_progress() { # COMMAND...
-    needed=$(crates_needed "$@")
+prove_with_progress() { # NAME COMMAND...
+    needed=$(crates_needed "$1") crate_folder=$root/crates/$1
+    shift
     progress=$(mktemp -d) && chmod 711 "$progress" && mkfifo "$progress/pipe" || return 2
     job='' stopped=0
     trap 'end_job 129' HUP
@@ -83,7 +77,7 @@ prove_with_progress() { # COMMAND...
     tell_crates "$needed" "$progress/said" <"$progress/pipe" &
     teller=$!
     # what a stopped prover leaves in the temporary folder goes with this one
-    (cd "$root" && TMPDIR=$progress exec setsid "$@") >"$progress/pipe" 2>&1 </dev/null &
+    (cd "$crate_folder" && TMPDIR=$progress exec setsid "$@") >"$progress/pipe" 2>&1 </dev/null &
     job=$!
     [ "$stopped" -eq 0 ] || end_job "$stopped"
     wait_for_job

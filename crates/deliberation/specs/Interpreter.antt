@@ -13,7 +13,7 @@ or_one_of P (Q ∷ Qs) = or_one_of (P ⊕ Q) Qs
 unfoldable pub any_move : Agent → Prog
 any_move A = or_one_of execute (map apply (numbers 0 (length A.PR)))
 
--- 000, Definition 19: "Then the interpreter can be defined as follows. while not_empty_plan do (execute + apply(ρ_1) + ... +
+-- 000, Definition 19: "Then the interpreter can be defined as follows. while notEmptyPlan do (execute + apply(ρ_1) + ... +
 -- apply(ρ_n)) od"
 unfoldable pub interpreter : Agent → Prog
 interpreter A = while not_empty_plan doing any_move A od

@@ -1,5 +1,7 @@
 // Our own deliberation (02, Wish 6): the words in which its calls answer. The definitions of what they answer are in specs/. It
 // holds no code.
+#![tactic(auto)]
+
 use meaning::{Answer, Configuration};
 
 // 02, Wish 6: "Endings, in this order: spent, finished, stuck, full."

@@ -4,7 +4,7 @@ use Rattle.std.specs.Prelude.{◌≡◌, ◌↔◌, ℕ, ◌≤◌, ◌<◌}
 use Rattle.runs.specs.Limits.{heaviest_plan}
 use Rattle.runs.specs.declared.Offender.{Offender}
 use Rattle.runs.specs.declared.Verdict.{Verdict}
-use Rattle.runs.specs.Weight.{weigh, verdict}
+use Rattle.runs.specs.Weight.{weigh}
 use Rattle.meaning.specs.declared.Refusal.{Refusal}
 use Rattle.meaning.specs.declared.Answer.TheVariants.{Refused}
 use Rattle.meaning.specs.declared.Configuration.{Configuration}

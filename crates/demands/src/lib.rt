@@ -1,1 +1,3 @@
+#![tactic(auto)]
+
 // The demands of the letter. It holds no code.

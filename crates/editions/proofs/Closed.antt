@@ -1,7 +1,7 @@
 -- Why a choice is closed is told alike with sets in 32 bytes and in 16; and the sets of a card's own agent have 16.
 use mathlib.Core.Path.{◌≡◌, ap, subst}
 use mathlib.Core.List.{[], ◌∷◌, List, map}
-use mathlib.Core.Option.{none, some}
+use mathlib.Core.Option.{some}
 use Prim.Native.Nat.{ℕ, zero, suc, ◌≤◌}
 use lib.Dec.{ltb}
 use lib.ListN.{length, get_or, get_elem?}

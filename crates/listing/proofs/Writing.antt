@@ -16,7 +16,6 @@ use Rattle.meaning.specs.declared.Layout.{Layout}
 use Rattle.meaning.specs.declared.Configuration.{Configuration}
 use Rattle.meaning.specs.Card.{Bytes, layout, agent, agent_for}
 use Rattle.meaning.specs.Configurations.{state_of}
-use Rattle.meaning.specs.Calls.{over}
 use Rattle.layout.specs.GoodLayout.{GoodLayout}
 use Rattle.layout.proofs.GoodLayout.{at_most_256}
 use Rattle.listing.specs.Listed.{enabled_code, codes_of, codes_in, Gathered, over_from}

@@ -1,5 +1,7 @@
 // The meaning of a card: the words in which the eight calls, `next` and the two calls for bounded cards answer. The definitions of
 // what they answer are in specs/. It holds no code.
+#![tactic(auto)]
+
 use runs::{Ending, Verdict};
 
 // 01, "Numbers the guide may answer": the rows of the table but the first, by their names, in its order; in the place of "not

@@ -1,6 +1,6 @@
 -- The same of lines: by its first byte a line goes on as its kind does.
 use mathlib.Core.Path.{◌≡◌, refl, ap, sym, ◌∙◌, subst}
-use mathlib.Core.Bool.{true, false}
+use mathlib.Core.Bool.{true}
 use mathlib.Core.List.{List, [], ◌∷◌, ◌++◌, append_assoc}
 use mathlib.Core.Option.{none}
 use Prim.Native.Nat.{ℕ, zero}

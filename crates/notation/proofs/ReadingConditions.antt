@@ -1,6 +1,6 @@
 -- The reader as a function reads the condition that the grammar derives, if it does not nest too deep.
 use mathlib.Core.Path.{◌≡◌, refl, ap, sym, ◌∙◌}
-use mathlib.Core.Bool.{Bool, true, false}
+use mathlib.Core.Bool.{Bool, false}
 use mathlib.Core.List.{[], ◌∷◌, ◌++◌, append_assoc}
 use Prim.Native.Nat.{ℕ, zero, suc, ◌≤◌}
 use native.Mathlib.Nat.{le_refl, le-max_left, le-max_right, max-le, not-suc-le-zero}

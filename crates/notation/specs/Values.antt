@@ -1,6 +1,6 @@
 -- A reader as a function: what stands at the front of a text, and what is left of it. The code is proved against it on all bytes;
 -- it gives what the grammar derives wherever that derives anything.
-use Rattle.std.specs.Prelude.{Bool, true, false, ◌&&◌, List, [], ◌∷◌, ◌++◌, ℕ, zero, suc, ◌+◌, ◌-◌, ◌*◌, eqb, length, drop}
+use Rattle.std.specs.Prelude.{Bool, true, ◌&&◌, List, [], ◌∷◌, ◌++◌, ℕ, zero, suc, ◌+◌, ◌-◌, ◌*◌, eqb, length, drop}
 use Prim.Native.Char.{code}
 use Rattle.paper.specs.Next.{if}
 use Rattle.meaning.specs.Trees.{Tree, true, believes, goal, and, or}

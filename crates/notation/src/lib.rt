@@ -1,3 +1,2 @@
 // The notation of a text card, in definitions; no code.
 #![tactic(auto)]
-

@@ -2,13 +2,12 @@
 use mathlib.Core.Path.{◌≡◌, refl, sym, subst}
 use mathlib.Core.Bool.{Bool, true, false}
 use mathlib.Core.List.{List, [], ◌∷◌, ◌++◌}
-use mathlib.Core.Option.{some}
 use Prim.Native.Nat.{ℕ, zero, suc, ◌+◌, ◌*◌, ◌≤◌, ◌<◌}
 use native.Mathlib.Nat.{add-zero, zero-add, not-suc-le-zero, le_of_suc-le-suc}
 use native.Mathlib.Omega.{arith}
 use lib.ListN.{length}
 use borrow.Author.Tests.{ltb-true, ltb-false, leb-true, leb-false}
-use Rattle.paper.specs.Language.{Plan, Selection, Revision, Agent, Config}
+use Rattle.paper.specs.Language.{Plan, Selection, Agent, Config}
 use Rattle.paper.specs.Transitions.{Choice, Entry, Step, execute, apply_PS, apply_PR}
 use Rattle.paper.proofs.Relation.{none≢some, some_inj}
 use Rattle.runs.specs.declared.Ending.{Ending}

@@ -37,7 +37,8 @@ unfoldable pub numbers : ℕ → ℕ → List ℕ
 numbers k zero = []
 numbers k (suc m) = k ∷ numbers (suc k) m
 
--- One of three by a kind: 01, "A configuration and its transitions": "the kind (0 selection, 1 action, 2 revision)". Serves of_kind.
+-- One of three by a kind: 01, "A configuration and its transitions": "the kind (0 selection, 1 action, 2 revision)". Serves
+-- of_kind.
 abbrev pub by_kind : {X : Type 0} → ℕ → X → X → X → X
 by_kind k selection action revision = get_or (selection ∷ action ∷ []) k revision
 

@@ -177,7 +177,7 @@ pub record GradeLaws (w : ℕ → ℕ) (A : Agent) (initial : Plan) : Type 0 whe
   -- transitions without a plan selection exists, whoever chooses"
   pub without_selection : verdict w A initial ≡ Verdict.Bounded → {c c' : Config} {ks : List Choice} → weigh w c.π ≤ heaviest_plan
       → Chain A c ks c' → selections ks ≡ 0 → length ks ≤ weigh w c.π
-  -- 00, demand 3: "a run with S selections has at most 𝓛 plus 1,025 times S transitions"
+  -- 00, demand 3: "a run with S selections has at most W plus 1,025 times S transitions"
   pub with_selections : verdict w A initial ≡ Verdict.Bounded → {c c' : Config} {ks : List Choice} → weigh w c.π ≤ heaviest_plan
       → Chain A c ks c' → length ks ≤ weigh w c.π + 1025 * selections ks
   -- 00, demand 3: "no run, selections included, ever meets a plan too long"

@@ -1,4 +1,5 @@
 // Document 01's part: the words in which it speaks of a run's end and of a card's grade. It holds no code.
+#![tactic(auto)]
 
 // 01, "A configuration and its transitions": "one of three endings".
 #[derive(Clone, Copy)]

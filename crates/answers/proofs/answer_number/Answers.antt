@@ -1,6 +1,5 @@
 use Rattle.meaning.specs.Refusals.{answer_number}
 use mathlib.Core.Path.{sym, ap, ◌∙◌}
-use borrow.Author.Rules.{rules}
 use Rattle.answers.proofs.answer_number.Goals as goal
 
 pub returns-in-Done : goal.returns-in-Done

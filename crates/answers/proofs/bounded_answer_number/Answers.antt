@@ -1,7 +1,6 @@
 use Rattle.meaning.specs.BoundedCalls.{as_answer}
 use Rattle.meaning.specs.Refusals.{answer_number}
 use mathlib.Core.Path.{sym, ap, ◌∙◌}
-use borrow.Author.Rules.{rules}
 use Rattle.answers.proofs.bounded_answer_number.Goals as goal
 
 pub returns-in-Done : goal.returns-in-Done

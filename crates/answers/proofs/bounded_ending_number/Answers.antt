@@ -1,6 +1,5 @@
 use Rattle.meaning.specs.BoundedCalls.{as_ending}
 use Rattle.meaning.specs.Numbers.{ending_number}
-use borrow.Author.Rules.{rules}
 use Rattle.answers.proofs.bounded_ending_number.Goals as goal
 
 pub returns-in-Spent : goal.returns-in-Spent

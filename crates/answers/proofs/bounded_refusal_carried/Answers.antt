@@ -2,7 +2,6 @@ use Rattle.answers.proofs.Laws.{bounded_nothing}
 use Rattle.meaning.specs.BoundedCalls.{as_refusal}
 use Rattle.meaning.specs.Refusals.{carried}
 use mathlib.Core.Path.{sym}
-use borrow.Author.Rules.{rules}
 use borrow.Enum.Refused.{opened}
 use Rattle.answers.proofs.bounded_refusal_carried.Goals as goal
 

@@ -1,6 +1,5 @@
 use Rattle.meaning.specs.BoundedCalls.{as_refusal}
 use Rattle.meaning.specs.Refusals.{number_of}
-use borrow.Author.Rules.{rules}
 use Rattle.answers.proofs.bounded_refusal_number.Goals as goal
 
 pub returns-in-Short : goal.returns-in-Short

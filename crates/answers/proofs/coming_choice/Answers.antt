@@ -1,5 +1,4 @@
 use Rattle.meaning.specs.Numbers.{coming_choice}
-use borrow.Author.Rules.{rules}
 use Rattle.answers.proofs.coming_choice.Goals as goal
 
 pub returns-in-Move : goal.returns-in-Move

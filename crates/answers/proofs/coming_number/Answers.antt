@@ -1,5 +1,4 @@
 use Rattle.meaning.specs.Numbers.{coming_number}
-use borrow.Author.Rules.{rules}
 use Rattle.answers.proofs.coming_number.Goals as goal
 
 pub returns-in-Move : goal.returns-in-Move

@@ -1,5 +1,4 @@
 use Rattle.deliberation.specs.Deliberate.{deliberation_ending_number}
-use borrow.Author.Rules.{rules}
 use Rattle.answers.proofs.deliberation_ending_number.Goals as goal
 
 pub returns-in-Spent : goal.returns-in-Spent

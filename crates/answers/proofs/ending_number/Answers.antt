@@ -1,5 +1,4 @@
 use Rattle.meaning.specs.Numbers.{ending_number}
-use borrow.Author.Rules.{rules}
 use Rattle.answers.proofs.ending_number.Goals as goal
 
 pub returns-in-Spent : goal.returns-in-Spent

@@ -1,5 +1,4 @@
 use Rattle.meaning.specs.Numbers.{offender_number}
-use borrow.Author.Rules.{rules}
 use Rattle.answers.proofs.offender_number.Goals as goal
 
 pub returns-in-InitialPlan : goal.returns-in-InitialPlan

@@ -1,7 +1,6 @@
 use Rattle.answers.proofs.Laws.{carries_nothing}
 use Rattle.meaning.specs.Refusals.{carried}
 use mathlib.Core.Path.{sym}
-use borrow.Author.Rules.{rules}
 use borrow.Enum.Refused.{opened}
 use Rattle.answers.proofs.refusal_carried.Goals as goal
 

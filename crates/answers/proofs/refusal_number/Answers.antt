@@ -1,5 +1,4 @@
 use Rattle.meaning.specs.Refusals.{number_of}
-use borrow.Author.Rules.{rules}
 use Rattle.answers.proofs.refusal_number.Goals as goal
 
 pub returns-in-Short : goal.returns-in-Short

@@ -3,7 +3,6 @@ use Rattle.meaning.specs.Numbers.{sheet_number}
 use mathlib.Core.Path.{sym, ap, subst, ◌∙◌}
 use Prim.Native.Nat.{◌<◌}
 use native.Mathlib.Omega.{arith}
-use borrow.Author.Rules.{rules}
 use Rattle.answers.proofs.sheet_number.Goals as goal
 
 pub overflow_cast-result : goal.overflow_cast-result

@@ -1,5 +1,4 @@
 use Rattle.meaning.specs.Numbers.{verdict_number}
-use borrow.Author.Rules.{rules}
 use Rattle.answers.proofs.verdict_number.Goals as goal
 
 pub returns-in-Bounded : goal.returns-in-Bounded

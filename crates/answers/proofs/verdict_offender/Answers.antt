@@ -1,6 +1,5 @@
 use Rattle.meaning.specs.Numbers.{verdict_offender}
 use mathlib.Core.Path.{sym, ap, ◌∙◌}
-use borrow.Author.Rules.{rules}
 use Rattle.answers.proofs.verdict_offender.Goals as goal
 
 pub returns-in-Bounded : goal.returns-in-Bounded

@@ -2,7 +2,6 @@ use Rattle.runs.specs.declared.Verdict.{Verdict}
 use mathlib.Core.Path.{subst, sym, ap, ◌∙◌}
 use Rattle.meaning.specs.Numbers.{verdict_rule}
 use Prim.Native.Nat.{◌<◌}
-use borrow.Author.Rules.{rules}
 use Rattle.answers.proofs.verdict_rule.Goals as goal
 
 pub offender_rule-requires : goal.offender_rule-requires

@@ -1,6 +1,5 @@
 use Rattle.meaning.specs.Numbers.{checked_number}
 use mathlib.Core.Path.{sym, ap, ◌∙◌}
-use borrow.Author.Rules.{rules}
 use Rattle.board.proofs.rigtemple_4_check_parts.Goals as goal
 
 pub returns-in-Good : goal.returns-in-Good

@@ -5,8 +5,6 @@ use Rattle.meaning.specs.Refusals.{answer_number}
 use Rattle.layout.specs.PlaceParts.{configured}
 use Rattle.board.specs.Header.{whole}
 use mathlib.Core.Path.{ap, ◌∙◌}
-use borrow.Author.Rules.{rules}
-use lib.ListN.{length}
 use Rattle.board.proofs.rigtemple_4_go_on_parts.Goals as goal
 
 pub returns : goal.returns

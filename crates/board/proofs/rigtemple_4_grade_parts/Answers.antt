@@ -4,7 +4,6 @@ use Rattle.meaning.specs.Numbers.{verdict_number, verdict_offender, verdict_rule
 use Rattle.meaning.specs.Refusals.{answer_number}
 use Rattle.meaning.specs.declared.Graded.{Graded}
 use Prim.Native.Nat.{◌<◌}
-use borrow.Author.Rules.{rules}
 use Rattle.board.proofs.rigtemple_4_grade_parts.Goals as goal
 
 pub verdict_rule-requires : goal.verdict_rule-requires

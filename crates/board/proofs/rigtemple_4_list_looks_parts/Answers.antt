@@ -4,7 +4,6 @@ use Rattle.meaning.specs.declared.Standing.{Standing}
 use Rattle.meaning.specs.declared.Listed.{Listed}
 use Rattle.meaning.specs.Calls.{lists, list_leaves}
 use mathlib.Core.Path.{ap, ◌∙◌}
-use borrow.Author.Rules.{rules}
 use Rattle.board.proofs.rigtemple_4_list_looks_parts.Goals as goal
 
 pub returns : goal.returns

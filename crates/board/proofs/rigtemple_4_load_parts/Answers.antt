@@ -2,7 +2,6 @@ use Rattle.board.specs.Header.{whole}
 use Rattle.meaning.specs.Refusals.{answer_number}
 use Rattle.meaning.specs.declared.Reply.{Reply}
 use mathlib.Core.Path.{ap, ◌∙◌}
-use borrow.Author.Rules.{rules}
 use Rattle.board.proofs.rigtemple_4_load_parts.Goals as goal
 
 pub returns : goal.returns

@@ -5,8 +5,6 @@ use Rattle.meaning.specs.Refusals.{answer_number}
 use Rattle.meaning.specs.Numbers.{sheet_number}
 use mathlib.Core.Path.{ap, ◌∙◌}
 use native.Mathlib.Omega.{arith}
-use borrow.Author.Rules.{rules}
-use lib.ListN.{length}
 use Rattle.board.proofs.rigtemple_4_name_parts.Goals as goal
 
 pub sheet_number-requires : goal.sheet_number-requires

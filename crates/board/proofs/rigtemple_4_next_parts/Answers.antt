@@ -5,7 +5,6 @@ use Rattle.meaning.specs.declared.Standing.{Standing}
 use Rattle.meaning.specs.declared.Next.{Next}
 use Rattle.meaning.specs.Calls.{nexts}
 use mathlib.Core.Path.{ap, ◌∙◌}
-use borrow.Author.Rules.{rules}
 use Rattle.board.proofs.rigtemple_4_next_parts.Goals as goal
 
 pub returns : goal.returns

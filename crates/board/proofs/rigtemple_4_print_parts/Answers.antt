@@ -1,4 +1,3 @@
-use borrow.Author.Rules.{rules}
 use Rattle.board.proofs.rigtemple_4_print_parts.Goals as goal
 
 pub returns : goal.returns

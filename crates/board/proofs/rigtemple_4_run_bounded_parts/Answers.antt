@@ -6,7 +6,6 @@ use Rattle.meaning.specs.Numbers.{ending_number}
 use Rattle.meaning.specs.declared.Ran.{Ran}
 use Rattle.meaning.specs.BoundedCalls.{bounded_runs}
 use mathlib.Core.Path.{ap, ◌∙◌}
-use borrow.Author.Rules.{rules}
 use Rattle.board.proofs.rigtemple_4_run_bounded_parts.Goals as goal
 
 pub returns : goal.returns

@@ -7,8 +7,6 @@ use Rattle.meaning.specs.declared.Standing.{Standing}
 use Rattle.meaning.specs.BoundedCalls.{bounded_takes}
 use mathlib.Core.Path.{ap, ◌∙◌}
 use native.Mathlib.Omega.{arith}
-use borrow.Author.Rules.{rules}
-use lib.ListN.{take}
 use Rattle.board.proofs.rigtemple_4_take_bounded_parts.Goals as goal
 
 pub overflow_cast-node : goal.overflow_cast-node

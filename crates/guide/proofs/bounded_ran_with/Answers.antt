@@ -1,7 +1,6 @@
 use mathlib.Core.Path.{ap}
 use Rattle.meaning.specs.declared.Configuration.{Configuration}
 use Rattle.meaning.specs.declared.BoundedRan.{BoundedRan}
-use borrow.Author.Rules.{rules}
 use Rattle.guide.proofs.bounded_ran_with.Goals as goal
 
 pub returns : goal.returns

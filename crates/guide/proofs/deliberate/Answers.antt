@@ -2,7 +2,6 @@ use mathlib.Core.Path.{ap₂, ◌∙◌}
 use Rattle.layout.specs.PlaceParts.{configured}
 use Rattle.meaning.specs.declared.Standing.{Standing}
 use Rattle.meaning.specs.Card.{Bytes}
-use borrow.Author.Rules.{rules}
 use Rattle.deliberation.specs.Deliberate.{deliberates}
 use Rattle.guide.proofs.deliberate.Goals as goal
 

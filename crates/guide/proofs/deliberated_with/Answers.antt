@@ -1,7 +1,6 @@
 use mathlib.Core.Path.{ap}
 use Rattle.meaning.specs.declared.Configuration.{Configuration}
 use Rattle.deliberation.specs.declared.Deliberated.{Deliberated}
-use borrow.Author.Rules.{rules}
 use Rattle.guide.proofs.deliberated_with.Goals as goal
 
 pub returns : goal.returns

@@ -1,6 +1,5 @@
 use Rattle.verdict.specs.Verdicts.{graded_with}
 use mathlib.Core.Path.{ap, ◌∙◌}
-use borrow.Author.Rules.{rules}
 use Rattle.guide.proofs.grade.Goals as goal
 
 pub returns : goal.returns

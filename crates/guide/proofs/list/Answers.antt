@@ -4,7 +4,6 @@ use Rattle.meaning.specs.declared.Standing.{Standing}
 use Rattle.meaning.specs.declared.Configuration.{Configuration}
 use Rattle.listing.specs.Looking.{listed_with}
 use Rattle.meaning.specs.Calls.{lists, list_leaves}
-use borrow.Author.Rules.{rules}
 use Rattle.guide.proofs.list.Goals as goal
 
 pub returns : goal.returns

@@ -1,9 +1,8 @@
 use mathlib.Core.Path.{◌∙◌}
-use borrow.Author.Rules.{rules}
 use Rattle.guide.proofs.load.Goals as goal
 
 pub returns : goal.returns
 returns c = record {
-      loads = c.reply_with.ensures.value ∙ c.load-r.ensures;
-      shaped = c.reply_with.ensures.shaped;
-    }
+  loads = c.reply_with.ensures.value ∙ c.load-r.ensures;
+  shaped = c.reply_with.ensures.shaped;
+}

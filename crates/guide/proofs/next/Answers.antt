@@ -4,7 +4,6 @@ use Rattle.meaning.specs.declared.Standing.{Standing}
 use Rattle.meaning.specs.declared.Configuration.{Configuration}
 use Rattle.moves.specs.Next.{next_with}
 use Rattle.meaning.specs.Calls.{nexts}
-use borrow.Author.Rules.{rules}
 use Rattle.guide.proofs.next.Goals as goal
 
 pub returns : goal.returns

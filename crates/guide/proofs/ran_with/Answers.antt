@@ -1,7 +1,6 @@
 use mathlib.Core.Path.{ap}
 use Rattle.meaning.specs.declared.Configuration.{Configuration}
 use Rattle.meaning.specs.declared.Ran.{Ran}
-use borrow.Author.Rules.{rules}
 use Rattle.guide.proofs.ran_with.Goals as goal
 
 pub returns : goal.returns

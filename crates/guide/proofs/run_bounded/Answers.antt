@@ -3,7 +3,6 @@ use Rattle.layout.specs.PlaceParts.{configured}
 use Rattle.meaning.specs.declared.Standing.{Standing}
 use Rattle.meaning.specs.declared.BoundedRan.{BoundedRan}
 use Rattle.meaning.specs.BoundedCalls.{as_ran, bounded_runs}
-use borrow.Author.Rules.{rules}
 use Rattle.guide.proofs.run_bounded.Goals as goal
 
 pub returns : goal.returns

@@ -6,7 +6,7 @@ use Rattle.meaning.specs.declared.Standing.{Standing}
 use Rattle.meaning.specs.declared.Configuration.{Configuration}
 use Rattle.door.specs.InPlace.{written_with}
 use Rattle.meaning.specs.Calls.{saves, save_leaves}
-use Prim.Native.Nat.{ℕ, ◌≤◌}
+use Prim.Native.Nat.{◌≤◌}
 use borrow.Author.Rules.{rules}
 use lib.ListN.{length, get_or}
 use Rattle.guide.proofs.save.Goals as goal

@@ -2,7 +2,6 @@ use mathlib.Core.Path.{ap, ◌∙◌}
 use Rattle.layout.specs.PlaceParts.{configured}
 use Rattle.meaning.specs.declared.Standing.{Standing}
 use Rattle.meaning.specs.Calls.{takes}
-use borrow.Author.Rules.{rules}
 use Rattle.guide.proofs.take.Goals as goal
 
 pub returns : goal.returns

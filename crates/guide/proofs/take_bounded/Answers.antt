@@ -3,7 +3,6 @@ use Rattle.layout.specs.PlaceParts.{configured}
 use Rattle.meaning.specs.declared.Standing.{Standing}
 use Rattle.meaning.specs.declared.BoundedReply.{BoundedReply}
 use Rattle.meaning.specs.BoundedCalls.{as_reply, bounded_takes}
-use borrow.Author.Rules.{rules}
 use Rattle.guide.proofs.take_bounded.Goals as goal
 
 pub returns : goal.returns

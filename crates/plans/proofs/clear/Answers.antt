@@ -1,11 +1,10 @@
-use lib.ListN.{length-replicate, length-set, length, set, replicate}
+use lib.ListN.{length-replicate, length-set, set, replicate}
 use lib.Seq.{take_all, paste, paste-zero}
 use Rattle.plans.proofs.Laws.{clear_more}
 use mathlib.Core.Path.{◌≡◌, refl, ap, ◌∙◌}
 use mathlib.Core.List.{List}
-use Prim.Native.Nat.{ℕ, ◌+◌, ◌-◌, ◌≤◌}
+use Prim.Native.Nat.{ℕ, ◌+◌, ◌-◌}
 use native.Mathlib.Omega.{arith}
-use borrow.Author.Rules.{rules}
 use Rattle.plans.proofs.clear.Goals as goal
 
 pub loop-i-init : goal.loop-i-init

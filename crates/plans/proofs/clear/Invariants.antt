@@ -1,11 +1,7 @@
-use lib.ListN.{length-replicate, length-set, length, set, replicate}
-use lib.Seq.{take_all, paste, paste-zero}
-use Rattle.plans.proofs.Laws.{clear_more}
-use mathlib.Core.Path.{◌≡◌, refl, ap, ◌∙◌}
-use mathlib.Core.List.{List}
-use Prim.Native.Nat.{ℕ, ◌+◌, ◌-◌, ◌≤◌}
-use native.Mathlib.Omega.{arith}
-use borrow.Author.Rules.{rules}
+use lib.ListN.{length, replicate}
+use lib.Seq.{paste}
+use mathlib.Core.Path.{◌≡◌}
+use Prim.Native.Nat.{◌-◌, ◌≤◌}
 use Rattle.plans.proofs.clear.Given as goal
 
 abbrev pub invariant-loop-i : goal.invariant-loop-i

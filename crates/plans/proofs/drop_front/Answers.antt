@@ -1,6 +1,5 @@
 use Rattle.plans.proofs.Laws.{dropped}
 use mathlib.Core.Path.{◌∙◌}
-use borrow.Author.Rules.{rules}
 use Rattle.plans.proofs.drop_front.Goals as goal
 
 pub returns : goal.returns

@@ -1,7 +1,6 @@
 use Rattle.plans.proofs.Laws.{filled}
 use mathlib.Core.Path.{◌∙◌}
 use native.Mathlib.Omega.{arith}
-use borrow.Author.Rules.{rules}
 use Rattle.plans.proofs.fill.Goals as goal
 
 pub returns : goal.returns

@@ -1,6 +1,5 @@
 use Rattle.plans.proofs.Laws.{replaced}
 use mathlib.Core.Path.{◌∙◌}
-use borrow.Author.Rules.{rules}
 use Rattle.plans.proofs.replace_front.Goals as goal
 
 pub returns : goal.returns

@@ -3,9 +3,8 @@ use Rattle.sets.proofs.Loops.{Kept, kept_start, kept_turn, kept_all}
 use Rattle.plans.specs.Plans.{same}
 use lib.Dec.{eqb}
 use mathlib.Core.Bool.{Bool, ◌&&◌}
-use Prim.Native.Nat.{ℕ, ◌+◌, ◌-◌, ◌≤◌}
+use Prim.Native.Nat.{ℕ, ◌+◌}
 use native.Mathlib.Omega.{arith}
-use borrow.Author.Rules.{rules}
 use lib.ListN.{get_or}
 use Rattle.plans.proofs.same_bytes.Goals as goal
 

@@ -1,12 +1,7 @@
-use Rattle.plans.proofs.Laws.{differing_more}
-use Rattle.sets.proofs.Loops.{Kept, kept_start, kept_turn, kept_all}
+use Rattle.sets.proofs.Loops.{Kept}
 use Rattle.plans.specs.Plans.{same}
 use lib.Dec.{eqb}
-use mathlib.Core.Bool.{Bool, ◌&&◌}
-use Prim.Native.Nat.{ℕ, ◌+◌, ◌-◌, ◌≤◌}
-use native.Mathlib.Omega.{arith}
-use borrow.Author.Rules.{rules}
-use lib.ListN.{get_or}
+use Prim.Native.Nat.{◌-◌, ◌≤◌}
 use Rattle.plans.proofs.same_bytes.Given as goal
 
 abbrev pub invariant-loop-i : goal.invariant-loop-i

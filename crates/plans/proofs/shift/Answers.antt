@@ -1,7 +1,6 @@
 use Rattle.plans.proofs.Laws.{length_zeroed, length_shift, shifted_up, shifted_down}
 use mathlib.Core.Path.{◌∙◌}
 use native.Mathlib.Omega.{arith}
-use borrow.Author.Rules.{rules}
 use Rattle.plans.proofs.shift.Goals as goal
 
 pub clear-requires : goal.clear-requires

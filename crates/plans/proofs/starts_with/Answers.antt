@@ -1,13 +1,12 @@
 use native.Mathlib.Nat.{add-zero}
-use Rattle.plans.proofs.Laws.{Agree, agree-more, last_block, block_differs, first_differs, too_long}
+use Rattle.plans.proofs.Laws.{agree-more, last_block, block_differs, first_differs, too_long}
 use Rattle.meaning.proofs.Parts.{length_part, part_at}
 use Rattle.meaning.specs.Card.{part}
-use borrow.Author.Tests.{ne_eqb, not-true, not-false}
+use borrow.Author.Tests.{ne_eqb}
 use lib.Seq.{get_or-take, length-take-le}
 use mathlib.Core.Path.{◌≡◌, refl, sym, ap, ◌∙◌}
-use Prim.Native.Nat.{◌+◌, ◌-◌, ◌≤◌}
+use Prim.Native.Nat.{◌+◌, ◌-◌}
 use native.Mathlib.Omega.{arith}
-use borrow.Author.Rules.{rules}
 use lib.ListN.{length, get_or, take}
 use Rattle.plans.proofs.starts_with.Goals as goal
 

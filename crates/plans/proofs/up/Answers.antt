@@ -3,9 +3,8 @@ use lib.Seq.{paste-zero, paste}
 use Rattle.plans.proofs.Laws.{up_more}
 use mathlib.Core.Path.{◌≡◌, refl, ap, ◌∙◌}
 use mathlib.Core.List.{List}
-use Prim.Native.Nat.{ℕ, ◌+◌, ◌-◌, ◌≤◌}
+use Prim.Native.Nat.{ℕ, ◌+◌, ◌-◌}
 use native.Mathlib.Omega.{arith}
-use borrow.Author.Rules.{rules}
 use lib.ListN.{length, get_or, set, drop}
 use Rattle.plans.proofs.up.Goals as goal
 

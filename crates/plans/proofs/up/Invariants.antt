@@ -1,12 +1,7 @@
-use native.Mathlib.Nat.{add-zero, sub-zero}
-use lib.Seq.{paste-zero, paste}
-use Rattle.plans.proofs.Laws.{up_more}
-use mathlib.Core.Path.{◌≡◌, refl, ap, ◌∙◌}
-use mathlib.Core.List.{List}
-use Prim.Native.Nat.{ℕ, ◌+◌, ◌-◌, ◌≤◌}
-use native.Mathlib.Omega.{arith}
-use borrow.Author.Rules.{rules}
-use lib.ListN.{length, get_or, set, drop}
+use lib.Seq.{paste}
+use mathlib.Core.Path.{◌≡◌}
+use Prim.Native.Nat.{◌+◌, ◌-◌, ◌≤◌}
+use lib.ListN.{drop}
 use Rattle.plans.proofs.up.Given as goal
 
 abbrev pub invariant-loop-i : goal.invariant-loop-i

@@ -1,12 +1,9 @@
 use mathlib.Core.Bool.{Bool}
 use Rattle.deliberation.specs.Entries.{entry_of, entry_good}
-use Rattle.card.specs.Marks.{Marks}
 use Rattle.meaning.specs.Refusals.{containing}
-use Rattle.meaning.specs.Card.{Bytes}
-use Rattle.sets.proofs.Loops.{Kept, kept_start, kept_turn, kept_all}
-use Prim.Native.Nat.{ℕ, ◌-◌, ◌≤◌}
+use Rattle.sets.proofs.Loops.{kept_start, kept_turn, kept_all}
+use Prim.Native.Nat.{ℕ}
 use native.Mathlib.Omega.{arith}
-use borrow.Author.Rules.{rules}
 use Rattle.program.proofs.entries_good.Goals as goal
 
 pub loop-i-init : goal.loop-i-init

@@ -1,7 +1,6 @@
 use Rattle.meaning.specs.declared.Refusal.{Refusal}
 use Rattle.card.specs.Rows.{row_answer}
 use mathlib.Core.Path.{ap, ◌∙◌}
-use borrow.Author.Rules.{rules}
 use Rattle.program.proofs.judge_program.Goals as goal
 
 pub returns : goal.returns

@@ -9,7 +9,6 @@ use Rattle.meaning.specs.Refusals.{condition_good, containing}
 use Prim.Native.Nat.{ℕ, ◌<◌}
 use native.Mathlib.Omega.{arith}
 use borrow.Author.Tests.{le-ltb}
-use borrow.Author.Rules.{rules}
 use Rattle.program.proofs.kind_good.Goals as goal
 
 pub returns-in-0 : goal.returns-in-0

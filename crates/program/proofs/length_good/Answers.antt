@@ -1,4 +1,3 @@
-use borrow.Author.Rules.{rules}
 use Rattle.program.proofs.length_good.Goals as goal
 
 pub returns : goal.returns

@@ -1,9 +1,7 @@
 use Rattle.meaning.specs.Refusals.{containing, every}
-use borrow.Author.Tests.{not-true, not-false}
 use mathlib.Core.Bool.{◌&&◌, true}
 use Rattle.deliberation.specs.Entries.{entry_of, entry_count, entry_good, length_good, program_good}
 use mathlib.Core.Path.{◌≡◌, sym, ap, ◌∙◌}
-use borrow.Author.Rules.{rules}
 use lib.ListN.{length}
 use Rattle.program.proofs.program_good.Goals as goal
 

@@ -1,5 +1,4 @@
 use Rattle.sets.proofs.Members.{one_bit}
-use borrow.Author.Rules.{rules}
 use Rattle.sets.proofs.add_member.Goals as goal
 
 pub returns : goal.returns

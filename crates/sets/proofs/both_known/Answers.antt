@@ -1,7 +1,6 @@
 use Rattle.meaning.specs.Refusals.{set_good}
 use Rattle.meaning.proofs.KnownSets.{good-∪}
 use mathlib.Core.Path.{ap, ◌∙◌}
-use borrow.Author.Rules.{rules}
 use Rattle.sets.proofs.both_known.Goals as goal
 
 pub returns : goal.returns

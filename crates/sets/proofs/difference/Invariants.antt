@@ -1,11 +1,7 @@
-use Rattle.sets.proofs.Loops.{filled, filled_turn, filled_all}
-use Rattle.paper.proofs.Sets.{at-∖, length-∖}
+use Rattle.sets.proofs.Loops.{filled}
 use Rattle.paper.specs.Atoms.{◌∖◌}
-use mathlib.Core.Path.{◌≡◌, refl, sym, ◌∙◌}
+use mathlib.Core.Path.{◌≡◌}
 use Prim.Native.Nat.{◌-◌, ◌≤◌}
-use native.Mathlib.Omega.{arith}
-use borrow.Author.Rules.{rules}
-use lib.ListN.{length}
 use Rattle.sets.proofs.difference.Given as goal
 
 abbrev pub invariant-loop-i : goal.invariant-loop-i

@@ -2,7 +2,7 @@ use mir.Syntax.{w8}
 use mathlib.Core.Path.{◌≡◌, sym, ap, ◌∙◌}
 use Prim.Native.Nat.{◌+◌, ◌-◌, ◌*◌, ◌/◌, ◌%◌}
 use native.Mathlib.Omega.{arith}
-use borrow.Author.Rules.{rules, elem_Fits}
+use borrow.Author.Rules.{elem_Fits}
 use lib.Dec.{eqb}
 use lib.Bits.{bit_and, bit_xor}
 use lib.ListN.{length, get_or}

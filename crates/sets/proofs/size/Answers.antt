@@ -1,9 +1,7 @@
 use mir.Syntax.{w8}
-use mathlib.Core.Path.{◌≡◌, refl, ap, ◌∙◌}
-use Prim.Native.Nat.{◌-◌, ◌*◌, ◌%◌, ◌≤◌}
+use mathlib.Core.Path.{refl, ap, ◌∙◌}
 use native.Mathlib.Omega.{arith}
-use borrow.Author.Rules.{rules, elem_Fits}
-use lib.ListN.{take}
+use borrow.Author.Rules.{elem_Fits}
 use lib.Seq.{take_all}
 use Rattle.sets.specs.Ones.{ones_of}
 use Rattle.sets.proofs.Ones.{ones_law, ones_more, ones_most}

@@ -1,12 +1,7 @@
-use mir.Syntax.{w8}
-use mathlib.Core.Path.{◌≡◌, refl, ap, ◌∙◌}
+use mathlib.Core.Path.{◌≡◌}
 use Prim.Native.Nat.{◌-◌, ◌*◌, ◌%◌, ◌≤◌}
-use native.Mathlib.Omega.{arith}
-use borrow.Author.Rules.{rules, elem_Fits}
 use lib.ListN.{take}
-use lib.Seq.{take_all}
 use Rattle.sets.specs.Ones.{ones_of}
-use Rattle.sets.proofs.Ones.{ones_law, ones_more, ones_most}
 use Rattle.sets.proofs.size.Given as goal
 
 abbrev pub invariant-loop-i : goal.invariant-loop-i

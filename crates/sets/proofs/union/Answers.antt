@@ -1,10 +1,8 @@
-use Rattle.sets.proofs.Loops.{filled, filled_turn, filled_all}
+use Rattle.sets.proofs.Loops.{filled_turn, filled_all}
 use Rattle.paper.proofs.Sets.{at-∪, length-∪}
 use Rattle.paper.specs.Atoms.{◌∪◌}
 use mathlib.Core.Path.{◌≡◌, refl, sym, ◌∙◌}
-use Prim.Native.Nat.{◌-◌, ◌≤◌}
 use native.Mathlib.Omega.{arith}
-use borrow.Author.Rules.{rules}
 use lib.ListN.{length}
 use Rattle.sets.proofs.union.Goals as goal
 

@@ -1,5 +1,4 @@
 use native.Mathlib.Omega.{arith}
-use borrow.Author.Rules.{rules}
 use Rattle.sets.proofs.Ones.{word_of}
 use Rattle.sets.proofs.word_ones.Goals as goal
 

@@ -1,12 +1,11 @@
-use Rattle.sets.proofs.Loops.{Found, found_turn, found_all}
+use Rattle.sets.proofs.Loops.{found_turn, found_all}
 use Rattle.sets.proofs.Zeros.{none_more}
 use lib.Dec.{eqb}
 use mathlib.Core.Bool.{◌&&◌}
 use mathlib.Core.Path.{refl, ap, ◌∙◌}
-use Prim.Native.Nat.{◌+◌, ◌-◌, ◌≤◌}
+use Prim.Native.Nat.{◌+◌}
 use native.Mathlib.Omega.{arith}
-use borrow.Author.Rules.{rules}
-use lib.ListN.{length, get_or, drop}
+use lib.ListN.{get_or, drop}
 use Rattle.sets.specs.Sets.{is_empty}
 use Rattle.sets.proofs.zeros_from.Goals as goal
 

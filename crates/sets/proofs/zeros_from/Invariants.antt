@@ -1,13 +1,7 @@
-use Rattle.sets.proofs.Loops.{Found, found_turn, found_all}
-use Rattle.sets.proofs.Zeros.{none_more}
+use Rattle.sets.proofs.Loops.{Found}
 use lib.Dec.{eqb}
-use mathlib.Core.Bool.{◌&&◌}
-use mathlib.Core.Path.{refl, ap, ◌∙◌}
-use Prim.Native.Nat.{◌+◌, ◌-◌, ◌≤◌}
-use native.Mathlib.Omega.{arith}
-use borrow.Author.Rules.{rules}
-use lib.ListN.{length, get_or, drop}
-use Rattle.sets.specs.Sets.{is_empty}
+use Prim.Native.Nat.{◌-◌, ◌≤◌}
+use lib.ListN.{length}
 use Rattle.sets.proofs.zeros_from.Given as goal
 
 abbrev pub invariant-loop-i : goal.invariant-loop-i

@@ -1,6 +1,5 @@
 use Rattle.utf8.proofs.Steps.{goes_first, goes_tail}
 use mathlib.Core.Path.{◌∙◌}
-use borrow.Author.Rules.{rules}
 use Rattle.utf8.proofs.behind.Goals as goal
 
 pub returns-then-a-eq0 : goal.returns-then-a-eq0

@@ -3,7 +3,6 @@ use Rattle.utf8.proofs.Steps.{first_begun, first_not_begun}
 use Rattle.utf8.proofs.FirstByte.{first_plain}
 use mathlib.Core.Path.{sym, ◌∙◌}
 use native.Mathlib.Omega.{arith}
-use borrow.Author.Rules.{rules}
 use Rattle.utf8.proofs.behind_first.Goals as goal
 
 pub returns-then-x-le127 : goal.returns-then-x-le127

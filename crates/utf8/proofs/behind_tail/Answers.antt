@@ -1,5 +1,4 @@
 use Rattle.utf8.proofs.Steps.{tail_fits, tail_not}
-use borrow.Author.Rules.{rules}
 use Rattle.utf8.proofs.behind_tail.Goals as goal
 
 pub returns-then-a-x : goal.returns-then-a-x

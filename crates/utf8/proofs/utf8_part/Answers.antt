@@ -1,10 +1,9 @@
 use Rattle.meaning.specs.Card.{part}
-use Rattle.utf8.specs.Reading.{nothing, utf8}
+use Rattle.utf8.specs.Reading.{utf8}
 use Rattle.utf8.proofs.Steps.{ends, part_on, part_over}
 use mathlib.Core.Path.{◌≡◌, refl, sym, ap, ◌∙◌}
-use Prim.Native.Nat.{◌+◌, ◌-◌, ◌≤◌}
+use Prim.Native.Nat.{◌+◌, ◌-◌}
 use native.Mathlib.Omega.{arith}
-use borrow.Author.Rules.{rules}
 use Rattle.utf8.proofs.utf8_part.Goals as goal
 
 pub loop-at-init : goal.loop-at-init

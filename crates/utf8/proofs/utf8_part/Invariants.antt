@@ -1,10 +1,8 @@
 use Rattle.meaning.specs.Card.{part}
-use Rattle.utf8.specs.Reading.{nothing, utf8}
-use Rattle.utf8.proofs.Steps.{ends, part_on, part_over}
-use mathlib.Core.Path.{◌≡◌, refl, sym, ap, ◌∙◌}
-use Prim.Native.Nat.{◌+◌, ◌-◌, ◌≤◌}
-use native.Mathlib.Omega.{arith}
-use borrow.Author.Rules.{rules}
+use Rattle.utf8.specs.Reading.{nothing}
+use Rattle.utf8.proofs.Steps.{ends}
+use mathlib.Core.Path.{◌≡◌}
+use Prim.Native.Nat.{◌-◌, ◌≤◌}
 use Rattle.utf8.proofs.utf8_part.Given as goal
 
 abbrev pub invariant-loop-at : goal.invariant-loop-at

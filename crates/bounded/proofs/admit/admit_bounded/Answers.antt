@@ -1,8 +1,6 @@
 use Rattle.bounded.proofs.Calling.{refused_before, refused_by_22, not_refused}
 use Rattle.layout.specs.PlaceParts.{configured}
 use mathlib.Core.Path.{sym, ◌∙◌}
-use borrow.Author.Tests.{not-true, not-false}
-use borrow.Author.Rules.{rules}
 use Rattle.bounded.proofs.admit.admit_bounded.Goals as goal
 
 pub bounded_good-requires : goal.bounded_good-requires

@@ -1,7 +1,6 @@
 use Rattle.bounded.proofs.Calling.{too_heavy, not_too_heavy, is_open}
 use Rattle.layout.specs.PlaceParts.{configured}
 use native.Mathlib.Omega.{arith}
-use borrow.Author.Rules.{rules}
 use Rattle.bounded.proofs.admit.bounded_good.Goals as goal
 
 pub returns-then-heaviest_plan-weigh : goal.returns-then-heaviest_plan-weigh

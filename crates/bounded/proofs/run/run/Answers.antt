@@ -1,7 +1,6 @@
 use Rattle.bounded.proofs.Calling.{door_word, run_refused, run_word, run_ending, run_made}
 use Rattle.door.specs.InPlace.{ran_with}
 use Rattle.layout.specs.PlaceParts.{configured}
-use borrow.Author.Rules.{rules}
 use Rattle.bounded.proofs.run.run.Goals as goal
 
 pub answer_word-requires : goal.answer_word-requires

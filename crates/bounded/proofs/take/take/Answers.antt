@@ -1,7 +1,6 @@
 use Rattle.bounded.proofs.Calling.{door_word, take_refused, take_word, take_made}
 use Rattle.door.specs.InPlace.{reply_with}
 use Rattle.layout.specs.PlaceParts.{configured}
-use borrow.Author.Rules.{rules}
 use Rattle.bounded.proofs.take.take.Goals as goal
 
 pub answer_word-requires : goal.answer_word-requires

@@ -3,7 +3,6 @@ use Rattle.meaning.specs.declared.Answer.{Answer}
 use Rattle.meaning.specs.declared.Answer.TheVariants.{Refused}
 use mathlib.Core.Path.{subst}
 use mathlib.Core.Path.{sym, ap, ◌∙◌}
-use borrow.Author.Rules.{rules}
 use Rattle.bounded.proofs.words.answer_word.Goals as goal
 
 pub refusal_word-requires : goal.refusal_word-requires

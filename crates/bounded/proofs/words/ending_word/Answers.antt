@@ -1,7 +1,6 @@
 use Rattle.bounded.proofs.Wording.{full_none}
 use Rattle.meaning.specs.BoundedCalls.{as_ending, HasEnding}
 use mathlib.Core.Path.{subst}
-use borrow.Author.Rules.{rules}
 use Rattle.bounded.proofs.words.ending_word.Goals as goal
 
 pub returns-in-Spent : goal.returns-in-Spent

@@ -1,6 +1,5 @@
 use Rattle.bounded.proofs.Wording.{has_none}
 use Rattle.meaning.specs.BoundedCalls.{as_refusal}
-use borrow.Author.Rules.{rules}
 use Rattle.bounded.proofs.words.refusal_word.Goals as goal
 
 pub returns-in-Short : goal.returns-in-Short

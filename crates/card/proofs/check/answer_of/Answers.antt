@@ -1,4 +1,3 @@
-use borrow.Author.Rules.{rules}
 use Rattle.card.proofs.check.answer_of.Goals as goal
 
 pub returns-in-Good : goal.returns-in-Good

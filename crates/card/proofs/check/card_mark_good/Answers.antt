@@ -1,5 +1,4 @@
 use Rattle.meaning.specs.Refusals.{card_mark_good}
-use borrow.Author.Rules.{rules}
 use Rattle.card.proofs.check.card_mark_good.Goals as goal
 
 pub returns : goal.returns

@@ -1,7 +1,6 @@
 use Rattle.card.proofs.Checked.{checks_by, refused_read, layout_read}
 use Rattle.card.specs.Rows.{checked_by}
 use mathlib.Core.Path.{sym, ap₂, ◌∙◌}
-use borrow.Author.Rules.{rules}
 use Rattle.card.proofs.check.check.Goals as goal
 
 pub returns-in_default : goal.returns-in_default

@@ -1,6 +1,5 @@
 use Rattle.card.specs.Rows.{checked_by}
 use mathlib.Core.Path.{sym, ap}
-use borrow.Author.Rules.{rules}
 use Rattle.card.proofs.check.checked_by.Goals as goal
 
 pub returns-in-Done : goal.returns-in-Done

@@ -5,7 +5,6 @@ use Rattle.meaning.specs.Refusals.{card_table, offsets_good}
 use Rattle.meaning.specs.Card.{layout}
 use mathlib.Core.Bool.{not}
 use mathlib.Core.Path.{◌≡◌, sym, ap, ◌∙◌}
-use borrow.Author.Rules.{rules}
 use lib.ListN.{length}
 use Rattle.card.proofs.check.from_offsets.Goals as goal
 

@@ -4,7 +4,6 @@ use Rattle.meaning.specs.Refusals.{card_table, actions_good, pool}
 use Rattle.meaning.specs.Card.{layout}
 use mathlib.Core.Bool.{not}
 use mathlib.Core.Path.{◌≡◌, sym, ap, ◌∙◌}
-use borrow.Author.Rules.{rules}
 use Rattle.card.proofs.check.from_pool.Goals as goal
 
 pub returns-in_default : goal.returns-in_default

@@ -8,7 +8,6 @@ use Prim.Native.Nat.{◌≤◌}
 use native.Mathlib.Omega.{arith}
 use lib.Dec.{leb}
 use lib.ListN.{length}
-use borrow.Author.Rules.{rules}
 use Rattle.card.proofs.check.long_enough.Goals as goal
 
 pub returns : goal.returns

@@ -1,9 +1,5 @@
 use Rattle.card.proofs.Checked.{short_refused, mark_refused, header_refused, header_passed}
-use Rattle.meaning.specs.Refusals.{has_edition}
-use borrow.Author.Tests.{not-true, not-false}
-use mathlib.Core.Path.{◌≡◌, sym, ◌∙◌}
-use mathlib.Core.Bool.{true}
-use borrow.Author.Rules.{rules}
+use mathlib.Core.Path.{sym, ◌∙◌}
 use Rattle.card.proofs.check.read_header.Goals as goal
 
 pub returns-then-not-has_edition : goal.returns-then-not-has_edition
@@ -28,10 +24,9 @@ pub read_layout-requires : goal.read_layout-requires
 read_layout-requires c = c.long_enough.ensures.1 (c.if-not-long_enough.false)
 
 pub returns : goal.returns
-returns c =
-    (
-      c.read_layout.ensures.0,
-      c.read_layout.ensures.1,
-      header_passed c.args.card.now (sym c.has_edition.ensures.0 ∙ c.if-not-has_edition.false) (sym c.card_mark_good.ensures ∙ c.if-not-card_mark_good.false)
-          (sym c.long_enough.ensures.0 ∙ c.if-not-long_enough.false),
-    )
+returns c = (
+  c.read_layout.ensures.0,
+  c.read_layout.ensures.1,
+  header_passed c.args.card.now (sym c.has_edition.ensures.0 ∙ c.if-not-has_edition.false) (sym c.card_mark_good.ensures ∙ c.if-not-card_mark_good.false)
+      (sym c.long_enough.ensures.0 ∙ c.if-not-long_enough.false),
+)

@@ -1,4 +1,3 @@
-
 use Rattle.card.proofs.check.row.Goals as goal
 
 pub returns-then-good : goal.returns-then-good

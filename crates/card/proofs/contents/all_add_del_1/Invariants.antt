@@ -1,9 +1,6 @@
-use Rattle.meaning.specs.Sizes.{set_bytes}
-use Rattle.card.proofs.AddDel.{Joined, joined_start, joined_turn, joined_all}
-use mathlib.Core.Path.{◌≡◌, refl}
-use Prim.Native.Nat.{◌-◌, ◌*◌, ◌≤◌}
-use native.Mathlib.Omega.{arith}
-use borrow.Author.Rules.{rules}
+use Rattle.card.proofs.AddDel.{Joined}
+use mathlib.Core.Path.{◌≡◌}
+use Prim.Native.Nat.{◌-◌, ◌≤◌}
 use lib.ListN.{length}
 use Rattle.card.proofs.contents.all_add_del_1.Given as goal
 

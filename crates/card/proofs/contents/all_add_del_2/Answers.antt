@@ -1,10 +1,8 @@
 use Rattle.meaning.specs.Sizes.{set_bytes}
-use Rattle.card.proofs.AddDel.{Joined, joined_start, joined_turn, joined_all}
+use Rattle.card.proofs.AddDel.{joined_start, joined_turn, joined_all}
 use mathlib.Core.Path.{◌≡◌, refl}
-use Prim.Native.Nat.{◌-◌, ◌*◌, ◌≤◌}
+use Prim.Native.Nat.{◌*◌}
 use native.Mathlib.Omega.{arith}
-use borrow.Author.Rules.{rules}
-use lib.ListN.{length}
 use Rattle.card.proofs.contents.all_add_del_2.Goals as goal
 
 pub loop-i-init : goal.loop-i-init

@@ -1,11 +1,10 @@
-use Rattle.sets.proofs.Loops.{Kept, kept_start, kept_turn, kept_all}
+use Rattle.sets.proofs.Loops.{kept_start, kept_turn, kept_all}
 use Rattle.meaning.specs.Refusals.{within, weights_good}
 use Rattle.meaning.specs.Card.{weight_at}
 use mathlib.Core.Bool.{Bool}
 use mathlib.Core.Path.{◌≡◌, ◌∙◌}
-use Prim.Native.Nat.{ℕ, ◌-◌, ◌≤◌}
+use Prim.Native.Nat.{ℕ}
 use native.Mathlib.Omega.{arith}
-use borrow.Author.Rules.{rules}
 use Rattle.card.proofs.contents.weights_good.Goals as goal
 
 pub loop-a-init : goal.loop-a-init

@@ -1,11 +1,7 @@
-use Rattle.sets.proofs.Loops.{Kept, kept_start, kept_turn, kept_all}
-use Rattle.meaning.specs.Refusals.{within, weights_good}
+use Rattle.sets.proofs.Loops.{Kept}
+use Rattle.meaning.specs.Refusals.{within}
 use Rattle.meaning.specs.Card.{weight_at}
-use mathlib.Core.Bool.{Bool}
-use mathlib.Core.Path.{◌≡◌, ◌∙◌}
-use Prim.Native.Nat.{ℕ, ◌-◌, ◌≤◌}
-use native.Mathlib.Omega.{arith}
-use borrow.Author.Rules.{rules}
+use Prim.Native.Nat.{◌-◌, ◌≤◌}
 use Rattle.card.proofs.contents.weights_good.Given as goal
 
 abbrev pub invariant-loop-a : goal.invariant-loop-a

@@ -2,7 +2,6 @@ use Rattle.card.proofs.Laws.{either_of}
 use mathlib.Core.Logic.{⊎_elim}
 use Rattle.meaning.proofs.NodeKinds.{unknown_kind}
 use native.Mathlib.Omega.{arith}
-use borrow.Author.Rules.{rules}
 use Rattle.card.proofs.nodes.kind_good.Goals as goal
 
 pub returns-in-0 : goal.returns-in-0

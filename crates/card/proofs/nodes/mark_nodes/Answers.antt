@@ -6,9 +6,8 @@ use Rattle.card.specs.Marks.{tells, mark_of}
 use Rattle.meaning.specs.Card.{node_at}
 use Rattle.meaning.specs.declared.Node.{Node}
 use mathlib.Core.Path.{subst, ◌≡◌, refl, ap, ◌∙◌}
-use Prim.Native.Nat.{◌-◌, ◌≤◌, ◌<◌}
+use Prim.Native.Nat.{◌<◌}
 use native.Mathlib.Omega.{arith}
-use borrow.Author.Rules.{rules}
 use lib.ListN.{get_or}
 use Rattle.card.proofs.nodes.mark_nodes.Goals as goal
 

@@ -1,10 +1,9 @@
-use Rattle.sets.proofs.Loops.{Kept, kept_start, kept_turn, kept_all}
+use Rattle.sets.proofs.Loops.{kept_start, kept_turn, kept_all}
 use Rattle.meaning.specs.Refusals.{node_good, nodes_good}
 use Rattle.meaning.specs.Card.{node_at}
 use mathlib.Core.Bool.{Bool}
-use Prim.Native.Nat.{ℕ, ◌-◌, ◌≤◌}
+use Prim.Native.Nat.{ℕ}
 use native.Mathlib.Omega.{arith}
-use borrow.Author.Rules.{rules}
 use Rattle.card.proofs.nodes.nodes_good.Goals as goal
 
 pub loop-i-init : goal.loop-i-init

@@ -1,10 +1,7 @@
-use Rattle.sets.proofs.Loops.{Kept, kept_start, kept_turn, kept_all}
-use Rattle.meaning.specs.Refusals.{node_good, nodes_good}
+use Rattle.sets.proofs.Loops.{Kept}
+use Rattle.meaning.specs.Refusals.{node_good}
 use Rattle.meaning.specs.Card.{node_at}
-use mathlib.Core.Bool.{Bool}
-use Prim.Native.Nat.{ℕ, ◌-◌, ◌≤◌}
-use native.Mathlib.Omega.{arith}
-use borrow.Author.Rules.{rules}
+use Prim.Native.Nat.{◌-◌, ◌≤◌}
 use Rattle.card.proofs.nodes.nodes_good.Given as goal
 
 abbrev pub invariant-loop-i : goal.invariant-loop-i

@@ -1,9 +1,8 @@
-use Rattle.sets.proofs.Loops.{Kept, kept_start, kept_turn, kept_all}
+use Rattle.sets.proofs.Loops.{kept_start, kept_turn, kept_all}
 use Rattle.card.specs.Entries.{entry_good}
 use Rattle.layout.specs.Entries.{count_of}
-use Prim.Native.Nat.{◌-◌, ◌≤◌, ◌<◌}
+use Prim.Native.Nat.{◌≤◌, ◌<◌}
 use native.Mathlib.Omega.{arith}
-use borrow.Author.Rules.{rules}
 use Rattle.card.proofs.rules.entries_good.Goals as goal
 
 pub loop-i-init : goal.loop-i-init

@@ -1,9 +1,7 @@
-use Rattle.sets.proofs.Loops.{Kept, kept_start, kept_turn, kept_all}
+use Rattle.sets.proofs.Loops.{Kept}
 use Rattle.card.specs.Entries.{entry_good}
 use Rattle.layout.specs.Entries.{count_of}
-use Prim.Native.Nat.{◌-◌, ◌≤◌, ◌<◌}
-use native.Mathlib.Omega.{arith}
-use borrow.Author.Rules.{rules}
+use Prim.Native.Nat.{◌-◌, ◌≤◌}
 use Rattle.card.proofs.rules.entries_good.Given as goal
 
 abbrev pub invariant-loop-i : goal.invariant-loop-i

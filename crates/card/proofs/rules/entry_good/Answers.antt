@@ -2,7 +2,6 @@ use Rattle.meaning.specs.Refusals.{containing, specification_good, selection_goo
 use mathlib.Core.Path.{◌≡◌, ap, ◌∙◌}
 use Prim.Native.Nat.{suc, ◌-◌, ◌<◌}
 use native.Mathlib.Omega.{arith}
-use borrow.Author.Rules.{rules}
 use Rattle.card.proofs.rules.entry_good.Goals as goal
 
 pub read_selection-requires : goal.read_selection-requires

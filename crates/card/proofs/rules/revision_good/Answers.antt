@@ -2,7 +2,6 @@ use Rattle.meaning.specs.Refusals.{condition_good, containing, revision_good}
 use mathlib.Core.Path.{◌≡◌, ◌∙◌}
 use Prim.Native.Nat.{◌<◌}
 use native.Mathlib.Omega.{arith}
-use borrow.Author.Rules.{rules}
 use Rattle.card.proofs.rules.revision_good.Goals as goal
 
 pub returns : goal.returns

@@ -1,5 +1,4 @@
 use Rattle.meaning.specs.Refusals.{rules_good}
-use borrow.Author.Rules.{rules}
 use Rattle.card.proofs.rules.rules_good.Goals as goal
 
 pub returns : goal.returns

@@ -1,4 +1,3 @@
-use borrow.Author.Rules.{rules}
 use Rattle.card.proofs.rules.span_good.Goals as goal
 
 pub returns : goal.returns

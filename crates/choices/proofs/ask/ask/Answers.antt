@@ -2,7 +2,6 @@ use Rattle.meaning.specs.Configurations.{state_of}
 use Rattle.layout.specs.PlaceParts.{configured}
 use Rattle.door.proofs.Asking.{no_rule}
 use native.Mathlib.Omega.{arith}
-use borrow.Author.Rules.{rules}
 use Rattle.choices.proofs.ask.ask.Goals as goal
 
 pub returns-then-count_of-i : goal.returns-then-count_of-i

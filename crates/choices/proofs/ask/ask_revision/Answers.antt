@@ -9,7 +9,6 @@ use Rattle.choices.proofs.Marked.{asks_revision}
 use Rattle.card.specs.GoodCard.{GoodSpan}
 use Rattle.meaning.specs.declared.RevisionEntry.{RevisionEntry}
 use native.Mathlib.Omega.{arith}
-use borrow.Author.Rules.{rules}
 use lib.ListN.{take}
 use Rattle.choices.proofs.ask.ask_revision.Goals as goal
 

@@ -6,7 +6,6 @@ use Rattle.door.specs.Asking.{both, asked_by}
 use Rattle.meaning.specs.declared.SelectionEntry.{SelectionEntry}
 use Rattle.choices.specs.Judged.{mark_at}
 use Rattle.choices.proofs.Marked.{asks_selection}
-use borrow.Author.Rules.{rules}
 use Rattle.choices.proofs.ask.ask_selection.Goals as goal
 
 pub returns : goal.returns

@@ -6,7 +6,6 @@ use Rattle.door.specs.Asking.{asked_by}
 use Rattle.meaning.specs.declared.SpecificationEntry.{SpecificationEntry}
 use Rattle.choices.specs.Judged.{mark_at}
 use Rattle.choices.proofs.Marked.{asks_specification}
-use borrow.Author.Rules.{rules}
 use lib.ListN.{get_or}
 use Rattle.choices.proofs.ask.ask_specification.Goals as goal
 

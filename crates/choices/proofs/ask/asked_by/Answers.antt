@@ -1,6 +1,4 @@
 use mathlib.Core.Bool.{Bool, true, false}
-use borrow.Author.Tests.{not-true, not-false}
-use borrow.Author.Rules.{rules}
 use mathlib.Core.Path.{◌≡◌, sym, ap, ap₂, ◌∙◌}
 use Rattle.door.specs.declared.asked.Asked.{Asked}
 use Rattle.door.specs.Asking.{asked_by}

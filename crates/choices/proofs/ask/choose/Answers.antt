@@ -2,12 +2,9 @@ use Rattle.runs.specs.Order.{guide}
 use Rattle.meaning.specs.Card.{agent_for}
 use Rattle.meaning.specs.Configurations.{state_of}
 use Rattle.layout.specs.PlaceParts.{configured}
-use Rattle.choices.specs.Judged.{AllSets}
-use Rattle.door.proofs.First.{Tried, tried_more, found_in_turn, none_in_turn}
+use Rattle.door.proofs.First.{tried_more, found_in_turn, none_in_turn}
 use mathlib.Core.Path.{sym, ◌∙◌}
-use Prim.Native.Nat.{◌-◌, ◌≤◌}
 use native.Mathlib.Omega.{arith}
-use borrow.Author.Rules.{rules}
 use Rattle.choices.proofs.ask.choose.Goals as goal
 
 pub loop-t-init : goal.loop-t-init

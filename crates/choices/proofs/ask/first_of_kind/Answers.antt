@@ -3,12 +3,10 @@ use Rattle.door.specs.Asking.{choice_at}
 use Rattle.meaning.specs.Card.{agent_for}
 use Rattle.meaning.specs.Configurations.{state_of}
 use Rattle.layout.specs.PlaceParts.{configured}
-use Rattle.choices.specs.Judged.{AllSets}
 use Rattle.layout.specs.Entries.{count_of}
+use Rattle.door.proofs.First.{left_start, left_turn, found_of_kind, none_of_kind}
 use Rattle.layout.proofs.GoodLayout.{at_most_256}
-use Rattle.door.proofs.First.{LeftOf, left_start, left_turn, found_of_kind, none_of_kind}
 use mathlib.Core.Path.{sym, ◌∙◌}
-use Prim.Native.Nat.{◌-◌, ◌≤◌}
 use native.Mathlib.Omega.{arith}
 use borrow.Author.Rules.{rules}
 use Rattle.choices.proofs.ask.first_of_kind.Goals as goal

@@ -1,15 +1,8 @@
-use Rattle.paper.specs.Language.{Config}
-use Rattle.door.specs.Asking.{choice_at}
-use Rattle.meaning.specs.Card.{agent_for}
 use Rattle.meaning.specs.Configurations.{state_of}
-use Rattle.layout.specs.PlaceParts.{configured}
 use Rattle.choices.specs.Judged.{AllSets}
 use Rattle.layout.specs.Entries.{count_of}
-use Rattle.door.proofs.First.{LeftOf, left_start, left_turn, found_of_kind, none_of_kind}
-use mathlib.Core.Path.{sym, ◌∙◌}
+use Rattle.door.proofs.First.{LeftOf}
 use Prim.Native.Nat.{◌-◌, ◌≤◌}
-use native.Mathlib.Omega.{arith}
-use borrow.Author.Rules.{rules}
 use Rattle.choices.proofs.ask.first_of_kind.Given as goal
 
 abbrev pub invariant-loop-i : goal.invariant-loop-i

@@ -6,9 +6,7 @@ use Rattle.paper.specs.Next.{is_prefix}
 use Rattle.card.specs.GoodCard.{GoodSpan}
 use Rattle.choices.specs.Judged.{mark_at}
 use Rattle.choices.proofs.Marked.{revision_shut, revision_by}
-use borrow.Author.Tests.{not-true, not-false}
 use native.Mathlib.Omega.{arith}
-use borrow.Author.Rules.{rules}
 use lib.ListN.{take}
 use Rattle.choices.proofs.ask.revision_enabled.Goals as goal
 

@@ -5,7 +5,6 @@ use Rattle.meaning.specs.declared.SelectionEntry.{SelectionEntry}
 use Rattle.choices.specs.Judged.{mark_at}
 use Rattle.choices.proofs.Marked.{selection_shut, selection_by}
 use borrow.Author.Tests.{ne_eqb, eq-eqb}
-use borrow.Author.Rules.{rules}
 use Rattle.choices.proofs.ask.selection_enabled.Goals as goal
 
 pub returns-then-m-ne0 : goal.returns-then-m-ne0

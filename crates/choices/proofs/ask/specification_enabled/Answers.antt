@@ -5,7 +5,6 @@ use Rattle.meaning.specs.declared.SpecificationEntry.{SpecificationEntry}
 use Rattle.choices.specs.Judged.{mark_at}
 use Rattle.choices.proofs.Marked.{specification_shut, specification_by}
 use borrow.Author.Tests.{ne_eqb, eq-eqb}
-use borrow.Author.Rules.{rules}
 use lib.Dec.{eqb}
 use lib.ListN.{get_or}
 use Rattle.choices.proofs.ask.specification_enabled.Goals as goal

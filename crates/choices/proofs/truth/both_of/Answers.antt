@@ -1,5 +1,4 @@
 use mathlib.Core.Path.{sym, ◌∙◌}
-use borrow.Author.Rules.{rules}
 use Rattle.choices.specs.Judged.{of_mark}
 use Rattle.choices.proofs.Passing.{both_first, both_second}
 use Rattle.choices.proofs.truth.both_of.Goals as goal

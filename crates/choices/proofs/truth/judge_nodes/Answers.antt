@@ -1,16 +1,15 @@
 use Rattle.meaning.proofs.Nodes.{node_rule}
 use Rattle.meaning.specs.declared.Node.{Node}
 use mathlib.Core.Bool.{false}
-use lib.ListN.{length-set, length, get_or}
+use lib.ListN.{length-set, get_or}
 use Rattle.meaning.specs.Kinds.{node_kind}
 use Rattle.choices.specs.OnePass.{kept_of, kept}
 use Rattle.choices.specs.Judged.{of_mark, mark_at}
 use Rattle.choices.proofs.Passing.{told_turn}
 use Rattle.choices.proofs.OnePass.{kept_next}
-use mathlib.Core.Path.{◌≡◌, ap, ◌∙◌}
-use Prim.Native.Nat.{ℕ, ◌-◌, ◌≤◌, ◌<◌}
+use mathlib.Core.Path.{ap, ◌∙◌}
+use Prim.Native.Nat.{◌<◌}
 use native.Mathlib.Omega.{arith}
-use borrow.Author.Rules.{rules}
 use Rattle.choices.proofs.truth.judge_nodes.Goals as goal
 
 pub loop-i-init : goal.loop-i-init

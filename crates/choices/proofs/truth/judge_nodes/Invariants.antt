@@ -1,16 +1,9 @@
-use Rattle.meaning.proofs.Nodes.{node_rule}
-use Rattle.meaning.specs.declared.Node.{Node}
 use mathlib.Core.Bool.{false}
-use lib.ListN.{length-set, length, get_or}
-use Rattle.meaning.specs.Kinds.{node_kind}
-use Rattle.choices.specs.OnePass.{kept_of, kept}
-use Rattle.choices.specs.Judged.{of_mark, mark_at}
-use Rattle.choices.proofs.Passing.{told_turn}
-use Rattle.choices.proofs.OnePass.{kept_next}
-use mathlib.Core.Path.{◌≡◌, ap, ◌∙◌}
+use lib.ListN.{length, get_or}
+use Rattle.choices.specs.OnePass.{kept}
+use Rattle.choices.specs.Judged.{mark_at}
+use mathlib.Core.Path.{◌≡◌}
 use Prim.Native.Nat.{ℕ, ◌-◌, ◌≤◌, ◌<◌}
-use native.Mathlib.Omega.{arith}
-use borrow.Author.Rules.{rules}
 use Rattle.choices.proofs.truth.judge_nodes.Given as goal
 
 abbrev pub invariant-loop-i : goal.invariant-loop-i

@@ -1,5 +1,4 @@
 use native.Mathlib.Omega.{arith}
-use borrow.Author.Rules.{rules}
 use Rattle.choices.proofs.Passing.{tells_true, tells_false}
 use Rattle.choices.proofs.truth.mark_of.Goals as goal
 

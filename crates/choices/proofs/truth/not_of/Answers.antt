@@ -1,7 +1,6 @@
 use mathlib.Core.Bool.{Bool, not}
 use mathlib.Core.Path.{ap₂, ◌∙◌}
 use Prim.Native.Nat.{ℕ}
-use borrow.Author.Rules.{rules}
 use Rattle.choices.proofs.truth.not_of.Goals as goal
 
 pub returns : goal.returns

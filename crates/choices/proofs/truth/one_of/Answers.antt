@@ -1,5 +1,4 @@
 use mathlib.Core.Path.{sym, ◌∙◌}
-use borrow.Author.Rules.{rules}
 use Rattle.choices.specs.Judged.{of_mark}
 use Rattle.choices.proofs.Passing.{either_first, either_second}
 use Rattle.choices.proofs.truth.one_of.Goals as goal

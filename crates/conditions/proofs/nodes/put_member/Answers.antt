@@ -18,5 +18,5 @@ returns c =
       upper_bound = put.upper_bound;
       nodes_len_2 = put.nodes_len_2;
       nodes_after = put.nodes_after
-            ∙ sym (ap (λ f. joined_nodes f a.kind a.left a.right a.nodes.now) c.if-first.false);
+          ∙ sym (ap (λ f. joined_nodes f a.kind a.left a.right a.nodes.now) c.if-first.false);
     }

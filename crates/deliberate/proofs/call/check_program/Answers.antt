@@ -2,7 +2,6 @@ use Rattle.door.proofs.Accepting.{accepted_card}
 use Rattle.card.specs.Rows.{answer_of}
 use Rattle.deliberate.proofs.Calling.{admits, admits_not}
 use mathlib.Core.Path.{sym, ap, ◌∙◌}
-use borrow.Author.Rules.{rules}
 use Rattle.deliberate.proofs.call.check_program.Goals as goal
 
 pub returns-in_default : goal.returns-in_default

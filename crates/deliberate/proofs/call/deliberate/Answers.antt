@@ -3,7 +3,6 @@ use Rattle.deliberate.proofs.Calling.{refused_so, whole_accepted}
 use mathlib.Core.Path.{ap, ◌∙◌}
 use Rattle.deliberation.specs.Entries.{entry_count, numbers_good, whole}
 use Rattle.deliberation.specs.Deliberate.{goes_on}
-use borrow.Author.Rules.{rules}
 use Rattle.deliberate.proofs.call.deliberate.Goals as goal
 
 pub returns-in_default : goal.returns-in_default

@@ -14,7 +14,6 @@ use Rattle.deliberation.specs.declared.Deliberated.{Deliberated}
 use Rattle.deliberation.specs.Entries.{entry_count, entries_of}
 use Rattle.deliberation.specs.Deliberate.{deliberate, deliberated}
 use Rattle.deliberation.proofs.Room.{stacked_length, good_stacked}
-use borrow.Author.Rules.{rules}
 use Rattle.deliberate.proofs.call.from_configuration.Goals as goal
 
 pub read_layout-l-requires : goal.read_layout-l-requires

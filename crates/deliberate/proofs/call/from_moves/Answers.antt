@@ -1,7 +1,6 @@
 use Rattle.layout.specs.PlaceParts.{configured}
 use Rattle.deliberate.specs.Ran.{outcome_of}
 use Rattle.deliberate.proofs.Calling.{ran_so}
-use borrow.Author.Rules.{rules}
 use lib.ListN.{drop}
 use Rattle.deliberate.proofs.call.from_moves.Goals as goal
 

@@ -1,8 +1,6 @@
 use Rattle.layout.specs.PlaceParts.{configured}
 use Rattle.deliberate.proofs.Calling.{refused_so, by_numbers}
 use mathlib.Core.Path.{refl, sym, ◌∙◌}
-use borrow.Author.Tests.{not-true, not-false}
-use borrow.Author.Rules.{rules}
 use Rattle.deliberate.proofs.call.go_on.Goals as goal
 
 pub returns-in_default : goal.returns-in_default

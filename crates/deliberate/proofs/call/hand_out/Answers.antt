@@ -1,5 +1,4 @@
 use Rattle.deliberate.proofs.Calling.{handed_out}
-use borrow.Author.Rules.{rules}
 use Rattle.deliberate.proofs.call.hand_out.Goals as goal
 
 pub returns : goal.returns

@@ -1,11 +1,9 @@
-use Rattle.deliberation.specs.Entries.{numbers_good}
 use Rattle.deliberate.proofs.Calling.{too_many, good_more, bad_here, none_left}
-use mathlib.Core.Path.{◌≡◌, refl, sym, ◌∙◌}
+use mathlib.Core.Path.{refl, sym, ◌∙◌}
 use Prim.Native.Nat.{◌-◌, ◌≤◌, ◌<◌}
 use native.Mathlib.Omega.{arith}
-use borrow.Author.Tests.{ltb-true, ltb-false, not-true, not-false}
-use borrow.Author.Rules.{rules}
-use lib.ListN.{length, get_or, drop}
+use borrow.Author.Tests.{ltb-true, ltb-false}
+use lib.ListN.{length, get_or}
 use Rattle.deliberate.proofs.call.numbers_good.Goals as goal
 
 pub returns-then-entries-n : goal.returns-then-entries-n

@@ -1,9 +1,9 @@
 use Rattle.paper.specs.Atoms.{◌∈◌}
 use Rattle.deliberate.specs.Descent.{Into}
-use Rattle.deliberate.proofs.Descending.{stacked_room, Descended, descended_start, descended_turn, next_lower, first_known, one_more}
+use Rattle.deliberate.proofs.Descending.{stacked_room, descended_start, descended_turn, next_lower, first_known, one_more}
 use Rattle.meaning.specs.declared.Node.{Node}
 use Rattle.deliberation.specs.Entries.{entry_of}
-use mathlib.Core.Path.{◌≡◌, sym, subst}
+use mathlib.Core.Path.{sym, subst}
 use Prim.Native.Nat.{◌≤◌, ◌<◌}
 use native.Mathlib.Omega.{arith}
 use lib.ListN.{drop}

@@ -1,12 +1,7 @@
 use Rattle.paper.specs.Atoms.{◌∈◌}
-use Rattle.deliberate.specs.Descent.{Into}
-use Rattle.deliberate.proofs.Descending.{stacked_room, Descended, descended_start, descended_turn, next_lower, first_known, one_more}
-use Rattle.meaning.specs.declared.Node.{Node}
+use Rattle.deliberate.proofs.Descending.{Descended}
 use Rattle.deliberation.specs.Entries.{entry_of}
-use mathlib.Core.Path.{◌≡◌, sym, subst}
-use Prim.Native.Nat.{◌≤◌, ◌<◌}
-use native.Mathlib.Omega.{arith}
-use lib.ListN.{drop}
+use mathlib.Core.Path.{◌≡◌}
 use Rattle.deliberate.proofs.descent.descend.Given as goal
 
 abbrev pub invariant-loop-e : goal.invariant-loop-e

@@ -1,5 +1,5 @@
 use Rattle.deliberate.specs.Descent.{Into, first_of}
-use Rattle.deliberate.proofs.Descending.{pushed, stacked_room, Descended, descended_start, descended_turn, first_known, one_more}
+use Rattle.deliberate.proofs.Descending.{pushed, stacked_room, descended_start, descended_turn, first_known, one_more}
 use Rattle.meaning.specs.declared.Node.{Node}
 use Rattle.deliberation.specs.Kinds.{entry_kind}
 use Rattle.deliberation.specs.Entries.{entry_of}

@@ -10,13 +10,11 @@ use Rattle.meaning.specs.declared.Node.{Node}
 use Rattle.deliberate.specs.First.{is_at, movable_of, Movable}
 use Rattle.deliberate.proofs.Marking.{at_some, movable_next}
 use Rattle.layout.specs.PlaceParts.{configured}
-use Rattle.choices.specs.Judged.{Judged, AllSets}
+use Rattle.choices.specs.Judged.{Judged}
 use mathlib.Core.Bool.{Bool}
-use mathlib.Core.Logic.{⊎_elim}
 use mathlib.Core.Path.{◌≡◌, sym, ap, ◌∙◌, subst}
-use Prim.Native.Nat.{ℕ, ◌-◌, ◌≤◌, ◌<◌}
+use Prim.Native.Nat.{ℕ, ◌<◌}
 use native.Mathlib.Omega.{arith}
-use borrow.Author.Rules.{rules}
 use lib.ListN.{length, length-set, length-replicate}
 use Rattle.deliberate.proofs.first.mark_moves.Goals as goal
 use Rattle.deliberate.proofs.first.mark_moves.Goals.{then-has, else-has}
@@ -63,20 +61,20 @@ loop-i-preserved c =
     c.has_move-has.ensures σ γ j q ∙ ap (λ (x : Node). movable_of A (state_of d).mental (entry_kind x.kind) x.a x.b (λ j. j ∈ l.movable)) c.read_entry-e.ensures
     ∙ movable_next a.l b p d l.i l.movable (l.invariant.2 σ γ j q) g k) in
     elim c.if-has.branch [
-      then-has w ↦ (let q = w.movable-is ∙ w.add_member.ensures in (
-      omega arith,
-      ap length q ∙ length-set l.movable _ _ ∙ s,
-      λ σ γ j e.
-          (let has : ℕ → Bool = λ i. is_some (move_at a.l b p (state_of (configured σ γ a.m a.plan.now)).mental i) in
-          rw q (passing_yes has l.i l.movable (l.invariant.2 σ γ j e) (sym (marked σ γ j e) ∙ w.if-has.true) (omega arith))),
-    ))
+      | then-has w ↦ (let q = w.movable-is ∙ w.add_member.ensures in (
+        omega arith,
+        ap length q ∙ length-set l.movable _ _ ∙ s,
+        λ σ γ j e.
+            (let has : ℕ → Bool = λ i. is_some (move_at a.l b p (state_of (configured σ γ a.m a.plan.now)).mental i) in
+            rw q (passing_yes has l.i l.movable (l.invariant.2 σ γ j e) (sym (marked σ γ j e) ∙ w.if-has.true) (omega arith))),
+      ))
       | else-has w ↦ (
-      omega arith,
-      ap length w.movable-is ∙ s,
-      λ σ γ j e.
-          (let has : ℕ → Bool = λ i. is_some (move_at a.l b p (state_of (configured σ γ a.m a.plan.now)).mental i) in
-          rw w.movable-is (passing_no has l.i l.movable (l.invariant.2 σ γ j e) (sym (marked σ γ j e) ∙ w.if-has.false))),
-    )
+        omega arith,
+        ap length w.movable-is ∙ s,
+        λ σ γ j e.
+            (let has : ℕ → Bool = λ i. is_some (move_at a.l b p (state_of (configured σ γ a.m a.plan.now)).mental i) in
+            rw w.movable-is (passing_no has l.i l.movable (l.invariant.2 σ γ j e) (sym (marked σ γ j e) ∙ w.if-has.false))),
+      )
     ]
 
 pub returns : goal.returns

@@ -1,5 +1,4 @@
 use native.Mathlib.Omega.{arith}
-use borrow.Author.Rules.{rules}
 use Rattle.deliberate.proofs.made.action_for.Goals as goal
 
 pub returns-then-kind-eq0 : goal.returns-then-kind-eq0

@@ -8,7 +8,6 @@ use Rattle.runs.specs.Order.{kind, number}
 use Rattle.deliberation.specs.FirstMove.{lowest_action}
 use mathlib.Core.Path.{◌≡◌, ◌∙◌}
 use native.Mathlib.Omega.{arith}
-use borrow.Author.Rules.{rules}
 use Rattle.deliberate.proofs.made.choice_of.Goals as goal
 
 pub is_enabled-requires : goal.is_enabled-requires

@@ -3,7 +3,6 @@ use Rattle.choices.specs.Judged.{mark_at}
 use Rattle.deliberate.specs.Made.{HoldsBy, by_plan, by_mark}
 use mathlib.Core.Path.{◌≡◌, sym, ap, subst}
 use native.Mathlib.Omega.{arith}
-use borrow.Author.Rules.{rules}
 use Rattle.deliberate.proofs.made.holds.Goals as goal
 
 pub returns-in-3 : goal.returns-in-3

@@ -9,7 +9,6 @@ use lib.ListN.{drop}
 use Rattle.deliberation.specs.FirstMove.{by_choice}
 use Rattle.deliberation.specs.Deliberate.{move_result}
 use Rattle.deliberate.specs.declared.made.AfterMove.{AfterMove}
-use borrow.Author.Rules.{rules}
 use Rattle.deliberate.proofs.made.make_choice.Goals as goal
 
 pub returns-in_default : goal.returns-in_default

@@ -13,7 +13,6 @@ use mathlib.Core.Option.{Option}
 use mathlib.Core.Path.{sym, subst}
 use Prim.Native.Nat.{ℕ, ◌≤◌, ◌<◌}
 use native.Mathlib.Omega.{arith}
-use borrow.Author.Rules.{rules}
 use lib.ListN.{drop}
 use Rattle.deliberate.proofs.made.move_leaf.Goals as goal
 

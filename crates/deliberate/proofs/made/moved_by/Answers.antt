@@ -1,6 +1,5 @@
 use Rattle.deliberate.specs.Made.{moved_by}
 use mathlib.Core.Path.{sym, ap, ◌∙◌}
-use borrow.Author.Rules.{rules}
 use Rattle.deliberate.proofs.made.moved_by.Goals as goal
 
 pub returns-in-Taken : goal.returns-in-Taken

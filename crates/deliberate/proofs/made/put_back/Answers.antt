@@ -1,6 +1,5 @@
 use Rattle.deliberate.specs.Made.{kept_in}
 use mathlib.Core.Path.{sym, ap}
-use borrow.Author.Rules.{rules}
 use Rattle.deliberate.proofs.made.put_back.Goals as goal
 
 pub returns-in-Stuck : goal.returns-in-Stuck

@@ -2,11 +2,9 @@ use lib.ListN.{length-set}
 use Rattle.choices.specs.Judged.{mark_at}
 use Rattle.deliberate.proofs.Making.{pushed_twice}
 use mathlib.Core.Bool.{true, false}
-use borrow.Author.Tests.{not-true, not-false}
 use Rattle.deliberate.specs.Made.{HoldsBy}
 use mathlib.Core.Path.{◌≡◌, refl, subst}
 use native.Mathlib.Omega.{arith}
-use borrow.Author.Rules.{rules}
 use Rattle.deliberate.proofs.made.turn.Goals as goal
 
 pub returns-then-not-holds : goal.returns-then-not-holds

@@ -1,24 +1,11 @@
-use Rattle.paper.proofs.Relation.{false≢true}
 use lib.ListN.{length, drop}
-use Rattle.deliberate.specs.declared.run.RanMoves.{RanMoves}
-use Rattle.deliberate.specs.declared.made.MoveMade.{MoveMade}
-use Rattle.deliberate.specs.declared.made.AfterMove.{AfterMove}
-use Rattle.deliberate.specs.Made.{MakesNext, stayed}
-use Rattle.deliberate.proofs.Next.{kept_on, kept_off}
-use Rattle.deliberate.specs.Ran.{RanTo}
-use mathlib.Core.Logic.{⊎_elim}
-use mathlib.Core.Path.{subst, ◌≡◌, sym}
+use mathlib.Core.Path.{◌≡◌}
 use Rattle.choices.specs.Judged.{Marked}
-use mathlib.Core.Logic.{inl, inr}
-use mathlib.Core.Bool.{true, false}
+use mathlib.Core.Bool.{true}
 use Rattle.meaning.specs.Configurations.{state_of}
 use Rattle.layout.specs.PlaceParts.{configured}
-use Rattle.deliberate.proofs.Deliberating.{outcome, Deliberating, deliberating_start, is_spent, is_finished, is_stopped, is_on}
-use Prim.Native.Nat.{◌-◌, ◌<◌}
-use native.Mathlib.Omega.{arith}
-use borrow.Author.Tests.{not-false}
-use borrow.Author.Rules.{rules}
-use borrow.Enum.Refused.{opened}
+use Rattle.deliberate.proofs.Deliberating.{outcome, Deliberating}
+use Prim.Native.Nat.{◌-◌}
 use Rattle.deliberate.proofs.run.run_moves.Given as goal
 
 abbrev pub invariant-loop-count : goal.invariant-loop-count

@@ -5,8 +5,6 @@ use Rattle.layout.specs.PlaceParts.{configured}
 use Rattle.card.specs.Rows.{row_answer, checked_by}
 use Rattle.door.proofs.Accepting.{accepted_card, card_admitted, judged_admitted}
 use mathlib.Core.Path.{refl, sym, ap, ◌∙◌}
-use borrow.Author.Tests.{not-true, not-false}
-use borrow.Author.Rules.{rules}
 use Rattle.door.proofs.admit.admit.Goals as goal
 
 pub configuration_good-requires : goal.configuration_good-requires

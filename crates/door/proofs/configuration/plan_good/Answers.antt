@@ -1,5 +1,4 @@
 use Rattle.meaning.specs.Card.{part}
-use borrow.Author.Rules.{rules}
 use Rattle.door.proofs.configuration.plan_good.Goals as goal
 
 pub returns : goal.returns

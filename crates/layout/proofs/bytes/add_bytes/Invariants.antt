@@ -1,11 +1,8 @@
-use Rattle.layout.proofs.Joining.{add_start, add_more}
 use Rattle.meaning.specs.Card.{part}
 use Rattle.paper.specs.Atoms.{◌∪◌}
-use mathlib.Core.Path.{◌≡◌, refl, ap, ◌∙◌}
+use mathlib.Core.Path.{◌≡◌}
 use Prim.Native.Nat.{◌-◌, ◌≤◌}
-use native.Mathlib.Omega.{arith}
-use borrow.Author.Rules.{rules}
-use lib.ListN.{length, length-set}
+use lib.ListN.{length}
 use Rattle.layout.proofs.bytes.add_bytes.Given as goal
 
 abbrev pub invariant-loop-i : goal.invariant-loop-i

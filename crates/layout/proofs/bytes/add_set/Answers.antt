@@ -2,7 +2,6 @@ use Rattle.layout.proofs.Joining.{all_bytes}
 use Rattle.paper.specs.Atoms.{◌∪◌}
 use mathlib.Core.Path.{ap, ◌∙◌}
 use native.Mathlib.Omega.{arith}
-use borrow.Author.Rules.{rules}
 use Rattle.layout.proofs.bytes.add_set.Goals as goal
 
 pub returns : goal.returns

@@ -1,11 +1,10 @@
 use lib.Seq.{paste, paste-zero}
 use Rattle.layout.proofs.Copying.{copy_more}
-use lib.ListN.{length-set, get_or, set, length, drop}
+use lib.ListN.{length-set, get_or, set, drop}
 use mathlib.Core.Path.{refl, ap, ◌∙◌, ◌≡◌}
 use mathlib.Core.List.{List}
-use Prim.Native.Nat.{ℕ, ◌+◌, ◌-◌, ◌≤◌}
+use Prim.Native.Nat.{ℕ, ◌+◌}
 use native.Mathlib.Omega.{arith}
-use borrow.Author.Rules.{rules}
 use Rattle.layout.proofs.bytes.copy.Goals as goal
 
 pub loop-i-init : goal.loop-i-init

@@ -1,11 +1,10 @@
 use lib.Seq.{paste, paste-zero}
 use Rattle.layout.proofs.Copying.{down_more}
-use lib.ListN.{length-set, get_or, set, length, drop}
+use lib.ListN.{length-set, get_or, set, drop}
 use mathlib.Core.Path.{refl, ap, ◌∙◌, ◌≡◌}
 use mathlib.Core.List.{List}
-use Prim.Native.Nat.{ℕ, ◌+◌, ◌-◌, ◌≤◌}
+use Prim.Native.Nat.{ℕ, ◌+◌}
 use native.Mathlib.Omega.{arith}
-use borrow.Author.Rules.{rules}
 use Rattle.layout.proofs.bytes.down.Goals as goal
 
 pub loop-k-init : goal.loop-k-init

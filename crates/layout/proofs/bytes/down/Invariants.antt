@@ -1,11 +1,7 @@
-use lib.Seq.{paste, paste-zero}
-use Rattle.layout.proofs.Copying.{down_more}
-use lib.ListN.{length-set, get_or, set, length, drop}
-use mathlib.Core.Path.{refl, ap, ◌∙◌, ◌≡◌}
-use mathlib.Core.List.{List}
-use Prim.Native.Nat.{ℕ, ◌+◌, ◌-◌, ◌≤◌}
-use native.Mathlib.Omega.{arith}
-use borrow.Author.Rules.{rules}
+use lib.Seq.{paste}
+use lib.ListN.{length, drop}
+use mathlib.Core.Path.{◌≡◌}
+use Prim.Native.Nat.{◌-◌, ◌≤◌}
 use Rattle.layout.proofs.bytes.down.Given as goal
 
 abbrev pub invariant-loop-k : goal.invariant-loop-k

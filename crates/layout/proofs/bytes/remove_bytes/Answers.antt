@@ -2,10 +2,8 @@ use Rattle.layout.proofs.Joining.{remove_start, remove_more}
 use Rattle.meaning.specs.Card.{part}
 use Rattle.paper.specs.Atoms.{◌∖◌}
 use mathlib.Core.Path.{◌≡◌, refl, ap, ◌∙◌}
-use Prim.Native.Nat.{◌-◌, ◌≤◌}
 use native.Mathlib.Omega.{arith}
-use borrow.Author.Rules.{rules}
-use lib.ListN.{length, length-set}
+use lib.ListN.{length-set}
 use Rattle.layout.proofs.bytes.remove_bytes.Goals as goal
 
 pub loop-i-init : goal.loop-i-init

@@ -3,7 +3,6 @@ use Rattle.meaning.specs.Card.{part, widened}
 use Rattle.meaning.proofs.Widening.{set_second, set_first}
 use mathlib.Core.Path.{sym, ap, ◌∙◌}
 use native.Mathlib.Omega.{arith}
-use borrow.Author.Rules.{rules}
 use Rattle.layout.proofs.bytes.set_at.Goals as goal
 
 pub copy-requires : goal.copy-requires

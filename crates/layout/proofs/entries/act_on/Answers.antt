@@ -1,5 +1,4 @@
 use Rattle.meaning.specs.Card.{specification_at}
-use borrow.Author.Rules.{rules}
 use Rattle.layout.proofs.entries.act_on.Goals as goal
 
 pub returns : goal.returns

@@ -1,4 +1,3 @@
-use borrow.Author.Rules.{rules}
 use Rattle.layout.proofs.Within.{entry_within}
 use native.Mathlib.Omega.{arith}
 use mathlib.Core.Path.{refl}

@@ -1,6 +1,5 @@
 use Rattle.meaning.specs.Card.{byte, node_at}
 use Prim.Native.Nat.{◌+◌}
-use borrow.Author.Rules.{rules}
 use Rattle.layout.proofs.entries.read_node.Goals as goal
 
 pub returns : goal.returns

@@ -1,7 +1,6 @@
 use Rattle.meaning.specs.Card.{byte, number_at, span, revision_at}
 use Prim.Native.Nat.{◌+◌}
 use mathlib.Core.Path.{ap, ◌∙◌}
-use borrow.Author.Rules.{rules}
 use Rattle.layout.proofs.entries.read_revision.Goals as goal
 
 pub returns : goal.returns

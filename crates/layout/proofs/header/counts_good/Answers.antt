@@ -1,5 +1,4 @@
 use Rattle.meaning.specs.Refusals.{counts_good}
-use borrow.Author.Rules.{rules}
 use Rattle.layout.proofs.header.counts_good.Goals as goal
 
 pub returns : goal.returns

@@ -1,6 +1,5 @@
 use native.Mathlib.Nat.{mul-le-mul_right}
 use native.Mathlib.Omega.{arith}
-use borrow.Author.Rules.{rules}
 use Rattle.layout.proofs.header.end_of.Goals as goal
 
 pub overflow_mul-result : goal.overflow_mul-result

@@ -1,5 +1,4 @@
 use Rattle.meaning.specs.Refusals.{offsets_good}
-use borrow.Author.Rules.{rules}
 use Rattle.layout.proofs.header.offsets_good.Goals as goal
 
 pub returns : goal.returns

@@ -1,5 +1,4 @@
 use Rattle.meaning.specs.Card.{layout}
-use borrow.Author.Rules.{rules}
 use Rattle.layout.proofs.header.read_layout.Goals as goal
 
 pub returns : goal.returns

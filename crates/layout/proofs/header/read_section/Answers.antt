@@ -1,4 +1,3 @@
-use borrow.Author.Rules.{rules}
 use Rattle.layout.proofs.header.read_section.Goals as goal
 
 pub returns : goal.returns

@@ -1,5 +1,3 @@
-use borrow.Author.Rules.{rules}
-use lib.ListN.{length}
 use Rattle.layout.proofs.header.read_span.Goals as goal
 
 pub returns : goal.returns

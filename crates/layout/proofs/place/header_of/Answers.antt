@@ -2,7 +2,6 @@ use Rattle.meaning.specs.Place.{place_header}
 use mathlib.Core.Path.{ap, ◌∙◌}
 use mathlib.Core.List.{[], ◌∷◌}
 use Prim.Native.Nat.{ℕ, ◌/◌, ◌%◌}
-use borrow.Author.Rules.{rules}
 use Rattle.layout.proofs.place.header_of.Goals as goal
 
 pub returns : goal.returns

@@ -1,4 +1,3 @@
-use borrow.Author.Rules.{rules}
 use Rattle.layout.proofs.place.read_parts.Goals as goal
 
 pub returns : goal.returns

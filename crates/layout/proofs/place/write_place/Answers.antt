@@ -2,7 +2,6 @@ use Rattle.meaning.specs.Place.{place_header}
 use Rattle.layout.proofs.Written.{place_written}
 use Rattle.layout.specs.PlaceParts.{configured}
 use mathlib.Core.Path.{ap}
-use borrow.Author.Rules.{rules}
 use lib.ListN.{length}
 use Rattle.layout.proofs.place.write_place.Goals as goal
 

@@ -9,12 +9,12 @@ use Rattle.lines.proofs.parts.read_tree.Goals as goal
 
 pub read_condition-read-requires : goal.read_condition-read-requires
 read_condition-read-requires c = record {
-      at_in_bounds = c.requires.0;
-      nodes_len = (
-        (let r = c.requires.1.room in lent_length c.args.card.now 576 1024 (omega arith)),
-        subst (λ k. k ≤ 257) (sym c.nodes_before-k.ensures) (nodes_before_le c.args.m c.requires.1.bounded.nodes),
-      );
-    }
+  at_in_bounds = c.requires.0;
+  nodes_len = (
+    (let r = c.requires.1.room in lent_length c.args.card.now 576 1024 (omega arith)),
+    subst (λ k. k ≤ 257) (sym c.nodes_before-k.ensures) (nodes_before_le c.args.m c.requires.1.bounded.nodes),
+  );
+}
 
 pub returns-in_default : goal.returns-in_default
 returns-in_default c =

@@ -11,7 +11,6 @@ use Rattle.listing.proofs.Gathering.{gathered_none, gathered_past}
 use Rattle.listing.proofs.Looking.{judged_few, is_bare, not_bare, all_selecting, all_otherwise, no_selection, no_other}
 use Rattle.layout.specs.PlaceParts.{configured}
 use native.Mathlib.Omega.{arith}
-use borrow.Author.Rules.{rules}
 use Rattle.listing.proofs.gather.gather.Goals as goal
 
 pub judge_nodes-requires : goal.judge_nodes-requires
@@ -79,7 +78,7 @@ returns c =
     let g = c.gather_kind-2.ensures in record {
       gathered = g.all_sets a.beliefs.now a.goals.now j (first.all_sets a.beliefs.now a.goals.now j none);
       judged_value = g.all_sets_2 a.beliefs.now a.goals.now j
-            ∙ ap (λ n. n + judged_in a.l b d 2 (count_of a.l 2)) (first.all_sets_2 a.beliefs.now a.goals.now j ∙ zero-add _)
-            ∙ all_otherwise a.l b d e;
+          ∙ ap (λ n. n + judged_in a.l b d 2 (count_of a.l 2)) (first.all_sets_2 a.beliefs.now a.goals.now j ∙ zero-add _)
+          ∙ all_otherwise a.l b d e;
       codes_len = g.codes_len.0;
     }

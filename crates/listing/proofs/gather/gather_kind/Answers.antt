@@ -1,7 +1,5 @@
-use mathlib.Core.Logic.{⊎_elim}
 use Rattle.listing.proofs.Gathering.{gathered_yes, gathered_no, gathered_past, enabled_at, none_enabled}
 use Rattle.listing.proofs.Looking.{judged_next, judged_few}
-use Rattle.choices.specs.Judged.{AllSets}
 use Rattle.listing.specs.declared.gather.Look.{Look}
 use Rattle.listing.specs.Listed.{enabled_code, Gathered}
 use Rattle.listing.specs.Looking.{judged_in}
@@ -9,10 +7,9 @@ use Rattle.layout.proofs.GoodLayout.{at_most_256}
 use Rattle.layout.specs.Entries.{count_of}
 use Rattle.layout.specs.PlaceParts.{configured}
 use mathlib.Core.Path.{◌≡◌, sym, ap, ◌∙◌, subst}
-use Prim.Native.Nat.{◌+◌, ◌-◌, ◌*◌, ◌≤◌}
+use Prim.Native.Nat.{◌+◌, ◌-◌, ◌*◌}
 use native.Mathlib.Nat.{add-zero}
 use native.Mathlib.Omega.{arith}
-use borrow.Author.Rules.{rules}
 use lib.ListN.{length, length-set}
 use Rattle.listing.proofs.gather.gather_kind.Goals as goal
 use Rattle.listing.proofs.gather.gather_kind.Goals.{then-look, else-look}
@@ -74,34 +71,34 @@ loop-i-preserved c =
     let r = l.invariant.1 in
     let f = l.invariant.2 in
     elim c.if-look.branch [
-      then-look w ↦ (let q = w.codes-is ∙ w.put.ensures in (
-      omega arith,
-      ap length q ∙ length-set l.codes _ _ ∙ r,
-      rw w.enabled-is (omega arith),
-      λ σ γ j g.
-          (let d = configured σ γ a.m a.plan.now in
-          let e = enabled_at a.l a.card.now d a.kind l.i (omega arith) ∙ sym (ap (λ (v : Look). v.enabled) (look σ γ j)) in
-          rw (x, q, w.enabled-is) (gathered_yes (enabled_code a.l a.card.now d) (256 * a.kind + l.i) l.codes l.enabled (l.invariant.3 σ γ j g) (e ∙ w.if-look.true) (omega arith))),
-      λ σ γ j.
-          (let n = judged_next a.l a.card.now (configured σ γ a.m a.plan.now) a.kind l.i in
-          let e = ap (λ (v : Look). v.judged) (look σ γ j) in
-          let o = l.invariant.4 σ γ j in
-          omega (arith, n, e, o)),
-    ))
+      | then-look w ↦ (let q = w.codes-is ∙ w.put.ensures in (
+        omega arith,
+        ap length q ∙ length-set l.codes _ _ ∙ r,
+        rw w.enabled-is (omega arith),
+        λ σ γ j g.
+            (let d = configured σ γ a.m a.plan.now in
+            let e = enabled_at a.l a.card.now d a.kind l.i (omega arith) ∙ sym (ap (λ (v : Look). v.enabled) (look σ γ j)) in
+            rw (x, q, w.enabled-is) (gathered_yes (enabled_code a.l a.card.now d) (256 * a.kind + l.i) l.codes l.enabled (l.invariant.3 σ γ j g) (e ∙ w.if-look.true) (omega arith))),
+        λ σ γ j.
+            (let n = judged_next a.l a.card.now (configured σ γ a.m a.plan.now) a.kind l.i in
+            let e = ap (λ (v : Look). v.judged) (look σ γ j) in
+            let o = l.invariant.4 σ γ j in
+            omega (arith, n, e, o)),
+      ))
       | else-look w ↦ (
-      omega arith,
-      ap length w.codes-is ∙ r,
-      rw w.enabled-is (omega arith),
-      λ σ γ j g.
-          (let d = configured σ γ a.m a.plan.now in
-          let e = enabled_at a.l a.card.now d a.kind l.i (omega arith) ∙ sym (ap (λ (v : Look). v.enabled) (look σ γ j)) in
-          rw (x, w.codes-is, w.enabled-is) (gathered_no (enabled_code a.l a.card.now d) (256 * a.kind + l.i) l.codes l.enabled (l.invariant.3 σ γ j g) (e ∙ w.if-look.false))),
-      λ σ γ j.
-          (let n = judged_next a.l a.card.now (configured σ γ a.m a.plan.now) a.kind l.i in
-          let e = ap (λ (v : Look). v.judged) (look σ γ j) in
-          let o = l.invariant.4 σ γ j in
-          omega (arith, n, e, o)),
-    )
+        omega arith,
+        ap length w.codes-is ∙ r,
+        rw w.enabled-is (omega arith),
+        λ σ γ j g.
+            (let d = configured σ γ a.m a.plan.now in
+            let e = enabled_at a.l a.card.now d a.kind l.i (omega arith) ∙ sym (ap (λ (v : Look). v.enabled) (look σ γ j)) in
+            rw (x, w.codes-is, w.enabled-is) (gathered_no (enabled_code a.l a.card.now d) (256 * a.kind + l.i) l.codes l.enabled (l.invariant.3 σ γ j g) (e ∙ w.if-look.false))),
+        λ σ γ j.
+            (let n = judged_next a.l a.card.now (configured σ γ a.m a.plan.now) a.kind l.i in
+            let e = ap (λ (v : Look). v.judged) (look σ γ j) in
+            let o = l.invariant.4 σ γ j in
+            omega (arith, n, e, o)),
+      )
     ]
 
 pub returns : goal.returns

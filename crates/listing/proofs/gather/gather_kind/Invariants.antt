@@ -1,19 +1,10 @@
-use mathlib.Core.Logic.{⊎_elim}
-use Rattle.listing.proofs.Gathering.{gathered_yes, gathered_no, gathered_past, enabled_at, none_enabled}
-use Rattle.listing.proofs.Looking.{judged_next, judged_few}
 use Rattle.choices.specs.Judged.{AllSets}
-use Rattle.listing.specs.declared.gather.Look.{Look}
 use Rattle.listing.specs.Listed.{enabled_code, Gathered}
 use Rattle.listing.specs.Looking.{judged_in}
-use Rattle.layout.proofs.GoodLayout.{at_most_256}
 use Rattle.layout.specs.Entries.{count_of}
-use Rattle.layout.specs.PlaceParts.{configured}
-use mathlib.Core.Path.{◌≡◌, sym, ap, ◌∙◌, subst}
+use mathlib.Core.Path.{◌≡◌}
 use Prim.Native.Nat.{◌+◌, ◌-◌, ◌*◌, ◌≤◌}
-use native.Mathlib.Nat.{add-zero}
-use native.Mathlib.Omega.{arith}
-use borrow.Author.Rules.{rules}
-use lib.ListN.{length, length-set}
+use lib.ListN.{length}
 use Rattle.listing.proofs.gather.gather_kind.Given as goal
 
 abbrev pub invariant-loop-i : goal.invariant-loop-i

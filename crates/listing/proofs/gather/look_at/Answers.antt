@@ -1,6 +1,5 @@
 use mathlib.Core.Path.{sym, ap, ◌∙◌, subst}
 use Prim.Native.Nat.{◌<◌}
-use borrow.Author.Rules.{rules}
 use Rattle.layout.specs.Entries.{count_of}
 use Rattle.layout.specs.PlaceParts.{configured}
 use Rattle.listing.specs.Looking.{look_at, look_by}

@@ -1,6 +1,5 @@
 use mathlib.Core.Path.{sym, ap, ◌∙◌}
 use mathlib.Core.Bool.{true, false}
-use borrow.Author.Rules.{rules}
 use Rattle.layout.specs.PlaceParts.{configured}
 use Rattle.meaning.specs.declared.SelectionEntry.{SelectionEntry}
 use Rattle.choices.specs.Judged.{mark_at}

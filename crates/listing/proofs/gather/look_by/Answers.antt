@@ -1,4 +1,3 @@
-use borrow.Author.Rules.{rules}
 use Rattle.listing.proofs.gather.look_by.Goals as goal
 
 pub returns-in-Enabled : goal.returns-in-Enabled

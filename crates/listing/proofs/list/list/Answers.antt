@@ -8,7 +8,6 @@ use Rattle.door.proofs.Written.{refused_written, is_room, written_none, written_
 use mathlib.Core.Path.{refl, ap, ◌∙◌}
 use Rattle.layout.specs.PlaceParts.{configured}
 use native.Mathlib.Omega.{arith}
-use borrow.Author.Rules.{rules}
 use lib.ListN.{length}
 use Rattle.listing.proofs.list.list.Goals as goal
 

@@ -1,6 +1,5 @@
 use mathlib.Core.Path.{◌≡◌, sym, ap, ◌∙◌}
-use mathlib.Core.Logic.{⊎_elim}
-use Prim.Native.Nat.{◌-◌, ◌*◌, ◌≤◌}
+use Prim.Native.Nat.{◌*◌}
 use native.Mathlib.Omega.{arith}
 use borrow.Author.Rules.{rules}
 use Rattle.listing.specs.Listed.{codes_in, over_from}
@@ -52,7 +51,7 @@ loop-i-preserved c =
     let p = c.requires.2 in
     let h = c.loop-i-test.true in
     elim c.if-bits-i-eq1.branch [
-      then-bits-i-eq1 w ↦ (omega arith, rw (w.out-is, w.j-is) (one_yes (λ k. k ∈ a.codes.now) (8 * a.b) 8 a.at a.out.now p l.i l.j l.out l.invariant.1 h (bit_yes a.codes.now a.b l.i h w.if-bits-i-eq1.true)))
+      | then-bits-i-eq1 w ↦ (omega arith, rw (w.out-is, w.j-is) (one_yes (λ k. k ∈ a.codes.now) (8 * a.b) 8 a.at a.out.now p l.i l.j l.out l.invariant.1 h (bit_yes a.codes.now a.b l.i h w.if-bits-i-eq1.true)))
       | else-bits-i-eq1 w ↦ (omega arith, rw (w.out-is, w.j-is) (one_no (λ k. k ∈ a.codes.now) (8 * a.b) 8 a.at a.out.now p l.i l.j l.out l.invariant.1 h (bit_no a.codes.now a.b l.i h w.if-bits-i-eq1.false)))
     ]
 

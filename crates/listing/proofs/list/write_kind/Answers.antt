@@ -3,7 +3,7 @@ use Rattle.paper.specs.Atoms.{◌∈◌}
 use Rattle.listing.specs.Listed.{codes_in}
 use Rattle.listing.proofs.Gathering.{codes_none}
 use Rattle.listing.proofs.Writing.{Wrote, wrote_none, part_room, part-more, part_none}
-use Prim.Native.Nat.{◌+◌, ◌-◌, ◌*◌, ◌≤◌}
+use Prim.Native.Nat.{◌+◌, ◌-◌, ◌*◌}
 use native.Mathlib.Omega.{arith}
 use borrow.Author.Rules.{rules}
 use Rattle.listing.proofs.list.write_kind.Goals as goal

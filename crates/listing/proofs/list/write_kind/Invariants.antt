@@ -1,11 +1,6 @@
-use mathlib.Core.Path.{◌≡◌}
-use Rattle.paper.specs.Atoms.{◌∈◌}
 use Rattle.listing.specs.Listed.{codes_in}
-use Rattle.listing.proofs.Gathering.{codes_none}
-use Rattle.listing.proofs.Writing.{Wrote, wrote_none, part_room, part-more, part_none}
-use Prim.Native.Nat.{◌+◌, ◌-◌, ◌*◌, ◌≤◌}
-use native.Mathlib.Omega.{arith}
-use borrow.Author.Rules.{rules}
+use Rattle.listing.proofs.Writing.{Wrote}
+use Prim.Native.Nat.{◌-◌, ◌*◌, ◌≤◌}
 use Rattle.listing.proofs.list.write_kind.Given as goal
 
 abbrev pub invariant-loop-b : goal.invariant-loop-b

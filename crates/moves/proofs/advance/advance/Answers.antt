@@ -3,7 +3,6 @@ use Rattle.moves.proofs.Running.{chose, chose_none}
 use Rattle.moves.specs.Steps.{transition_of, configuration_after}
 use Rattle.layout.specs.PlaceParts.{configured}
 use mathlib.Core.Path.{sym, ap, ◌∙◌}
-use borrow.Author.Rules.{rules}
 use Rattle.moves.proofs.advance.advance.Goals as goal
 
 pub choose-chosen-requires : goal.choose-chosen-requires

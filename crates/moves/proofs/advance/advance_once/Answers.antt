@@ -4,7 +4,6 @@ use Rattle.door.proofs.Accepting.{admitted_good, admitted_refused}
 use Rattle.moves.specs.Steps.{transition_of, configuration_after}
 use Rattle.moves.proofs.Running.{own_refused, own_accepted}
 use Rattle.runs.specs.Step.{Reached}
-use borrow.Author.Rules.{rules}
 use Rattle.moves.proofs.advance.advance_once.Goals as goal
 
 pub returns-in_default : goal.returns-in_default

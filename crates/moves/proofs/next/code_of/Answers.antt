@@ -1,6 +1,5 @@
 use Rattle.moves.proofs.Telling.{code_at}
 use mathlib.Core.Path.{sym}
-use borrow.Author.Rules.{rules}
 use Rattle.moves.proofs.next.code_of.Goals as goal
 
 pub returns : goal.returns

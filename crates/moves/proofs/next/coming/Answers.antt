@@ -3,7 +3,6 @@ use Rattle.moves.proofs.Telling.{number_lt, comes_full, comes_move, comes_rest}
 use Rattle.meaning.specs.declared.Coming.{Coming}
 use Rattle.layout.specs.PlaceParts.{configured}
 use mathlib.Core.Path.{sym, ap, ◌∙◌}
-use borrow.Author.Rules.{rules}
 use Rattle.moves.proofs.next.coming.Goals as goal
 
 pub returns-in_default : goal.returns-in_default

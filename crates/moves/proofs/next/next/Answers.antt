@@ -6,7 +6,6 @@ use Rattle.meaning.proofs.Calls.{nexts_refused}
 use Rattle.moves.proofs.Telling.{next_accepted}
 use Rattle.layout.specs.PlaceParts.{configured}
 use mathlib.Core.Path.{sym, ap, ◌∙◌}
-use borrow.Author.Rules.{rules}
 use Rattle.moves.proofs.next.next.Goals as goal
 
 pub returns-in_default : goal.returns-in_default

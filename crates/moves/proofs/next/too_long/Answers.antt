@@ -3,7 +3,6 @@ use Rattle.moves.proofs.Telling.{never_too_long, revision_too_long}
 use Rattle.layout.specs.PlaceParts.{configured}
 use native.Mathlib.Omega.{arith}
 use mathlib.Core.Path.{◌≡◌}
-use borrow.Author.Rules.{rules}
 use Rattle.moves.proofs.next.too_long.Goals as goal
 
 pub returns-then-kind-lt2 : goal.returns-then-kind-lt2

@@ -1,5 +1,3 @@
-use borrow.Author.Tests.{not-false}
-use borrow.Author.Rules.{rules}
 use Rattle.moves.proofs.run.refresh.Goals as goal
 
 pub returns-else-not-known : goal.returns-else-not-known

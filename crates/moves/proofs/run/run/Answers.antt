@@ -4,7 +4,6 @@ use Rattle.moves.proofs.Running.{runs_by}
 use Rattle.door.proofs.Accepting.{admitted_good, admitted_refused}
 use mathlib.Core.Path.{sym, ◌∙◌}
 use Rattle.layout.specs.PlaceParts.{configured}
-use borrow.Author.Rules.{rules}
 use Rattle.moves.proofs.run.run.Goals as goal
 
 pub returns-in_default : goal.returns-in_default

@@ -1,16 +1,11 @@
 use Rattle.door.specs.declared.in_place.RanInPlace.{RanInPlace}
 use Rattle.door.specs.InPlace.{ran_with}
-use mathlib.Core.Bool.{true, false}
-use lib.ListN.{length}
 use Rattle.paper.proofs.Relation.{false≢true}
 use Rattle.meaning.specs.Configurations.{state_of}
-use Rattle.choices.specs.Judged.{Marked}
-use Rattle.moves.proofs.Running.{Running, running_start, running_spent, running_rest, running_full, running_moved}
+use Rattle.moves.proofs.Running.{running_start, running_spent, running_rest, running_full, running_moved}
 use Rattle.layout.specs.PlaceParts.{configured}
-use mathlib.Core.Path.{◌≡◌, ap, ◌∙◌}
-use Prim.Native.Nat.{◌-◌}
+use mathlib.Core.Path.{ap, ◌∙◌}
 use native.Mathlib.Omega.{arith}
-use borrow.Author.Rules.{rules}
 use Rattle.moves.proofs.run.run_on.Goals as goal
 
 pub loop-count-init : goal.loop-count-init

@@ -1,16 +1,11 @@
-use Rattle.door.specs.declared.in_place.RanInPlace.{RanInPlace}
-use Rattle.door.specs.InPlace.{ran_with}
-use mathlib.Core.Bool.{true, false}
+use mathlib.Core.Bool.{true}
 use lib.ListN.{length}
-use Rattle.paper.proofs.Relation.{false≢true}
 use Rattle.meaning.specs.Configurations.{state_of}
 use Rattle.choices.specs.Judged.{Marked}
-use Rattle.moves.proofs.Running.{Running, running_start, running_spent, running_rest, running_full, running_moved}
+use Rattle.moves.proofs.Running.{Running}
 use Rattle.layout.specs.PlaceParts.{configured}
-use mathlib.Core.Path.{◌≡◌, ap, ◌∙◌}
+use mathlib.Core.Path.{◌≡◌}
 use Prim.Native.Nat.{◌-◌}
-use native.Mathlib.Omega.{arith}
-use borrow.Author.Rules.{rules}
 use Rattle.moves.proofs.run.run_on.Given as goal
 
 abbrev pub invariant-loop-count : goal.invariant-loop-count

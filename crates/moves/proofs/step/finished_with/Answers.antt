@@ -1,6 +1,5 @@
 use Rattle.moves.proofs.Finished.{left_some, left_none, left_none_most}
 use mathlib.Core.Path.{◌∙◌}
-use borrow.Author.Rules.{rules}
 use native.Mathlib.Omega.{arith}
 use Rattle.moves.proofs.step.finished_with.Goals as goal
 

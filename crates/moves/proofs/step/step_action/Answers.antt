@@ -12,7 +12,7 @@ use Rattle.layout.specs.PlaceParts.{configured}
 use mathlib.Core.Path.{sym, ap, ◌∙◌}
 use native.Mathlib.Omega.{arith}
 use borrow.Author.Rules.{rules}
-use lib.ListN.{length, take, drop}
+use lib.ListN.{take, drop}
 use Rattle.moves.proofs.step.step_action.Goals as goal
 
 pub act_on-requires : goal.act_on-requires

@@ -12,8 +12,6 @@ use Rattle.layout.specs.PlaceParts.{configured}
 use mathlib.Core.Path.{sym, ap, ◌∙◌, subst}
 use mathlib.Core.List.{append-nil}
 use native.Mathlib.Omega.{arith}
-use borrow.Author.Rules.{rules}
-use lib.ListN.{length}
 use Rattle.moves.proofs.step.step_selection.Goals as goal
 
 pub read_selection-e-requires : goal.read_selection-e-requires

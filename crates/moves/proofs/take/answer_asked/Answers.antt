@@ -1,6 +1,5 @@
 use Rattle.door.specs.Asking.{answer_asked}
 use mathlib.Core.Path.{sym, ap}
-use borrow.Author.Rules.{rules}
 use Rattle.moves.proofs.take.answer_asked.Goals as goal
 
 pub returns-in-Enabled : goal.returns-in-Enabled

@@ -1,7 +1,6 @@
 use Rattle.meaning.specs.declared.Refusal.{Refusal}
 use Rattle.moves.specs.Steps.{answer_to}
 use mathlib.Core.Path.{sym, ap}
-use borrow.Author.Rules.{rules}
 use Rattle.moves.proofs.take.answer_to.Goals as goal
 
 pub returns-in-Taken : goal.returns-in-Taken

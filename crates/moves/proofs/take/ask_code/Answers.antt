@@ -3,7 +3,6 @@ use Rattle.moves.proofs.Taking.{asked_known, asked_unknown}
 use Rattle.layout.specs.PlaceParts.{configured}
 use mathlib.Core.Path.{◌∙◌}
 use native.Mathlib.Omega.{arith}
-use borrow.Author.Rules.{rules}
 use Rattle.moves.proofs.take.ask_code.Goals as goal
 
 pub returns-then-kind-gt2 : goal.returns-then-kind-gt2

@@ -9,7 +9,6 @@ use Rattle.meaning.specs.Configurations.{state_of}
 use Rattle.meaning.specs.Calls.{choice, reply}
 use Rattle.runs.specs.Step.{Reached}
 use Rattle.door.proofs.Asking.{is_enabled}
-use borrow.Author.Rules.{rules}
 use Rattle.moves.proofs.take.take_choice.Goals as goal
 
 pub judge_nodes-requires : goal.judge_nodes-requires

@@ -2,7 +2,6 @@ use Rattle.meaning.specs.declared.Answer.TheVariants.{Done}
 use Rattle.names.specs.Naming.{asked, named}
 use Rattle.names.proofs.Naming.{found_own, found_other}
 use mathlib.Core.Path.{ap, ◌∙◌}
-use borrow.Author.Rules.{rules}
 use Rattle.names.proofs.name.find.Goals as goal
 
 pub returns-then-own-gt0 : goal.returns-then-own-gt0

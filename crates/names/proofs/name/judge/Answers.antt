@@ -3,7 +3,6 @@ use Rattle.names.specs.Naming.{asked, name_table}
 use mathlib.Core.Bool.{not}
 use lib.Dec.{ltb}
 use mathlib.Core.Path.{refl, sym, ap, ◌∙◌}
-use borrow.Author.Rules.{rules}
 use Rattle.names.proofs.name.judge.Goals as goal
 
 pub returns-in_default : goal.returns-in_default

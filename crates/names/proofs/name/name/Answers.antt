@@ -1,7 +1,6 @@
 use Rattle.names.specs.Naming.{asked}
 use Rattle.names.proofs.Naming.{own_sheet, other_sheet, ends_within, its_bytes, its_place}
 use native.Mathlib.Omega.{arith}
-use borrow.Author.Rules.{rules}
 use Rattle.names.proofs.name.name.Goals as goal
 
 pub overflow_add-end : goal.overflow_add-end

@@ -2,7 +2,6 @@ use Rattle.card.specs.Rows.{answer_of}
 use Rattle.names.specs.Naming.{asked, refused_name}
 use Rattle.names.proofs.Naming.{empty_part, card_refuses, rows_refuse, rows_done, few_actions, ready}
 use mathlib.Core.Path.{sym, ap, ◌∙◌}
-use borrow.Author.Rules.{rules}
 use Rattle.names.proofs.name.named.Goals as goal
 
 pub returns-in_default : goal.returns-in_default

@@ -1,4 +1,3 @@
-use borrow.Author.Rules.{rules}
 use Rattle.names.proofs.sheet.head_good.Goals as goal
 
 pub returns : goal.returns

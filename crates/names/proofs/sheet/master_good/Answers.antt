@@ -1,5 +1,4 @@
 use Rattle.names.specs.Sheets.{master_good}
-use borrow.Author.Rules.{rules}
 use Rattle.names.proofs.sheet.master_good.Goals as goal
 
 pub returns : goal.returns

@@ -1,13 +1,12 @@
 use Rattle.names.proofs.Sheets.{span_none, span_is, span_rises}
 use native.Mathlib.Omega.{arith}
-use borrow.Author.Rules.{rules}
 use Rattle.names.proofs.sheet.name_span.Goals as goal
 
 pub returns-then-sheet-eq0 : goal.returns-then-sheet-eq0
 returns-then-sheet-eq0 c = record {
-      value = span_none c.args.sheet.now c.args.action c.if-sheet-eq0.true;
-      length_bound = omega arith;
-    }
+  value = span_none c.args.sheet.now c.args.action c.if-sheet-eq0.true;
+  length_bound = omega arith;
+}
 
 pub two_bytes_at-from-requires : goal.two_bytes_at-from-requires
 two_bytes_at-from-requires c = let p = c.requires.1 (omega arith) in omega (arith, p.0)

@@ -1,11 +1,8 @@
-use mathlib.Core.Bool.{true}
-use Rattle.names.specs.Sheets.{offset_at, name_good}
+use Rattle.names.specs.Sheets.{name_good}
 use Rattle.names.proofs.Sheets.{not_every, from_is, name_falls, name_wrong, name_right, all_right, one_more}
-use mathlib.Core.Path.{◌≡◌, sym, ◌∙◌}
-use Prim.Native.Nat.{ℕ, ◌-◌, ◌≤◌, ◌<◌}
+use mathlib.Core.Path.{sym, ◌∙◌}
+use Prim.Native.Nat.{◌-◌, ◌<◌}
 use native.Mathlib.Omega.{arith}
-use borrow.Author.Rules.{rules}
-use lib.ListN.{length}
 use Rattle.names.proofs.sheet.names_good.Goals as goal
 
 pub loop-i-init : goal.loop-i-init

@@ -1,10 +1,7 @@
 use mathlib.Core.Bool.{true}
 use Rattle.names.specs.Sheets.{offset_at, name_good}
-use Rattle.names.proofs.Sheets.{not_every, from_is, name_falls, name_wrong, name_right, all_right, one_more}
-use mathlib.Core.Path.{◌≡◌, sym, ◌∙◌}
-use Prim.Native.Nat.{ℕ, ◌-◌, ◌≤◌, ◌<◌}
-use native.Mathlib.Omega.{arith}
-use borrow.Author.Rules.{rules}
+use mathlib.Core.Path.{◌≡◌}
+use Prim.Native.Nat.{ℕ, ◌≤◌, ◌<◌}
 use lib.ListN.{length}
 use Rattle.names.proofs.sheet.names_good.Given as goal
 

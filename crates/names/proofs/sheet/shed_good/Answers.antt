@@ -1,6 +1,5 @@
 use Rattle.names.proofs.Sheets.{shed_none, shed_some}
 use mathlib.Core.Path.{◌∙◌}
-use borrow.Author.Rules.{rules}
 use Rattle.names.proofs.sheet.shed_good.Goals as goal
 
 pub returns-then-sheet-eq0 : goal.returns-then-sheet-eq0

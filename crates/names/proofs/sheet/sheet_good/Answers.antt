@@ -1,7 +1,6 @@
 use Rattle.names.proofs.Sheets.{sheet_short, head_last, head_right, head_wrong}
 use mathlib.Core.Path.{sym, ◌∙◌}
 use native.Mathlib.Omega.{arith}
-use borrow.Author.Rules.{rules}
 use Rattle.names.proofs.sheet.sheet_good.Goals as goal
 
 pub returns-then-sheet-n : goal.returns-then-sheet-n

@@ -1,4 +1,3 @@
-use borrow.Author.Rules.{rules}
 use lib.Dec.{leb}
 use mathlib.Core.Bool.{◌&&◌}
 use Rattle.place.proofs.judge.counts_good.Goals as goal

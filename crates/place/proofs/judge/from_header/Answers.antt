@@ -4,7 +4,6 @@ use Rattle.card.specs.Rows.{rows_from}
 use Rattle.card.proofs.Rows.{stops, goes_on, row_done}
 use mathlib.Core.Bool.{not}
 use mathlib.Core.Path.{sym, ap, ◌∙◌}
-use borrow.Author.Rules.{rules}
 use Rattle.place.proofs.judge.from_header.Goals as goal
 
 pub returns-in_default : goal.returns-in_default

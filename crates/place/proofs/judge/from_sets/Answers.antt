@@ -4,7 +4,6 @@ use Rattle.card.specs.Rows.{rows_from}
 use Rattle.card.proofs.Rows.{last_row, no_row}
 use mathlib.Core.Bool.{not}
 use mathlib.Core.Path.{sym, ap, ◌∙◌}
-use borrow.Author.Rules.{rules}
 use Rattle.place.proofs.judge.from_sets.Goals as goal
 
 pub returns : goal.returns

@@ -1,6 +1,5 @@
 use lib.Dec.{leb}
 use mathlib.Core.Path.{ap}
-use borrow.Author.Rules.{rules}
 use lib.ListN.{length}
 use Rattle.place.proofs.judge.length_good.Goals as goal
 

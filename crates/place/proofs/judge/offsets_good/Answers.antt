@@ -5,7 +5,6 @@ use lib.ListN.{length}
 use mathlib.Core.Bool.{◌&&◌}
 use mathlib.Core.Path.{ap, ◌∙◌}
 use Prim.Native.Nat.{◌+◌}
-use borrow.Author.Rules.{rules}
 use Rattle.place.proofs.judge.offsets_good.Goals as goal
 
 pub returns : goal.returns

@@ -1,4 +1,3 @@
-use borrow.Author.Rules.{rules}
 use Rattle.place.proofs.judge.place_mark_good.Goals as goal
 
 pub returns : goal.returns

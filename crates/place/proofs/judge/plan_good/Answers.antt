@@ -6,7 +6,6 @@ use lib.ListN.{length-drop, length, drop}
 use mathlib.Core.Path.{◌≡◌, ap, ◌∙◌}
 use Prim.Native.Nat.{◌-◌}
 use native.Mathlib.Omega.{arith}
-use borrow.Author.Rules.{rules}
 use Rattle.place.proofs.judge.plan_good.Goals as goal
 
 pub returns : goal.returns

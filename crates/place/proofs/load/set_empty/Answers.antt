@@ -2,7 +2,6 @@ use Rattle.meaning.specs.Configurations.{empty, configuration_of}
 use Rattle.meaning.specs.Card.{part}
 use lib.ListN.{replicate}
 use Rattle.layout.specs.PlaceParts.{configured}
-use borrow.Author.Rules.{rules}
 use Rattle.place.proofs.load.set_empty.Goals as goal
 
 pub returns : goal.returns

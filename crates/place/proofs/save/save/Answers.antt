@@ -3,8 +3,6 @@ use Rattle.meaning.specs.Calls.{saves, save_leaves}
 use Rattle.meaning.specs.Configurations.{state_of}
 use Rattle.meaning.specs.Place.{place}
 use Rattle.place.proofs.Laws.{place_length}
-use Rattle.door.specs.declared.in_place.WrittenInPlace.{WrittenInPlace}
-use Rattle.door.specs.InPlace.{written_with}
 use Rattle.door.proofs.Accepting.{admitted_good}
 use Rattle.door.proofs.Written.{refused_written, is_room, written_none, written_all}
 use Rattle.layout.specs.PlaceParts.{configured}

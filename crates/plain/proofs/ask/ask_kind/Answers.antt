@@ -1,6 +1,5 @@
 use mathlib.Core.Path.{◌≡◌}
 use native.Mathlib.Omega.{arith}
-use borrow.Author.Rules.{rules}
 use Rattle.plain.proofs.Asking.{selections_asked, specifications_asked, revisions_asked}
 use Rattle.plain.proofs.ask.ask_kind.Goals as goal
 

@@ -1,13 +1,11 @@
-use mathlib.Core.Path.{◌≡◌, refl, ap, ◌∙◌}
+use mathlib.Core.Path.{refl, ap, ◌∙◌}
 use mathlib.Core.Bool.{true}
-use mathlib.Core.List.{[]}
-use Prim.Native.Nat.{◌-◌, ◌≤◌}
 use native.Mathlib.Omega.{arith}
 use lib.Dec.{eqb}
-use lib.ListN.{length-set, length}
+use lib.ListN.{length-set}
 use Rattle.door.specs.Asking.{asked_by}
-use Rattle.plain.specs.Asking.{Asks, ask_selection}
-use Rattle.plain.proofs.Asking.{rules, planned, asks_start, asks_turn, asks_all}
+use Rattle.plain.specs.Asking.{ask_selection}
+use Rattle.plain.proofs.Asking.{asks_start, asks_turn, asks_all}
 use Rattle.plain.proofs.ask.ask_selections.Goals as goal
 
 pub loop-i-init : goal.loop-i-init

@@ -1,13 +1,9 @@
-use mathlib.Core.Path.{◌≡◌, refl, ap, ◌∙◌}
-use mathlib.Core.Bool.{true}
+use mathlib.Core.Path.{◌≡◌}
 use mathlib.Core.List.{[]}
 use Prim.Native.Nat.{◌-◌, ◌≤◌}
-use native.Mathlib.Omega.{arith}
-use lib.Dec.{eqb}
-use lib.ListN.{length-set, length}
-use Rattle.door.specs.Asking.{asked_by}
+use lib.ListN.{length}
 use Rattle.plain.specs.Asking.{Asks, ask_selection}
-use Rattle.plain.proofs.Asking.{rules, planned, asks_start, asks_turn, asks_all}
+use Rattle.plain.proofs.Asking.{rules, planned}
 use Rattle.plain.proofs.ask.ask_selections.Given as goal
 
 abbrev pub invariant-loop-i : goal.invariant-loop-i

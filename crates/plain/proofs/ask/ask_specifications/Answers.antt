@@ -1,10 +1,8 @@
-use mathlib.Core.Path.{◌≡◌, refl}
-use mathlib.Core.List.{[]}
-use Prim.Native.Nat.{◌-◌, ◌≤◌}
+use mathlib.Core.Path.{refl}
 use native.Mathlib.Omega.{arith}
-use lib.ListN.{length-set, length}
-use Rattle.plain.specs.Asking.{Asks, ask_specification}
-use Rattle.plain.proofs.Asking.{rules, planned, asks_start, asks_turn, asks_all}
+use lib.ListN.{length-set}
+use Rattle.plain.specs.Asking.{ask_specification}
+use Rattle.plain.proofs.Asking.{asks_start, asks_turn, asks_all}
 use Rattle.plain.proofs.ask.ask_specifications.Goals as goal
 
 pub loop-i-init : goal.loop-i-init

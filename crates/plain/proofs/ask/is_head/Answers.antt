@@ -1,9 +1,8 @@
 use mathlib.Core.Path.{◌≡◌, subst}
-use Prim.Native.Nat.{ℕ, ◌+◌, ◌-◌, ◌≤◌}
+use Prim.Native.Nat.{ℕ, ◌+◌}
 use native.Mathlib.Omega.{arith}
-use borrow.Author.Rules.{rules}
 use borrow.Author.Count.{below_more}
-use lib.ListN.{length, get_or}
+use lib.ListN.{get_or}
 use Rattle.plans.proofs.Laws.{Agree}
 use Rattle.plain.proofs.Heads.{head_longer, head_differs, head_starts}
 use Rattle.plain.proofs.ask.is_head.Goals as goal

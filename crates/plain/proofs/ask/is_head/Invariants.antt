@@ -1,11 +1,5 @@
-use mathlib.Core.Path.{◌≡◌, subst}
-use Prim.Native.Nat.{ℕ, ◌+◌, ◌-◌, ◌≤◌}
-use native.Mathlib.Omega.{arith}
-use borrow.Author.Rules.{rules}
-use borrow.Author.Count.{below_more}
-use lib.ListN.{length, get_or}
+use Prim.Native.Nat.{◌-◌, ◌≤◌}
 use Rattle.plans.proofs.Laws.{Agree}
-use Rattle.plain.proofs.Heads.{head_longer, head_differs, head_starts}
 use Rattle.plain.proofs.ask.is_head.Given as goal
 
 abbrev pub invariant-loop-i : goal.invariant-loop-i

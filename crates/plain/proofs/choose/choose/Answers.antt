@@ -1,12 +1,11 @@
 use mathlib.Core.Path.{sym, ◌∙◌}
-use Prim.Native.Nat.{◌+◌, ◌-◌, ◌%◌, ◌≤◌}
+use Prim.Native.Nat.{◌+◌, ◌%◌}
 use native.Mathlib.Omega.{arith}
-use borrow.Author.Rules.{rules}
 use Rattle.runs.specs.Order.{guide}
 use Rattle.meaning.specs.Card.{agent_for}
 use Rattle.meaning.specs.Configurations.{state_of}
 use Rattle.layout.proofs.GoodLayout.{at_most_256}
-use Rattle.door.proofs.First.{Tried, tried_more, found_in_turn, none_in_turn}
+use Rattle.door.proofs.First.{tried_more, found_in_turn, none_in_turn}
 use Rattle.unpacked.specs.Truths.{configuration_from}
 use Rattle.plain.proofs.choose.choose.Goals as goal
 
@@ -18,9 +17,9 @@ overflow_add-kind c = let f = c.requires.ready.0.phase in omega arith
 
 pub ask_kind-answers-requires : goal.ask_kind-answers-requires
 ask_kind-answers-requires c = let p = c.requires in record {
-      ready = (p.ready.0, p.ready.1, omega arith);
-      judged_all = p.judged_all;
-    }
+  ready = (p.ready.0, p.ready.1, omega arith);
+  judged_all = p.judged_all;
+}
 
 pub first_enabled-chosen-requires : goal.first_enabled-chosen-requires
 first_enabled-chosen-requires c =

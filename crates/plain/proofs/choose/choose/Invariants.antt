@@ -1,12 +1,7 @@
-use mathlib.Core.Path.{sym, ◌∙◌}
-use Prim.Native.Nat.{◌+◌, ◌-◌, ◌%◌, ◌≤◌}
-use native.Mathlib.Omega.{arith}
-use borrow.Author.Rules.{rules}
-use Rattle.runs.specs.Order.{guide}
+use Prim.Native.Nat.{◌-◌, ◌≤◌}
 use Rattle.meaning.specs.Card.{agent_for}
 use Rattle.meaning.specs.Configurations.{state_of}
-use Rattle.layout.proofs.GoodLayout.{at_most_256}
-use Rattle.door.proofs.First.{Tried, tried_more, found_in_turn, none_in_turn}
+use Rattle.door.proofs.First.{Tried}
 use Rattle.unpacked.specs.Truths.{configuration_from}
 use Rattle.plain.proofs.choose.choose.Given as goal
 

@@ -1,6 +1,6 @@
 use mathlib.Core.Path.{◌≡◌, sym, ap, ◌∙◌}
 use mathlib.Core.List.{List}
-use Prim.Native.Nat.{ℕ, ◌-◌, ◌≤◌, ◌<◌}
+use Prim.Native.Nat.{ℕ, ◌<◌}
 use native.Mathlib.Omega.{arith}
 use borrow.Author.Rules.{rules}
 use lib.ListN.{length, get_or}
@@ -12,7 +12,7 @@ use Rattle.meaning.specs.Configurations.{state_of}
 use Rattle.layout.specs.Entries.{count_of}
 use Rattle.door.specs.declared.asked.Asked.{Asked}
 use Rattle.door.specs.Asking.{choice_at}
-use Rattle.door.proofs.First.{LeftOf, left_start, left_turn, found_of_kind, none_of_kind}
+use Rattle.door.proofs.First.{left_start, left_turn, found_of_kind, none_of_kind}
 use Rattle.listing.specs.Looking.{look_by}
 use Rattle.plain.specs.Asking.{AsksKind}
 use Rattle.plain.proofs.Asking.{read_inside, answer_enabled}

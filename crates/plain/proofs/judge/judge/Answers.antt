@@ -2,7 +2,6 @@ use mathlib.Core.Path.{◌≡◌, ap, ap₂, ◌∙◌}
 use mathlib.Core.Bool.{Bool, not}
 use Prim.Native.Nat.{ℕ}
 use native.Mathlib.Omega.{arith}
-use borrow.Author.Rules.{rules}
 use Rattle.door.specs.Asking.{both}
 use Rattle.choices.specs.Judged.{either}
 use Rattle.plain.proofs.judge.judge.Goals as goal

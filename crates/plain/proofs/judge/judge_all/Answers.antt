@@ -1,9 +1,8 @@
-use mathlib.Core.Path.{◌≡◌, refl}
-use Prim.Native.Nat.{◌-◌, ◌≤◌}
+use mathlib.Core.Path.{refl}
 use native.Mathlib.Omega.{arith}
 use borrow.Author.Rules.{rules}
-use lib.ListN.{length-set, length}
-use Rattle.plain.proofs.Judging.{JudgedTo, judged_turn}
+use lib.ListN.{length-set}
+use Rattle.plain.proofs.Judging.{judged_turn}
 use Rattle.plain.proofs.judge.judge_all.Goals as goal
 
 pub loop-i-init : goal.loop-i-init

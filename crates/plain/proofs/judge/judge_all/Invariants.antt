@@ -1,9 +1,7 @@
-use mathlib.Core.Path.{◌≡◌, refl}
+use mathlib.Core.Path.{◌≡◌}
 use Prim.Native.Nat.{◌-◌, ◌≤◌}
-use native.Mathlib.Omega.{arith}
-use borrow.Author.Rules.{rules}
-use lib.ListN.{length-set, length}
-use Rattle.plain.proofs.Judging.{JudgedTo, judged_turn}
+use lib.ListN.{length}
+use Rattle.plain.proofs.Judging.{JudgedTo}
 use Rattle.plain.proofs.judge.judge_all.Given as goal
 
 abbrev pub invariant-loop-i : goal.invariant-loop-i

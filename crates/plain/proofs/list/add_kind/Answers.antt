@@ -1,5 +1,4 @@
 use mathlib.Core.Path.{◌≡◌, sym, ap, ◌∙◌}
-use Prim.Native.Nat.{◌-◌, ◌≤◌}
 use native.Mathlib.Omega.{arith}
 use borrow.Author.Rules.{rules}
 use lib.ListN.{length, get_or}
@@ -21,7 +20,7 @@ loop-i-preserved c =
     let e : (look_by (get_or a.answers l.i Asked.NoRule)).enabled ≡ c.is_enabled.result =
     ap (λ (x : Asked). (look_by x).enabled) (read_inside a.answers l.i Asked.NoRule Asked.Enabled (omega arith)) ∙ sym c.is_enabled.ensures in
     elim c.if-is_enabled.branch [
-      then-is_enabled w ↦ (omega arith, rw (w.codes-is, w.count-is) (added_yes a.answers a.kind a.before.count a.before.codes l.i l.codes l.count l.invariant.1 (omega arith) c.requires.0 (e ∙ w.if-is_enabled.true)))
+      | then-is_enabled w ↦ (omega arith, rw (w.codes-is, w.count-is) (added_yes a.answers a.kind a.before.count a.before.codes l.i l.codes l.count l.invariant.1 (omega arith) c.requires.0 (e ∙ w.if-is_enabled.true)))
       | else-is_enabled w ↦ (omega arith, rw (w.codes-is, w.count-is) (added_no a.answers a.kind a.before.count a.before.codes l.i l.codes l.count l.invariant.1 (omega arith) (e ∙ w.if-is_enabled.false)))
     ]
 

@@ -1,7 +1,6 @@
 use mathlib.Core.Path.{ap₂, ◌∙◌}
 use Prim.Native.Nat.{◌+◌}
 use native.Mathlib.Omega.{arith}
-use borrow.Author.Rules.{rules}
 use Rattle.layout.proofs.GoodLayout.{at_most_256}
 use Rattle.unpacked.specs.Truths.{configuration_from}
 use Rattle.plain.proofs.Listing.{judged_bare, judged_planned}
@@ -18,15 +17,15 @@ returns-then-m-eq0 c =
 
 pub ask_kind-specifications-requires : goal.ask_kind-specifications-requires
 ask_kind-specifications-requires c = let p = c.requires in record {
-      ready = (p.ready.0, p.ready.1, omega arith);
-      judged_all = p.judged_all;
-    }
+  ready = (p.ready.0, p.ready.1, omega arith);
+  judged_all = p.judged_all;
+}
 
 pub ask_kind-revisions-requires : goal.ask_kind-revisions-requires
 ask_kind-revisions-requires c = let p = c.requires in record {
-      ready = (p.ready.0, p.ready.1, omega arith);
-      judged_all = p.judged_all;
-    }
+  ready = (p.ready.0, p.ready.1, omega arith);
+  judged_all = p.judged_all;
+}
 
 pub overflow_add-result : goal.overflow_add-result
 overflow_add-result c =

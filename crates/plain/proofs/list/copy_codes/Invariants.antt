@@ -1,11 +1,7 @@
-use mathlib.Core.Path.{◌≡◌, refl, sym, ap, ◌∙◌}
-use mathlib.Core.List.{◌++◌}
+use mathlib.Core.Path.{◌≡◌}
 use Prim.Native.Nat.{◌-◌, ◌≤◌}
-use native.Mathlib.Omega.{arith}
-use borrow.Author.Rules.{rules}
-use lib.ListN.{length, get_or, set, take, drop, length-set}
-use lib.Seq.{length-take-le}
-use Rattle.sets.proofs.Loops.{filled, filled_turn}
+use lib.ListN.{length}
+use Rattle.sets.proofs.Loops.{filled}
 use Rattle.plain.proofs.list.copy_codes.Given as goal
 
 abbrev pub invariant-loop-i : goal.invariant-loop-i

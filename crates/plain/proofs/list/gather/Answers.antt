@@ -5,27 +5,27 @@ use Rattle.plain.proofs.list.gather.Goals as goal
 
 pub ask_kind-requires : goal.ask_kind-requires
 ask_kind-requires c = let p = c.requires in record {
-      ready = (p.ready.0, p.ready.1, omega arith);
-      judged_all = p.judged_all;
-    }
+  ready = (p.ready.0, p.ready.1, omega arith);
+  judged_all = p.judged_all;
+}
 
 pub add_kind-one-requires : goal.add_kind-one-requires
 add_kind-one-requires c = (omega arith, omega arith)
 
 pub ask_kind-requires-2 : goal.ask_kind-requires-2
 ask_kind-requires-2 c = let p = c.requires in record {
-      ready = (p.ready.0, p.ready.1, omega arith);
-      judged_all = p.judged_all;
-    }
+  ready = (p.ready.0, p.ready.1, omega arith);
+  judged_all = p.judged_all;
+}
 
 pub add_kind-two-requires : goal.add_kind-two-requires
 add_kind-two-requires c = let e = c.add_kind-one.ensures.count_bound in (omega (arith, e), omega arith)
 
 pub ask_kind-requires-3 : goal.ask_kind-requires-3
 ask_kind-requires-3 c = let p = c.requires in record {
-      ready = (p.ready.0, p.ready.1, omega arith);
-      judged_all = p.judged_all;
-    }
+  ready = (p.ready.0, p.ready.1, omega arith);
+  judged_all = p.judged_all;
+}
 
 pub add_kind-requires : goal.add_kind-requires
 add_kind-requires c =

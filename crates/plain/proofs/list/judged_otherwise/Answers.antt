@@ -1,5 +1,5 @@
 use mathlib.Core.Path.{◌≡◌, refl, sym, ap, ◌∙◌}
-use Prim.Native.Nat.{ℕ, ◌+◌, ◌-◌, ◌≤◌}
+use Prim.Native.Nat.{ℕ, ◌+◌}
 use native.Mathlib.Nat.{add-zero}
 use native.Mathlib.Omega.{arith}
 use borrow.Author.Rules.{rules}
@@ -27,7 +27,7 @@ loop-i-preserved c =
     let next : (v : ℕ) → v ≡ (look_by (get_or a l.i Asked.Enabled)).judged → l.count + v ≡ sum_of (judged_by a) (l.i + 1) =
     λ v e. sum_next (judged_by a) l.i l.count v l.invariant.1 (e ∙ ap (λ (x : Asked). (look_by x).judged) (sym here)) in
     elim c.match-asked.branch [
-      in-Enabled w ↦ (omega arith, w.count-is ∙ next 1 (ap (λ (x : Asked). (look_by x).judged) (sym w.in-Enabled.is)), rw w.count-is (omega arith))
+      | in-Enabled w ↦ (omega arith, w.count-is ∙ next 1 (ap (λ (x : Asked). (look_by x).judged) (sym w.in-Enabled.is)), rw w.count-is (omega arith))
       | in-Condition w ↦ (omega arith, w.count-is ∙ next 1 (ap (λ (x : Asked). (look_by x).judged) (sym w.in-Condition.is)), rw w.count-is (omega arith))
       | in_default w ↦ (
         omega arith,

@@ -1,12 +1,8 @@
 use mathlib.Core.Path.{◌≡◌, sym, ap, ◌∙◌}
-use Prim.Native.Nat.{◌+◌, ◌-◌, ◌*◌, ◌≤◌}
+use Prim.Native.Nat.{◌+◌}
 use native.Mathlib.Omega.{arith}
-use borrow.Author.Rules.{rules}
-use lib.ListN.{get_or}
 use Rattle.paper.specs.Next.{if}
-use Rattle.unpacked.specs.Tables.{no_selection}
 use Rattle.listing.specs.Looking.{sum_of}
-use Rattle.plain.specs.Judging.{judgement_at}
 use Rattle.plain.specs.Asking.{judged_selecting}
 use Rattle.plain.proofs.Listing.{sum_next}
 use Rattle.plain.proofs.list.judged_selecting.Goals as goal
@@ -19,7 +15,7 @@ loop-i-preserved c =
     let next = sum_next (judged_selecting a.t a.judged) l.i l.count in
     let twice : l.count + 1 + 1 ≡ l.count + 2 = omega arith in
     elim c.if-belief.branch [
-      then-belief w ↦ (omega arith, w.count-is ∙ twice ∙ next 2 l.invariant.1 (ap (λ b. if b 2 1) (sym w.if-belief.true)), rw w.count-is (omega arith))
+      | then-belief w ↦ (omega arith, w.count-is ∙ twice ∙ next 2 l.invariant.1 (ap (λ b. if b 2 1) (sym w.if-belief.true)), rw w.count-is (omega arith))
       | else-belief w ↦ (omega arith, w.count-is ∙ next 1 l.invariant.1 (ap (λ b. if b 2 1) (sym w.if-belief.false)), rw w.count-is (omega arith))
     ]
 

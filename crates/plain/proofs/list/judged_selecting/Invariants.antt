@@ -1,15 +1,10 @@
-use mathlib.Core.Path.{◌≡◌, sym, ap, ◌∙◌}
-use mathlib.Core.Logic.{⊎_elim}
-use Prim.Native.Nat.{◌+◌, ◌-◌, ◌*◌, ◌≤◌}
-use native.Mathlib.Omega.{arith}
-use borrow.Author.Rules.{rules}
+use mathlib.Core.Path.{◌≡◌}
+use Prim.Native.Nat.{◌-◌, ◌*◌, ◌≤◌}
 use lib.ListN.{get_or}
 use Rattle.paper.specs.Next.{if}
 use Rattle.unpacked.specs.Tables.{no_selection}
 use Rattle.listing.specs.Looking.{sum_of}
 use Rattle.plain.specs.Judging.{judgement_at}
-use Rattle.plain.specs.Asking.{judged_selecting}
-use Rattle.plain.proofs.Listing.{sum_next}
 use Rattle.plain.proofs.list.judged_selecting.Given as goal
 
 abbrev pub invariant-loop-i : goal.invariant-loop-i

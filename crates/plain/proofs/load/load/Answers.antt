@@ -1,7 +1,6 @@
 use Rattle.plain.proofs.Loading.{load_refused, load_done}
 use Rattle.door.proofs.Accepting.{accepted_card}
 use mathlib.Core.Path.{sym, ◌∙◌}
-use borrow.Author.Rules.{rules}
 use Rattle.plain.proofs.load.load.Goals as goal
 
 pub returns-in_default : goal.returns-in_default

@@ -1,8 +1,6 @@
 use Rattle.plain.proofs.Acting.{packed_none}
 use Rattle.plain.proofs.Loading.{empty_made}
-use mathlib.Core.Path.{◌≡◌}
 use borrow.Author.Rules.{rules}
-use lib.ListN.{length}
 use Rattle.plain.proofs.load.nothing.Goals as goal
 
 pub returns : goal.returns

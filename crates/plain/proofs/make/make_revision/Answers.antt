@@ -2,7 +2,6 @@ use Rattle.plain.proofs.Making.{revision_head, revision_room, revision_full, rev
 use mathlib.Core.Path.{refl}
 use Prim.Native.Nat.{◌+◌, ◌-◌, ◌≤◌, ◌<◌}
 use native.Mathlib.Omega.{arith}
-use borrow.Author.Rules.{rules}
 use Rattle.plain.proofs.make.make_revision.Goals as goal
 
 pub overflow_sub-len : goal.overflow_sub-len

@@ -1,6 +1,5 @@
 use Rattle.plain.proofs.Making.{selection_span, selection_room, selection_made}
 use native.Mathlib.Omega.{arith}
-use borrow.Author.Rules.{rules}
 use Rattle.plain.proofs.make.make_selection.Goals as goal
 
 pub copy_plan-after-requires : goal.copy_plan-after-requires

@@ -1,7 +1,6 @@
 use mathlib.Core.Path.{ap}
 use Prim.Native.Nat.{◌+◌, ◌%◌}
 use Rattle.moves.specs.declared.step.Transition.{Transition}
-use borrow.Author.Rules.{rules}
 use Rattle.plain.proofs.make.taken.Goals as goal
 
 pub returns : goal.returns

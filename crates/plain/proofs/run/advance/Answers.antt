@@ -1,5 +1,4 @@
 use mathlib.Core.Path.{sym, ap, ◌∙◌}
-use borrow.Author.Rules.{rules}
 use Rattle.runs.specs.Step.{Reached}
 use Rattle.moves.specs.Steps.{transition_of, configuration_after}
 use Rattle.moves.proofs.Running.{chose, chose_none}
@@ -8,9 +7,9 @@ use Rattle.plain.proofs.run.advance.Goals as goal
 
 pub choose-chosen-requires : goal.choose-chosen-requires
 choose-chosen-requires c = record {
-      ready = c.requires;
-      judged_all = c.judge_all-judged.ensures c.args.card.now c.requires.0 c.requires.1;
-    }
+  ready = c.requires;
+  judged_all = c.judge_all-judged.ensures c.args.card.now c.requires.0 c.requires.1;
+}
 
 pub returns-in_default : goal.returns-in_default
 returns-in_default c =

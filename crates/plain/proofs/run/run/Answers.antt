@@ -1,5 +1,4 @@
 use mathlib.Core.Path.{sym, ap, ◌∙◌, subst}
-use borrow.Author.Rules.{rules}
 use Rattle.runs.specs.declared.Ending.{Ending}
 use Rattle.runs.specs.Run.{run}
 use Rattle.meaning.specs.declared.Answer.TheVariants.{Done}

@@ -1,9 +1,7 @@
 use mathlib.Core.Path.{ap, ◌∙◌}
-use Prim.Native.Nat.{◌-◌}
 use native.Mathlib.Omega.{arith}
-use borrow.Author.Rules.{rules}
 use Rattle.meaning.specs.Configurations.{state_of}
-use Rattle.moves.proofs.Running.{Running, running_start, running_spent, running_rest, running_full, running_moved}
+use Rattle.moves.proofs.Running.{running_start, running_spent, running_rest, running_full, running_moved}
 use Rattle.unpacked.specs.Truths.{configuration_from}
 use Rattle.plain.specs.declared.run.RunsTo.{RunsTo}
 use Rattle.plain.specs.Calls.{ran_from}

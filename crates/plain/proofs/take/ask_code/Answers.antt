@@ -1,7 +1,6 @@
 use mathlib.Core.Path.{◌∙◌}
 use Prim.Native.Nat.{◌%◌}
 use native.Mathlib.Omega.{arith}
-use borrow.Author.Rules.{rules}
 use Rattle.meaning.specs.Configurations.{state_of}
 use Rattle.moves.proofs.Taking.{asked_known, asked_unknown}
 use Rattle.unpacked.specs.Truths.{configuration_from}
@@ -15,9 +14,9 @@ returns-then-kind-gt2 c =
 
 pub ask_kind-answers-requires : goal.ask_kind-answers-requires
 ask_kind-answers-requires c = record {
-      ready = (c.requires.0, c.requires.1, omega arith);
-      judged_all = c.judge_all-judged.ensures c.args.card.now c.requires.0 c.requires.1;
-    }
+  ready = (c.requires.0, c.requires.1, omega arith);
+  judged_all = c.judge_all-judged.ensures c.args.card.now c.requires.0 c.requires.1;
+}
 
 pub returns : goal.returns
 returns c =

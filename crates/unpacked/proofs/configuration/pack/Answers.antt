@@ -1,5 +1,4 @@
 use mathlib.Core.Path.{ap₂}
-use borrow.Author.Rules.{rules}
 use Rattle.layout.specs.PlaceParts.{configured}
 use Rattle.unpacked.proofs.configuration.pack.Goals as goal
 

@@ -3,7 +3,7 @@ use mir.Val.{Fits}
 use mathlib.Core.Path.{ap₂, ◌∙◌}
 use Prim.Native.Nat.{ℕ}
 use borrow.Author.Rules.{rules}
-use lib.ListN.{length, get_or}
+use lib.ListN.{get_or}
 use Rattle.paper.specs.Atoms.{Atoms}
 use Rattle.meaning.specs.declared.Configuration.{Configuration}
 use Rattle.layout.specs.PlaceParts.{configured}

@@ -1,4 +1,3 @@
-use borrow.Author.Rules.{rules}
 use Rattle.unpacked.proofs.tables.no_selection.Goals as goal
 
 pub returns : goal.returns

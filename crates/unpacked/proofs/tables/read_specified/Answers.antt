@@ -1,5 +1,4 @@
 use mathlib.Core.Path.{ap}
-use borrow.Author.Rules.{rules}
 use Rattle.meaning.specs.declared.SpecificationEntry.{SpecificationEntry}
 use Rattle.unpacked.specs.declared.tables.Specified.{Specified}
 use Rattle.unpacked.proofs.tables.read_specified.Goals as goal

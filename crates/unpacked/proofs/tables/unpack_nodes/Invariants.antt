@@ -1,10 +1,7 @@
-use mathlib.Core.Path.{refl}
 use Prim.Native.Nat.{◌-◌, ◌≤◌}
-use native.Mathlib.Omega.{arith}
-use borrow.Author.Rules.{rules}
 use Rattle.meaning.specs.Card.{node_at}
 use Rattle.unpacked.specs.Tables.{no_node}
-use Rattle.unpacked.proofs.Filling.{Filled, filled_none, filled_turn}
+use Rattle.unpacked.proofs.Filling.{Filled}
 use Rattle.unpacked.proofs.tables.unpack_nodes.Given as goal
 
 abbrev pub invariant-loop-i : goal.invariant-loop-i

@@ -1,9 +1,6 @@
 use mathlib.Core.Path.{refl}
-use Prim.Native.Nat.{◌-◌, ◌≤◌}
 use native.Mathlib.Omega.{arith}
-use borrow.Author.Rules.{rules}
-use Rattle.unpacked.specs.Tables.{no_specification, specified_at}
-use Rattle.unpacked.proofs.Filling.{Filled, filled_none, filled_turn}
+use Rattle.unpacked.proofs.Filling.{filled_none, filled_turn}
 use Rattle.unpacked.proofs.tables.unpack_specifications.Goals as goal
 
 pub loop-i-init : goal.loop-i-init

@@ -1,9 +1,7 @@
 use mathlib.Core.Bool.{Bool, false}
-use mathlib.Core.Logic.{⊎_elim}
 use mathlib.Core.Path.{◌≡◌, refl, sym, ap, ◌∙◌}
-use Prim.Native.Nat.{ℕ, ◌+◌, ◌-◌, ◌≤◌}
+use Prim.Native.Nat.{ℕ, ◌+◌}
 use native.Mathlib.Omega.{arith}
-use borrow.Author.Rules.{rules}
 use lib.ListN.{get_or}
 use Rattle.runs.specs.Order.{numbers}
 use Rattle.meaning.specs.Looking.{how_many}
@@ -21,7 +19,7 @@ loop-k-preserved c =
     let l = c.loop-k in
     let t : ℕ → Bool = λ j. get_or a.truths j false in
     elim c.if-truths-k.branch [
-      then-truths-k w ↦ (omega arith, omega arith, w.n-is ∙ ap (λ n. n + 1) l.invariant.2 ∙ sym (counted_yes t l.k w.if-truths-k.true))
+      | then-truths-k w ↦ (omega arith, omega arith, w.n-is ∙ ap (λ n. n + 1) l.invariant.2 ∙ sym (counted_yes t l.k w.if-truths-k.true))
       | else-truths-k w ↦ (omega arith, omega arith, w.n-is ∙ l.invariant.2 ∙ sym (counted_no t l.k w.if-truths-k.false))
     ]
 

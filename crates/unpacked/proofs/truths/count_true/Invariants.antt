@@ -1,13 +1,9 @@
-use mathlib.Core.Bool.{Bool, false}
-use mathlib.Core.Logic.{⊎_elim}
-use mathlib.Core.Path.{◌≡◌, refl, sym, ap, ◌∙◌}
-use Prim.Native.Nat.{ℕ, ◌+◌, ◌-◌, ◌≤◌}
-use native.Mathlib.Omega.{arith}
-use borrow.Author.Rules.{rules}
+use mathlib.Core.Bool.{false}
+use mathlib.Core.Path.{◌≡◌}
+use Prim.Native.Nat.{◌-◌, ◌≤◌}
 use lib.ListN.{get_or}
 use Rattle.runs.specs.Order.{numbers}
 use Rattle.meaning.specs.Looking.{how_many}
-use Rattle.unpacked.proofs.Values.{counted_yes, counted_no}
 use Rattle.unpacked.proofs.truths.count_true.Given as goal
 
 abbrev pub invariant-loop-k : goal.invariant-loop-k

@@ -1,11 +1,8 @@
 use mathlib.Core.Path.{subst, ◌≡◌, refl, ap, ◌∙◌}
-use mathlib.Core.Logic.{⊎_elim}
 use mathlib.Core.Bool.{Bool, false}
-use Prim.Native.Nat.{ℕ, ◌-◌, ◌≤◌}
+use Prim.Native.Nat.{ℕ}
 use native.Mathlib.Omega.{arith}
-use borrow.Author.Rules.{rules}
 use lib.ListN.{length-set, length, get_or}
-use Rattle.paper.specs.Theorems.{AreBytes}
 use Rattle.meaning.proofs.Widening.{at_zeros}
 use Rattle.sets.specs.Sets.{Passing}
 use Rattle.sets.proofs.Members.{passing_none, passing_yes, passing_no}
@@ -23,19 +20,19 @@ loop-k-preserved c =
     let n = l.invariant.1 in
     let t : ℕ → Bool = λ j. get_or a.truths j false in
     elim c.if-truths-k.branch [
-      then-truths-k w ↦
-        let q = w.s-is ∙ w.add_member.ensures in (
-          omega arith,
-          ap length q ∙ length-set l.s _ _ ∙ n,
-          rw q (with_bytes l.k l.s (omega arith) l.invariant.2),
-          rw q (passing_yes t l.k l.s l.invariant.3 w.if-truths-k.true (omega arith)),
-        )
+      | then-truths-k w ↦
+          let q = w.s-is ∙ w.add_member.ensures in (
+            omega arith,
+            ap length q ∙ length-set l.s _ _ ∙ n,
+            rw q (with_bytes l.k l.s (omega arith) l.invariant.2),
+            rw q (passing_yes t l.k l.s l.invariant.3 w.if-truths-k.true (omega arith)),
+          )
       | else-truths-k w ↦ (
-          omega arith,
-          ap length w.s-is ∙ n,
-          rw w.s-is l.invariant.2,
-          rw w.s-is (passing_no t l.k l.s l.invariant.3 w.if-truths-k.false),
-        )
+        omega arith,
+        ap length w.s-is ∙ n,
+        rw w.s-is l.invariant.2,
+        rw w.s-is (passing_no t l.k l.s l.invariant.3 w.if-truths-k.false),
+      )
     ]
 
 pub returns : goal.returns

@@ -1,10 +1,6 @@
-use mathlib.Core.Bool.{false, not, ◌&&◌}
 use mathlib.Core.Path.{refl}
-use Prim.Native.Nat.{◌-◌, ◌≤◌}
 use native.Mathlib.Omega.{arith}
-use borrow.Author.Rules.{rules}
-use lib.ListN.{get_or}
-use Rattle.unpacked.proofs.Filling.{Filled, filled_none, filled_turn}
+use Rattle.unpacked.proofs.Filling.{filled_none, filled_turn}
 use Rattle.unpacked.proofs.truths.strike.Goals as goal
 
 pub loop-k-init : goal.loop-k-init

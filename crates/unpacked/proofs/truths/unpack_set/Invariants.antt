@@ -1,11 +1,7 @@
-use mathlib.Core.Path.{subst, ◌≡◌}
 use mathlib.Core.Bool.{false}
 use Prim.Native.Nat.{◌-◌, ◌≤◌}
-use native.Mathlib.Omega.{arith}
-use borrow.Author.Rules.{rules}
 use Rattle.paper.specs.Atoms.{◌∈◌}
-use Rattle.unpacked.proofs.Filling.{Filled, filled_none, filled_turn}
-use Rattle.unpacked.proofs.Values.{values_are}
+use Rattle.unpacked.proofs.Filling.{Filled}
 use Rattle.unpacked.proofs.truths.unpack_set.Given as goal
 
 abbrev pub invariant-loop-k : goal.invariant-loop-k

@@ -7,7 +7,6 @@ use Rattle.runs.specs.Weight.{weigh}
 use mathlib.Core.Path.{◌≡◌, sym, ap, ◌∙◌}
 use Prim.Native.Nat.{◌≤◌, ◌<◌}
 use native.Mathlib.Omega.{arith}
-use borrow.Author.Rules.{rules}
 use Rattle.verdict.proofs.grade.from_initial.Goals as goal
 
 pub plan_weight-requires : goal.plan_weight-requires

@@ -1,15 +1,11 @@
-use Rattle.verdict.proofs.Offenders.{Left, left_start, left_turn, left_bad, left_none}
-use Rattle.meaning.specs.Card.{Bytes, weight, conditions, revision_at, revision_of, agent_of, agent_for}
+use Rattle.verdict.proofs.Offenders.{Left}
+use Rattle.meaning.specs.Card.{Bytes, weight, conditions, revision_at, revision_of}
 use Rattle.runs.specs.Weight.{lowers}
 use Rattle.runs.specs.declared.Verdict.{Verdict}
 use Rattle.runs.specs.declared.Offender.{Offender}
 use Rattle.paper.specs.Language.{𝐁, Revision}
 use Rattle.meaning.specs.declared.Layout.{Layout}
-use borrow.Author.Tests.{not-true, not-false}
-use mathlib.Core.Path.{sym, ◌∙◌}
 use Prim.Native.Nat.{ℕ, ◌-◌, ◌≤◌}
-use native.Mathlib.Omega.{arith}
-use borrow.Author.Rules.{rules}
 use Rattle.verdict.proofs.grade.from_revisions.Given as goal
 
 -- revision rule i

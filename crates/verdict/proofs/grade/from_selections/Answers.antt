@@ -1,15 +1,13 @@
-use Rattle.verdict.proofs.Offenders.{Left, left_start, left_turn, left_bad, left_none}
+use Rattle.verdict.proofs.Offenders.{left_start, left_turn, left_bad, left_none}
 use Rattle.meaning.specs.Card.{Bytes, weight, conditions, selection_at, selection_of, agent_of, agent_for}
 use Rattle.runs.specs.Weight.{light}
 use Rattle.runs.specs.declared.Offender.{Offender}
 use Rattle.paper.specs.Language.{𝐁, 𝐆, Selection}
 use Rattle.verdict.specs.Verdicts.{revisions_verdict}
 use Rattle.meaning.specs.declared.Layout.{Layout}
-use borrow.Author.Tests.{not-true, not-false}
 use mathlib.Core.Path.{sym, ◌∙◌}
-use Prim.Native.Nat.{ℕ, ◌-◌, ◌≤◌}
+use Prim.Native.Nat.{ℕ}
 use native.Mathlib.Omega.{arith}
-use borrow.Author.Rules.{rules}
 use Rattle.verdict.proofs.grade.from_selections.Goals as goal
 
 -- selection rule i

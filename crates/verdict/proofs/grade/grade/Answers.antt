@@ -6,7 +6,6 @@ use Rattle.card.specs.Rows.{answer_of}
 use Rattle.runs.specs.declared.Verdict.{Verdict}
 use Rattle.runs.specs.declared.Offender.{Offender}
 use mathlib.Core.Path.{sym, ap, ◌∙◌}
-use borrow.Author.Rules.{rules}
 use Rattle.verdict.proofs.grade.grade.Goals as goal
 
 pub returns-in_default : goal.returns-in_default

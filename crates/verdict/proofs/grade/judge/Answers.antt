@@ -1,5 +1,4 @@
 use Rattle.verdict.proofs.Weights.{weighable}
-use borrow.Author.Rules.{rules}
 use Rattle.verdict.proofs.grade.judge.Goals as goal
 
 pub sum-requires : goal.sum-requires

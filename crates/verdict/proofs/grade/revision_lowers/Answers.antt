@@ -3,7 +3,6 @@ use Rattle.verdict.proofs.Weights.{weighable}
 use Rattle.meaning.specs.Card.{plan}
 use Rattle.meaning.specs.declared.RevisionEntry.{RevisionEntry}
 use mathlib.Core.Path.{ap}
-use borrow.Author.Rules.{rules}
 use Rattle.verdict.proofs.grade.revision_lowers.Goals as goal
 
 pub plan_weight-head-requires : goal.plan_weight-head-requires

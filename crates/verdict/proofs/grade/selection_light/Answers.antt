@@ -3,7 +3,6 @@ use Rattle.verdict.proofs.Weights.{weighable}
 use Rattle.meaning.specs.Card.{plan}
 use Rattle.meaning.specs.declared.SelectionEntry.{SelectionEntry}
 use mathlib.Core.Path.{ap}
-use borrow.Author.Rules.{rules}
 use Rattle.verdict.proofs.grade.selection_light.Goals as goal
 
 pub plan_weight-requires : goal.plan_weight-requires

@@ -4,7 +4,6 @@ use Rattle.verdict.proofs.Weights.{weigh_part, weighable_part, part_most}
 use mathlib.Core.Path.{◌≡◌, ap}
 use Prim.Native.Nat.{◌+◌, ◌*◌, ◌/◌, ◌%◌}
 use native.Mathlib.Omega.{arith}
-use borrow.Author.Rules.{rules}
 use Rattle.verdict.proofs.sums.from_below.Goals as goal
 
 pub part_weight-more-requires : goal.part_weight-more-requires

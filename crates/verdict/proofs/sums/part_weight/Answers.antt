@@ -1,12 +1,11 @@
 use Rattle.verdict.proofs.Weights.{weigh_next, weigh_done}
 use Rattle.meaning.proofs.Parts.{length_part, part_at}
 use Rattle.meaning.specs.Card.{byte, part, weight}
-use Rattle.runs.specs.Weight.{weigh}
 use mathlib.Core.Path.{◌≡◌, ap, ◌∙◌}
-use Prim.Native.Nat.{◌+◌, ◌-◌, ◌*◌, ◌≤◌}
+use Prim.Native.Nat.{◌+◌}
 use native.Mathlib.Omega.{arith}
 use borrow.Author.Rules.{rules}
-use lib.ListN.{length, get_or, drop}
+use lib.ListN.{length, get_or}
 use Rattle.verdict.proofs.sums.part_weight.Goals as goal
 
 pub loop-i-init : goal.loop-i-init

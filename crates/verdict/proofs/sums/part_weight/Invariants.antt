@@ -1,12 +1,8 @@
-use Rattle.verdict.proofs.Weights.{weigh_next, weigh_done}
-use Rattle.meaning.proofs.Parts.{length_part, part_at}
-use Rattle.meaning.specs.Card.{byte, part, weight}
+use Rattle.meaning.specs.Card.{part, weight}
 use Rattle.runs.specs.Weight.{weigh}
-use mathlib.Core.Path.{◌≡◌, ap, ◌∙◌}
+use mathlib.Core.Path.{◌≡◌}
 use Prim.Native.Nat.{◌+◌, ◌-◌, ◌*◌, ◌≤◌}
-use native.Mathlib.Omega.{arith}
-use borrow.Author.Rules.{rules}
-use lib.ListN.{length, get_or, drop}
+use lib.ListN.{drop}
 use Rattle.verdict.proofs.sums.part_weight.Given as goal
 
 abbrev pub invariant-loop-i : goal.invariant-loop-i

@@ -1,8 +1,6 @@
 use Rattle.meaning.specs.Card.{plan, weight}
 use Rattle.verdict.proofs.Weights.{weigh_part, weighable_part}
 use native.Mathlib.Omega.{arith}
-use borrow.Author.Rules.{rules}
-use lib.ListN.{length}
 use Rattle.verdict.proofs.sums.plan_weight.Goals as goal
 
 pub part_weight-requires : goal.part_weight-requires

@@ -1,12 +1,11 @@
-use lib.ListN.{length-set, length-replicate, get_or-replicate, length, get_or}
+use lib.ListN.{length-set, length-replicate, get_or-replicate}
 use Rattle.meaning.specs.Card.{part, weight}
 use Rattle.runs.specs.Weight.{weigh}
 use Rattle.sets.proofs.Loops.{below_turn}
 use Rattle.verdict.proofs.Weights.{weigh_part, weigh_no_part, weighable_part, part_most}
 use mathlib.Core.Path.{◌≡◌, refl, sym, ap, ◌∙◌}
-use Prim.Native.Nat.{ℕ, ◌+◌, ◌-◌, ◌*◌, ◌≤◌, ◌<◌}
+use Prim.Native.Nat.{ℕ, ◌+◌, ◌*◌}
 use native.Mathlib.Omega.{arith}
-use borrow.Author.Rules.{rules}
 use Rattle.verdict.proofs.sums.sum.Goals as goal
 
 pub loop-k-init : goal.loop-k-init

@@ -1,11 +1,7 @@
 use Rattle.verdict.proofs.Weights.{weigh_first, weigh_all}
 use Rattle.meaning.specs.Card.{weight}
-use Rattle.runs.specs.Weight.{weigh}
-use mathlib.Core.Path.{◌≡◌}
-use Prim.Native.Nat.{◌+◌, ◌-◌, ◌*◌, ◌≤◌}
 use native.Mathlib.Omega.{arith}
 use borrow.Author.Rules.{rules}
-use lib.ListN.{length, take, drop}
 use Rattle.verdict.proofs.weigh.weigh.Goals as goal
 
 pub loop-i-init : goal.loop-i-init
