@@ -17,8 +17,10 @@ build_board() {
     mkdir -p "$root/target/c"
     touch "$root/target/c/asked" # what changes from here on is newer than the archive
     built=0
-    prove_with_progress board rt lib >&2 || built=$?
+    # without the word the code would need a processor with SSE4.2 and POPCNT (x86-64-v2)
+    prove_with_progress board rt lib --cpu=x86-64 >&2 || built=$?
     if [ "$built" -ne 0 ]; then
+        rm -f "$archive" # it is older than what it is made of
         [ "$built" -le 128 ] || exit "$built"
         die "rt lib failed in crates/board, so there is no library"
     fi

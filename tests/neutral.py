@@ -8,9 +8,10 @@ MODULE.ll is the module as text, as the kit made it for x86-64. Three things in 
 each line of it has to have a form that is known here to say the same on every processor with little-endian numbers and pointers of at
 most 8 bytes:
 
-- numbers are i1 to i64; memory is bytes, of a stated number and alignment, at offsets in bytes; there are no globals;
+- numbers are i1 to i64, and pairs of those from i8 on, each of which lies at a multiple of its size; memory is bytes, of a stated number
+  and alignment, at offsets in bytes; the module's own are constants of bytes, by name;
 - a pointer is only handed on, stored, loaded, and moved by bytes: none becomes a number, and no size or distance is asked of one.
-  A place of its own for a pointer is only stored to and loaded from as a pointer, for on some processors it has under 8 bytes; and where
+  It may be compared with null. A place of its own for a pointer is only stored to and loaded from as a pointer, for on some processors it has under 8 bytes; and where
   a pointer lies in other memory nothing is read or written as a number;
 - what is called is a function of the module, or memmove, memset, trap or ctpop, which counts the ones of a number;
 - the functions for others are those that the header declares, with the parameters that it has there, and no attribute says how a
@@ -27,7 +28,7 @@ TRIPLE = "x86_64-unknown-linux-gnu"
 PROCESSOR = '"target-cpu"="x86-64"'
 # Attributes that may stay: the probe of a large frame's pages, which a back end makes in its own way or not at all, and what is
 # said of every processor.
-ATTRIBUTES = {'"probe-stack"="inline-asm"', "nounwind", "nocallback", "nofree", "willreturn", "cold", "noreturn"}
+ATTRIBUTES = {'"probe-stack"="inline-asm"', '"stack-probe-size"="3072"', "nounwind", "nocallback", "nofree", "willreturn", "cold", "noreturn"}
 ATTRIBUTES |= {"memory(argmem: readwrite)", "memory(argmem: write)", "memory(inaccessiblemem: write)", "memory(none)"}
 ATTRIBUTES |= {"nosync", "speculatable", "nocreateundeforpoison"}
 ATTRIBUTE = re.compile(r'"[^"]*"="[^"]*"|"[^"]*"|\w+\([^)]*\)|\S+')
@@ -39,23 +40,29 @@ INTRINSICS = {
     "llvm.ctpop.i64": "i64 (i64)",
 }
 
-# The forms of a line in a function: N a type of numbers, T one of numbers or a pointer, V a value, R a name, F a function.
+# The forms of a line in a function: N a type of numbers, P a pair of them, T one of numbers or a pointer, V a value, R a name, F a
+# function, G a constant.
 FORMS = """
 R = alloca N, align D
 R = alloca ptr, align 8
 R = alloca [D x i8], align D
 R = load T, ptr R, align DM
+R = load P, ptr R, align D
 store T V, ptr R, align D
+store ptr G, ptr R, align D
 R = getelementptr i8, ptr R, i64 V
 R = getelementptr inbounds nuw i8, ptr R, i64 V
 R = A N V, V
 R = icmp C N V, V
+R = icmp eq ptr R, null
+R = extractvalue P R, D
 R = zext N V to N
 R = sext N V to N
 R = trunc N V to N
 R = trunc nuw N V to N
 call void F(L)
 R = call N F(L)
+R = call P F(L)
 br label R
 br i1 V, label R, label R
 switch N V, label R [
@@ -63,14 +70,17 @@ N V, label R
 ]
 ret void
 ret N V
+ret P R
 unreachable
 """
 PARTS = {
     "N": r"i(?:1|8|16|32|64)",
+    "P": r"\{ i(?:8|16|32|64), i(?:8|16|32|64) \}",
     "T": r"(?:i(?:8|16|32|64)|ptr)",
     "V": r"(?:%[\w.]+|-?\d+|true|false)",
     "R": r"%[\w.]+",
     "F": r'@(?:[\w.]+|"[\w.:]+")',
+    "G": r"@static\.\d+",
     "D": r"\d+",
     "M": r"(?:, !range !\d+)?(?:, !noundef !\d+)?",
     "A": r"(?:add|sub|mul|shl)(?: nuw)?(?: nsw)?|(?:udiv|urem|lshr|and|or|xor)",
@@ -86,7 +96,8 @@ def pattern(form):
 
 
 KNOWN = [pattern(form) for form in FORMS.strip().split("\n")]
-DEFINED = re.compile(r'define (internal )?(?:noundef )?(?:zeroext |signext )?(\S+) (@(?:[\w.]+|"[\w.:]+"))\((.*)\) #\d+ \{$')
+DEFINED = re.compile(r'define (internal )?(?:noundef )?(?:zeroext |signext )?(\S+|\{ i\d+, i\d+ \}) (@(?:[\w.]+|"[\w.:]+"))\((.*)\) #\d+ \{$')
+CONSTANT = re.compile(r'(@static\.\d+) = private unnamed_addr constant \[\d+ x i8\] (?:c"[^"]*"|zeroinitializer), align 1$')
 DECLARED = re.compile(r"declare (\S+) @([\w.]+)(\(.*\)) #\d+$")
 SIZES = {"i8": 1, "i16": 2, "i32": 4, "i64": 8, "ptr": 8}
 C_TYPES = {"uint8_t": "i8", "uint16_t": "i16", "size_t": "i64", "uint32_t": "i32", "uint64_t": "i64"}
@@ -134,12 +145,17 @@ class Memory:
         """Takes a line of the function in."""
         moved = re.match(r"(%[\w.]+) = getelementptr i8, ptr (%[\w.]+), i64 (\d+)$", line)
         access = re.match(r"(?:%[\w.]+ = load|store) (\w+)(?: (\S+))?, ptr (%[\w.]+),", line)
+        pair = re.match(r"%[\w.]+ = load \{ (\w+), (\w+) \}, ptr (%[\w.]+),", line)
         if moved:
             base, offset = self.places.get(moved[2], (moved[2], 0))
             self.places[moved[1]] = (base, offset + int(moved[3]))
         if access:
             base, offset = self.places.get(access[3], (access[3], 0))
             self.accesses.append((at, base, offset, access[1]))
+        if pair:
+            base, offset = self.places.get(pair[3], (pair[3], 0))
+            self.accesses.append((at, base, offset, pair[1]))
+            self.accesses.append((at, base, offset + max(SIZES[pair[1]], SIZES[pair[2]]), pair[2]))
         if line.endswith(" = alloca ptr, align 8"):
             self.own.add(line.split()[0])
             return
@@ -165,6 +181,7 @@ class Module:
     def __init__(self, declared):
         self.declared, self.out, self.memory = declared, [], None
         self.functions, self.intrinsics, self.called, self.exported = set(), set(), {}, set()
+        self.constants = set()
         self.taken = {"the layout": 0, "the triple": 0, PROCESSOR: 0}
 
     def take(self, at, line):
@@ -183,6 +200,8 @@ class Module:
             self.define(at, line)
         elif line.startswith("declare "):
             self.declare(at, line)
+        elif CONSTANT.match(line):
+            self.constants.add(CONSTANT.match(line)[1])
         elif line and not re.match(r"; |source_filename = |!", line):
             stop(at, "it is not known here: %s" % line)
         self.out.append(line)
@@ -239,8 +258,8 @@ class Module:
     def end(self):
         """What only the whole shows."""
         for name, at in self.called.items():
-            if name not in self.functions | self.intrinsics:
-                stop(at, "%s is called, and is no function of the module" % name)
+            if name not in self.functions | self.intrinsics | self.constants:
+                stop(at, "%s is named, and is no function and no constant of the module" % name)
         for name in sorted(set(self.declared) - self.exported):
             stop(0, "%s is declared by the header, and is not in it" % name)
         for what, times in self.taken.items():

@@ -17,7 +17,7 @@ OTHERS = "a function of others that is not known here"
 POINTER = "a place for a pointer is used otherwise"
 NUMBER = "a number is read or written where a pointer lies"
 MOVE = "call void @llvm.memmove.p0.p0.i64(ptr {0}, ptr {0}, i64 8, i1 false)".format(r"\2")
-SLICE = r"((%\w+) = alloca \[16 x i8\], align 8\n  store ptr .*)"
+SLICE = r"((%\w+) = alloca \[16 x i8\], align 8\n(?:  call void @llvm.memset.*\n)?  store ptr .*)"
 
 # What is changed, by the first place of a pattern that fits, and the reason.
 EDITS = [
@@ -38,8 +38,12 @@ EDITS = [
     ("a place for a pointer handed on", r"(  (%\w+) = alloca ptr, align 8)", r"\1\n  store ptr \2, ptr \2, align 8", POINTER),
     ("a place for a pointer read as a number", r"(  (%\w+) = alloca ptr, align 8)", r"\1\n  %n = load i64, ptr \2, align 8", POINTER),
     ("a pointer's bytes read as a number", SLICE, r"\1\n  %n = load i32, ptr \2, align 4", NUMBER),
-    ("numbers of 128 bits", r"= add nuw i64 ", "= add nuw i128 ", FORM),
-    ("numbers of a fraction", r"= add nuw i64 (%\w+), \d+", r"= fadd double \1, 1.0", FORM),
+    ("a pointer's bytes read as a pair", SLICE, r"\1\n  %n = load { i64, i64 }, ptr \2, align 8", NUMBER),
+    ("a pair with a pointer", r"= load \{ i64, i64 \},", "= load { ptr, i64 },", FORM),
+    ("three numbers at once", r"= load \{ i64, i64 \},", "= load { i64, i64, i64 },", FORM),
+    ("pointers in an order", r"= icmp eq ptr (%\w+), null", r"= icmp ult ptr \1, null", FORM),
+    ("numbers of 128 bits", r"= add i64 ", "= add i128 ", FORM),
+    ("numbers of a fraction", r"= add i64 (%\w+), \d+", r"= fadd double \1, 1.0", FORM),
     ("vectors", r"= load i64, ptr", "= load <2 x i64>, ptr", FORM),
     ("memory of others", r"(  %\w+ = load i64, ptr)", r"\1 addrspace(1)", FORM),
     ("atomic memory", r"= load i64, ptr (%\w+), align 8", r"= load atomic i64, ptr \1 seq_cst, align 8", FORM),
@@ -48,6 +52,9 @@ EDITS = [
     ("a register", r"(declare void @llvm.trap.*)", r"\1\ndeclare i64 @llvm.read_register.i64(metadata) #1", OTHERS),
     ("a function of the system", r"(declare void @llvm.trap.*)", r"\1\ndeclare i64 @getpid() #1", OTHERS),
     ("a global", r"(\ndefine )", r"\n@counter = global i64 0\1", "it is not known here"),
+    ("a constant of numbers", r"(\ndefine )", r"\n@static.99 = private unnamed_addr constant [2 x i32] zeroinitializer, align 4\1", "it is not known here"),
+    ("bytes that are no constant", r"(@static.0 = private unnamed_addr )constant", r"\1global", "it is not known here"),
+    ("a constant that is not there", r"store ptr @static\.0,", "store ptr @static.99,", "is named, and is no function and no constant"),
     ("an alias", r"(\ndefine )", r"\n@other = alias i64, ptr @rigtemple_4_check_parts\1", "it is not known here"),
     ("assembly", r"(\ndefine )", r'\nmodule asm "nop"\1', "it is not known here"),
     ("another calling convention", r"define internal noundef", "define internal fastcc noundef", "a function of a form"),
@@ -56,7 +63,7 @@ EDITS = [
     ("another parameter", r"(@rigtemple_4_check_parts\(ptr noundef %a0, )i64", r"\1i32", "is not as the header declares it"),
     ("a caller that has to widen", r"(@rigtemple_4_take_parts\(.*i16 noundef) %a8", r"\1 zeroext %a8", "is not as the header declares it"),
     ("a result of another width", r"define noundef i16 (@rigtemple_4_check_parts)", r"define noundef i32 \1", "is not as the header"),
-    ("a function that is not there", r"(= call i64 @)\S+\(", r"\1nowhere(", "is called, and is no function of the module"),
+    ("a function that is not there", r"(= call i64 @)\S+\(", r"\1nowhere(", "is named, and is no function and no constant of the module"),
 ]
 
 
