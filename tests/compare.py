@@ -99,19 +99,30 @@ class Held(NamedTuple):
 
 
 def build(names):
-    """Has the kit prove and link the programs; what has not changed since is not proved again."""
+    """Has the kit prove and link the programs; what has not changed since is not proved again. The kit runs a program when it has linked
+    it: here on no input."""
     places = os.environ.get("PATH", "/usr/bin:/bin") + ":/usr/local/bin"
     rt = shutil.which("rt", path=places) or sys.exit("compare.py: the command rt of the Rattle kit is missing")
-    done = subprocess.run(
-        [rt, "check", *names], cwd=TOP, env=dict(os.environ, PATH=places), stdout=subprocess.PIPE, text=True
-    )
-    if done.returncode != 0:
-        last = "".join(done.stdout.splitlines(keepends=True)[-4:])
-        sys.exit(f"{last}compare.py: nothing was compared, for 'rt check {' '.join(names)}' fails")
+    for name in names:
+        folder = os.path.join(TOP, "crates", name)
+        done = subprocess.run(
+            [rt, "run"],
+            cwd=folder,
+            env=dict(os.environ, PATH=places),
+            stdin=subprocess.DEVNULL,
+            stdout=subprocess.DEVNULL,
+            stderr=subprocess.PIPE,
+            text=True,
+        )
+        if done.returncode != 0:
+            last = "".join(done.stderr.splitlines(keepends=True)[-4:])
+            sys.exit(f"{last}compare.py: nothing was compared, for 'rt run' in crates/{name} fails")
+        os.makedirs(os.path.dirname(path(name)), exist_ok=True)
+        shutil.copy2(os.path.join(folder, "out", name), path(name))
 
 
 def path(name):
-    """Where the kit leaves a program."""
+    """Where a program is kept."""
     return os.path.join(TOP, "target", "bin", name)
 
 
