@@ -80,12 +80,12 @@
  * with it twice that; to print takes RIGTEMPLE_MOST_PRINTED_BYTES; a sheet has
  * RIGTEMPLE_MOST_SHEET_BYTES at most; a text to be read has no limit.
  *
- * Bytes of stack, as tests/stack.sh measures them on x86-64: check 512, load 624, grade 1,352,
- * list 1,440, next 1,200, take 1,128, run 1,096, take_bounded 1,592, run_bounded 1,640,
- * deliberate 1,416, go_on 1,464, save 624, restore 816, text 33,440 (24,928 where nothing nests,
- * 80 more for the first bracket and 272 for each further one), print 1,760, name 656. All but text
- * run on a stack of 2,048. On 64-bit Arm text takes 33,952, and each other call at most 8 more than
- * on x86-64: all but text run on 2,048.
+ * Bytes of stack, as tests/stack.sh measures them on x86-64: check 504, load 600, grade 1,336,
+ * list 1,480, next 1,208, take 1,048, run 1,126, take_bounded 1,576, run_bounded 1,624,
+ * deliberate 1,256, go_on 1,272, save 632, restore 840, text 31,824 (24,904 where nothing nests,
+ * 200 more for a second bracket in the first and 224 for each further one), print 1,720, name 664.
+ * All but text run on a stack of 2,048. On 64-bit Arm they were measured with an older compiler
+ * alone, by which text took 33,952 there, and each other call at most 8 more than on x86-64.
  */
 #ifndef RIGTEMPLE_H
 #define RIGTEMPLE_H
