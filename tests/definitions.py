@@ -45,48 +45,48 @@ LONGEST_RUN = 200
 LARGEST_TREE = 5000
 PER_CRATE = 50
 
-HEAD = """use mathlib.Core.Path.{_≡_, refl}
-use mathlib.Core.List.{List, [], _∷_, _++_}
-use Prim.Native.Nat.{ℕ, _-_}
+HEAD = """use mathlib.Core.Path.{◌≡◌, refl}
+use mathlib.Core.List.{List, [], ◌∷◌, ◌++◌}
+use Prim.Native.Nat.{ℕ, ◌-◌}
 use lib.ListN.{replicate}
-use Rattle·meaning.specs.declared.Configuration.{Configuration}
-use Rattle·meaning.specs.Configurations.{padded}
-use Rattle·meaning.proofs.Computing.{computing}
-use Rattle·notation.proofs.Computing as Text
-use Rattle·CRATE·specs.specs.Drill.{image, checkBytes, loadBytes, gradeBytes, listBytes, takeBytes, runBytes, saveBytes, restoreBytes, all-shown}
-use Rattle·CRATE·specs.specs.Drill.{textBytes, printBytes, deliberateBytes}
+use Rattle.meaning.specs.declared.Configuration.{Configuration}
+use Rattle.meaning.specs.Configurations.{padded}
+use Rattle.meaning.proofs.Computing.{computing}
+use Rattle.notation.proofs.Computing as Text
+use Rattle.CRATE.specs.Drill.{image, check_bytes, load_bytes, grade_bytes, list_bytes, take_bytes, run_bytes, save_bytes, restore_bytes, all_shown}
+use Rattle.CRATE.specs.Drill.{text_bytes, print_bytes, deliberate_bytes}
 
 """
 
 DRILL = """-- The answers of the nine calls, of reading a text and of printing a node, as the drill writes them.
-use mathlib.Core.List.{List, [], _∷_, _++_, map, flatten}
+use mathlib.Core.List.{List, [], ◌∷◌, ◌++◌, map, flatten}
 use mathlib.Core.Option.{Option, none, some}
-use Prim.Native.Nat.{ℕ, zero, suc, _/_}
+use Prim.Native.Nat.{ℕ, zero, suc, ◌/◌}
 use lib.ListN.{length, take, replicate}
-use Rattle·runs.specs.declared.Ending.{Ending}
-use Rattle·runs.specs.declared.Offender.{Offender}
-use Rattle·runs.specs.declared.Verdict.{Verdict}
-use Rattle·meaning.specs.declared.Answer.{Answer}
-use Rattle·meaning.specs.declared.Answer.the-variants.{Done, Refused}
-use Rattle·meaning.specs.declared.Configuration.{Configuration}
-use Rattle·meaning.specs.declared.Checked.{Checked}
-use Rattle·meaning.specs.declared.Reply.{Reply}
-use Rattle·meaning.specs.declared.Graded.{Graded}
-use Rattle·meaning.specs.declared.Listed.{Listed}
-use Rattle·meaning.specs.declared.Ran.{Ran}
-use Rattle·meaning.specs.Card.{Bytes}
-use Rattle·meaning.specs.Place.{twoBytes}
-use Rattle·meaning.specs.Refusals.{numberOf, answerNumber, answerCarried}
-use Rattle·meaning.specs.Calls.{checks, loads, grades, lists, listLeaves, takes, runs, saves, saveLeaves, restores}
-use Rattle·meaning.specs.Refusals.{carried}
-use Rattle·deliberation.specs.declared.Deliberated.{Deliberated}
-use Rattle·deliberation.specs.declared.Remaining.{Remaining}
-use Rattle·deliberation.specs.Programs.{𝒲}
-use Rattle·deliberation.specs.FirstMove.{lowestAction, ifEnabled}
-use Rattle·deliberation.specs.Entries.{entryOf, entriesOf, programGood, programTable, numbersTable, goOnAnswer, firstMoveOf}
-use Rattle·deliberation.specs.Deliberate.{leads, deliberate, remainingOf, goesOn, deliberates, deliberationEndingNumber}
-use Rattle·notation.specs.Printing.{printAnswer, printCount, printLeaves}
-use Rattle·notation.proofs.Computing.{TextComputed, textAnswered}
+use Rattle.runs.specs.declared.Ending.{Ending}
+use Rattle.runs.specs.declared.Offender.{Offender}
+use Rattle.runs.specs.declared.Verdict.{Verdict}
+use Rattle.meaning.specs.declared.Answer.{Answer}
+use Rattle.meaning.specs.declared.Answer.TheVariants.{Done, Refused}
+use Rattle.meaning.specs.declared.Configuration.{Configuration}
+use Rattle.meaning.specs.declared.Checked.{Checked}
+use Rattle.meaning.specs.declared.Reply.{Reply}
+use Rattle.meaning.specs.declared.Graded.{Graded}
+use Rattle.meaning.specs.declared.Listed.{Listed}
+use Rattle.meaning.specs.declared.Ran.{Ran}
+use Rattle.meaning.specs.Card.{Bytes}
+use Rattle.meaning.specs.Place.{two_bytes}
+use Rattle.meaning.specs.Refusals.{number_of, answer_number, answer_carried}
+use Rattle.meaning.specs.Calls.{checks, loads, grades, lists, list_leaves, takes, runs, saves, save_leaves, restores}
+use Rattle.meaning.specs.Refusals.{carried}
+use Rattle.deliberation.specs.declared.Deliberated.{Deliberated}
+use Rattle.deliberation.specs.declared.Remaining.{Remaining}
+use Rattle.deliberation.specs.Programs.{𝒲}
+use Rattle.deliberation.specs.FirstMove.{lowest_action, if_enabled}
+use Rattle.deliberation.specs.Entries.{entry_of, entries_of, program_good, program_table, numbers_table, go_on_answer, first_move_of}
+use Rattle.deliberation.specs.Deliberate.{leads, deliberate, remaining_of, goes_on, deliberates, deliberation_ending_number}
+use Rattle.notation.specs.Printing.{print_answer, print_count, print_leaves}
+use Rattle.notation.proofs.Computing.{TextComputed, text_answered}
 
 -- a byte before what is left of the bytes after it, once zeros at the end are left off
 abbrev before : ℕ → Bytes → Bytes
@@ -98,104 +98,104 @@ abbrev trimmed : Bytes → Bytes
 trimmed [] = []
 trimmed (x ∷ xs) = before x (trimmed xs)
 
-abbrev withPlan : Configuration → Bytes → Bytes
-withPlan c plan =
-    let numbers : Bytes = twoBytes (c .mind .length) ++ (c .mind .phase ∷ twoBytes (c .mind .finished)) in
-    c .mind .beliefs ++ (c .mind .goals ++ (numbers ++ (twoBytes (length plan) ++ plan)))
+abbrev with_plan : Configuration → Bytes → Bytes
+with_plan c plan =
+    let numbers : Bytes = two_bytes (c.mind.length) ++ (c.mind.phase ∷ two_bytes (c.mind.finished)) in
+    c.mind.beliefs ++ (c.mind.goals ++ (numbers ++ (two_bytes (length plan) ++ plan)))
 
 unfoldable pub image : Configuration → Bytes
-image c = withPlan c (trimmed (c .plan))
+image c = with_plan c (trimmed (c.plan))
 
 abbrev number : Answer → Bytes
-number a = twoBytes (answerNumber a)
+number a = two_bytes (answer_number a)
 
-abbrev checkedBytes : Checked → Bytes
-checkedBytes (Checked.Good l) = twoBytes 0
-checkedBytes (Checked.Refused r) = twoBytes (numberOf r)
+abbrev checked_bytes : Checked → Bytes
+checked_bytes (Checked.Good l) = two_bytes 0
+checked_bytes (Checked.Refused r) = two_bytes (number_of r)
 
-unfoldable pub checkBytes : Bytes → Bytes
-checkBytes b = checkedBytes (checks b)
+unfoldable pub check_bytes : Bytes → Bytes
+check_bytes b = checked_bytes (checks b)
 
-abbrev replyBytes : Reply → Bytes
-replyBytes r = number (r .answer) ++ image (r .configuration)
+abbrev reply_bytes : Reply → Bytes
+reply_bytes r = number (r.answer) ++ image (r.configuration)
 
-unfoldable pub loadBytes : Bytes → Bytes
-loadBytes b = replyBytes (loads b)
+unfoldable pub load_bytes : Bytes → Bytes
+load_bytes b = reply_bytes (loads b)
 
-abbrev takenBytes : Reply → Bytes
-takenBytes r = number (r .answer) ++ (twoBytes (answerCarried (r .answer)) ++ image (r .configuration))
+abbrev taken_bytes : Reply → Bytes
+taken_bytes r = number (r.answer) ++ (two_bytes (answer_carried (r.answer)) ++ image (r.configuration))
 
-unfoldable pub takeBytes : Bytes → Configuration → ℕ → Bytes
-takeBytes b c k = takenBytes (takes b c k)
+unfoldable pub take_bytes : Bytes → Configuration → ℕ → Bytes
+take_bytes b c k = taken_bytes (takes b c k)
 
-unfoldable pub restoreBytes : Bytes → Bytes → Bytes
-restoreBytes b p = replyBytes (restores b p)
+unfoldable pub restore_bytes : Bytes → Bytes → Bytes
+restore_bytes b p = reply_bytes (restores b p)
 
-abbrev verdictBytes : Answer → Verdict → Bytes
-verdictBytes (Refused r) v = 0 ∷ 0 ∷ 0 ∷ 0 ∷ []
-verdictBytes Done Verdict.Bounded = 0 ∷ 0 ∷ 0 ∷ 0 ∷ []
-verdictBytes Done (Verdict.Open Offender.InitialPlan) = 1 ∷ 1 ∷ 0 ∷ 0 ∷ []
-verdictBytes Done (Verdict.Open (Offender.Selection n)) = 1 ∷ 2 ∷ twoBytes n
-verdictBytes Done (Verdict.Open (Offender.Revision n)) = 1 ∷ 3 ∷ twoBytes n
+abbrev verdict_bytes : Answer → Verdict → Bytes
+verdict_bytes (Refused r) v = 0 ∷ 0 ∷ 0 ∷ 0 ∷ []
+verdict_bytes Done Verdict.Bounded = 0 ∷ 0 ∷ 0 ∷ 0 ∷ []
+verdict_bytes Done (Verdict.Open Offender.InitialPlan) = 1 ∷ 1 ∷ 0 ∷ 0 ∷ []
+verdict_bytes Done (Verdict.Open (Offender.Selection n)) = 1 ∷ 2 ∷ two_bytes n
+verdict_bytes Done (Verdict.Open (Offender.Revision n)) = 1 ∷ 3 ∷ two_bytes n
 
-abbrev gradedBytes : Graded → Bytes
-gradedBytes g = number (g .answer) ++ verdictBytes (g .answer) (g .verdict)
+abbrev graded_bytes : Graded → Bytes
+graded_bytes g = number (g.answer) ++ verdict_bytes (g.answer) (g.verdict)
 
-unfoldable pub gradeBytes : Bytes → Bytes
-gradeBytes b = gradedBytes (grades b)
+unfoldable pub grade_bytes : Bytes → Bytes
+grade_bytes b = graded_bytes (grades b)
 
-abbrev listedBytes : Listed → Bytes
-listedBytes r = number (r .answer) ++ (twoBytes (r .count) ++ (twoBytes (r .judged) ++ twoBytes (r .goals)))
+abbrev listed_bytes : Listed → Bytes
+listed_bytes r = number (r.answer) ++ (two_bytes (r.count) ++ (two_bytes (r.judged) ++ two_bytes (r.goals)))
 
-unfoldable pub listBytes : Bytes → Configuration → ℕ → Bytes
-listBytes b c room = listedBytes (lists b c (replicate room 0xEEEE)) ++ flatten (map twoBytes (listLeaves b c (replicate room 0xEEEE)))
+unfoldable pub list_bytes : Bytes → Configuration → ℕ → Bytes
+list_bytes b c room = listed_bytes (lists b c (replicate room 0xEEEE)) ++ flatten (map two_bytes (list_leaves b c (replicate room 0xEEEE)))
 
-unfoldable pub saveBytes : Bytes → Configuration → ℕ → Bytes
-saveBytes b c room = number (saves b c (replicate room 0xEE) .answer) ++ saveLeaves b c (replicate room 0xEE)
+unfoldable pub save_bytes : Bytes → Configuration → ℕ → Bytes
+save_bytes b c room = number (saves b c (replicate room 0xEE)).answer ++ save_leaves b c (replicate room 0xEE)
 
-abbrev endingByte : Ending → ℕ
-endingByte Ending.Spent = 0
-endingByte Ending.Rest = 1
-endingByte Ending.Full = 2
+abbrev ending_byte : Ending → ℕ
+ending_byte Ending.Spent = 0
+ending_byte Ending.Rest = 1
+ending_byte Ending.Full = 2
 
-abbrev ranBytes : Ran → Bytes
-ranBytes r = number (r .answer) ++ (image (r .configuration) ++ (twoBytes (r .count) ++ (endingByte (r .ending) ∷ [])))
+abbrev ran_bytes : Ran → Bytes
+ran_bytes r = number (r.answer) ++ (image (r.configuration) ++ (two_bytes (r.count) ++ (ending_byte (r.ending) ∷ [])))
 
-unfoldable pub runBytes : Bytes → Configuration → ℕ → Bytes
-runBytes b c budget = ranBytes (runs b c budget)
+unfoldable pub run_bytes : Bytes → Configuration → ℕ → Bytes
+run_bytes b c budget = ran_bytes (runs b c budget)
 
-abbrev remainingBytes : Remaining → Bytes
-remainingBytes r = twoBytes (r .length) ++ take (r .length) (r .numbers)
+abbrev remaining_bytes : Remaining → Bytes
+remaining_bytes r = two_bytes (r.length) ++ take (r.length) (r.numbers)
 
-abbrev deliberatedBytes : Deliberated → Bytes
-deliberatedBytes d =
-    let told : Bytes = twoBytes (d .count) ++ (deliberationEndingNumber (d .ending) ∷ remainingBytes (d .remaining)) in
-    number (d .answer) ++ (image (d .configuration) ++ told)
+abbrev deliberated_bytes : Deliberated → Bytes
+deliberated_bytes d =
+    let told : Bytes = two_bytes (d.count) ++ (deliberation_ending_number (d.ending) ∷ remaining_bytes (d.remaining)) in
+    number (d.answer) ++ (image (d.configuration) ++ told)
 
-unfoldable pub deliberateBytes : Bytes → Bytes → Configuration → ℕ → Bytes
-deliberateBytes b p c budget = deliberatedBytes (deliberates b p c budget (replicate 128 0))
+unfoldable pub deliberate_bytes : Bytes → Bytes → Configuration → ℕ → Bytes
+deliberate_bytes b p c budget = deliberated_bytes (deliberates b p c budget (replicate 128 0))
 
 abbrev place : Answer → ℕ
 place Done = 0
 place (Refused r) = carried r
 
-abbrev answeredBytes : Option TextComputed → Bytes
-answeredBytes none = []
-answeredBytes (some a) =
-    let p = place (a .answer) in
-    number (a .answer) ++ (twoBytes p ++ (twoBytes (p / 65536) ++ (twoBytes (a .count) ++ a .leaves)))
+abbrev answered_bytes : Option TextComputed → Bytes
+answered_bytes none = []
+answered_bytes (some a) =
+    let p = place (a.answer) in
+    number (a.answer) ++ (two_bytes p ++ (two_bytes (p / 65536) ++ (two_bytes (a.count) ++ a.leaves)))
 
-unfoldable pub textBytes : Bytes → ℕ → Bytes
-textBytes t room = answeredBytes (textAnswered t (replicate room 0xEE))
+unfoldable pub text_bytes : Bytes → ℕ → Bytes
+text_bytes t room = answered_bytes (text_answered t (replicate room 0xEE))
 
-unfoldable pub printBytes : Bytes → ℕ → ℕ → Bytes
-printBytes b n room =
+unfoldable pub print_bytes : Bytes → ℕ → ℕ → Bytes
+print_bytes b n room =
     let out : Bytes = replicate room 0xEE in
-    number (printAnswer b n out) ++ (twoBytes (printCount b n out) ++ printLeaves b n out)
+    number (print_answer b n out) ++ (two_bytes (print_count b n out) ++ print_leaves b n out)
 
-unfoldable pub all-shown : Unit {0}
-unfolding flatten image checkBytes loadBytes gradeBytes listBytes takeBytes runBytes saveBytes restoreBytes textBytes printBytes deliberateBytes 𝒲 lowestAction ifEnabled entryOf entriesOf programGood programTable numbersTable goOnAnswer firstMoveOf leads deliberate remainingOf goesOn deliberationEndingNumber
-all-shown = tt
+unfoldable pub all_shown : Unit {0}
+unfolding flatten image check_bytes load_bytes grade_bytes list_bytes take_bytes run_bytes save_bytes restore_bytes text_bytes print_bytes deliberate_bytes 𝒲 lowest_action if_enabled entry_of entries_of program_good program_table numbers_table go_on_answer first_move_of leads deliberate remaining_of goes_on deliberation_ending_number
+all_shown = tt
 """
 
 
@@ -241,26 +241,26 @@ def term(card, request):
     """What the definition answers to a request, as a term."""
     call = CALLS[request[0] - 1]
     if call in ("check", "load", "grade"):
-        return f"{call}Bytes {card}"
+        return f"{call}_bytes {card}"
     if call == "restore":
-        return f"restoreBytes {card} {literal(request[3:])}"
+        return f"restore_bytes {card} {literal(request[3:])}"
     if call == "text":
         held, room = cases.read_text(request)
-        return f"textBytes {literal(held)} {room}"
+        return f"text_bytes {literal(held)} {room}"
     if call == "print":
-        return f"printBytes {card} {two(request, 1)} {two(request, 3)}"
+        return f"print_bytes {card} {two(request, 1)} {two(request, 3)}"
     program = ""
     if call == "deliberate":
         length = two(request, 1)
         program, request = literal(request[3 : 3 + length]), request[:1] + request[3 + length :]
     configuration, at = image_term(request)
-    return f"{call}Bytes {card} {program} {configuration} {two(request, at)}"
+    return f"{call}_bytes {card} {program} {configuration} {two(request, at)}"
 
 
 def theorem(name, card, request, answer):
     return (
         f"pub {name} : {term(card, request)} ≡ {literal(answer)}\n"
-        f"unfolding computing Text.computing all-shown {card}\n{name} = refl\n\n"
+        f"unfolding computing Text.computing all_shown {card}\n{name} = refl\n\n"
     )
 
 
@@ -294,23 +294,23 @@ def prepare(root):
         shutil.copytree(
             os.path.join(TOP, "crates", name),
             os.path.join(root, "crates", name),
-            ignore=shutil.ignore_patterns("must-fail"),
+            ignore=shutil.ignore_patterns("must-fail", "out"),
         )
 
 
-def rt(root, *words):
-    """The kit's command, with everything it prints kept in a file beside the repository."""
-    environment = dict(os.environ, RT_CUT="2000", RT_JOBS="2")
-    environment["PATH"] = environment.get("PATH", "/usr/bin:/bin") + ":/usr/local/bin"
-    done = subprocess.run(["rt", *words], cwd=root, env=environment, capture_output=True, text=True)
+def checked(root, crate):
+    """What the kit says of a crate, and its status."""
+    environment = dict(os.environ, PATH=os.environ.get("PATH", "/usr/bin:/bin") + ":/usr/local/bin")
+    here = os.path.join(root, "crates", crate)
+    done = subprocess.run(["rt", "check"], cwd=here, env=environment, capture_output=True, text=True)
     return done.returncode, done.stdout + done.stderr
 
 
-def disagreements(output, crate, chunk):
+def disagreements(output, chunk):
     """The requests whose equation was refused, by the lines of the checker's errors."""
     found = {}
     for line in output.split("\n"):
-        marker = f"/crates/{crate}/proofs/C"
+        marker = "./proofs/C"
         if marker in line and "error: `r" in line:
             index = int(line.split(marker)[1].split(".antt")[0])
             request = int(line.split("error: `r")[1].split("`")[0])
@@ -390,23 +390,16 @@ def table(met):
     return "\n".join(lines)
 
 
-def read_log(root, crate):
-    """What the checker printed of a crate, whole."""
-    path = os.path.join(root, "target", "log", f"{crate}.out")
-    if not os.path.exists(path):
-        return ""
-    with open(path, encoding="utf-8") as log:
-        return log.read()
-
-
 def hold(root, chunks):
     """Checks the crates of equations; answers the refused requests, and what else went wrong."""
-    names = [f"held{number}" for number in range(len(chunks))]
-    status, output = rt(root, "check", *names)
-    refused = []
-    for name, chunk in zip(names, chunks):
-        refused += disagreements(read_log(root, name), name, chunk).values()
-    return refused, output[-3000:] if status != 0 and not refused else ""
+    refused, trouble = [], ""
+    for number, chunk in enumerate(chunks):
+        status, output = checked(root, f"held{number}")
+        found = disagreements(output, chunk)
+        refused += found.values()
+        if status != 0 and not found:
+            trouble += output[-3000:]
+    return refused, trouble
 
 
 def spoil(gathered):
@@ -426,6 +419,7 @@ def main():
     prepare(root)
     chunks = [gathered[i : i + PER_CRATE] for i in range(0, len(gathered), PER_CRATE)]
     names = [write_crate(root, i, chunk) for i, chunk in enumerate(chunks)]
+    subprocess.run(["git", "init", "-q", root], check=True)
     listed = ["paper:", "runs: paper", "meaning: paper runs", "notation: paper runs meaning", "deliberation: paper runs meaning"]
     listed += [f"{name}: paper runs meaning notation deliberation" for name in names]
     write(os.path.join(root, "crates.txt"), "\n".join(listed) + "\n")
