@@ -14,7 +14,8 @@ root=$(cd "$(dirname "$0")/.." && pwd)
 room=$(mktemp -d)
 trap 'rm -rf "$room"' EXIT
 mkdir "$room/tree"
-cp -R "$root/crates" "$root/crates.txt" "$room/tree/"
+(cd "$root" && tar cf - --exclude=out crates crates.txt) | tar xf - -C "$room/tree"
+git init -q "$room/tree"
 guide=$(sed -n 's/^guide: //p' "$root/crates.txt")
 printf 'both_engines staticlib: %s unpacked plain guide\n' "$guide" >>"$room/tree/crates.txt"
 mkdir -p "$room/tree/crates/both_engines/src"
