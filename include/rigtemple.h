@@ -80,10 +80,10 @@
  * with it twice that; to print takes RIGTEMPLE_MOST_PRINTED_BYTES; a sheet has
  * RIGTEMPLE_MOST_SHEET_BYTES at most; a text to be read has no limit.
  *
- * Bytes of stack, as tests/stack.sh measures them on x86-64: check 504, load 600, grade 1,336,
- * list 1,480, next 1,208, take 1,048, run 1,126, take_bounded 1,576, run_bounded 1,624,
- * deliberate 1,256, go_on 1,272, save 632, restore 840, text 31,824 (24,904 where nothing nests,
- * 200 more for a second bracket in the first and 224 for each further one), print 1,720, name 664.
+ * Bytes of stack, as tests/stack.sh measures them on x86-64: check 576, load 656, grade 1,336,
+ * list 1,520, next 1,312, take 1,128, run 1,160, take_bounded 1,640, run_bounded 1,672,
+ * deliberate 1,240, go_on 1,272, save 720, restore 976, text 32,880 (24,960 where nothing nests,
+ * 240 more for a second bracket in the first and 256 for each further one), print 1,808, name 736.
  * All but text run on a stack of 2,048. On 64-bit Arm they were measured with an older compiler
  * alone, by which text took 33,952 there, and each other call at most 8 more than on x86-64.
  */

@@ -66,10 +66,9 @@ use lib.ListN.{length, take, replicate}
 use Rattle.runs.specs.declared.Ending.{Ending}
 use Rattle.runs.specs.declared.Offender.{Offender}
 use Rattle.runs.specs.declared.Verdict.{Verdict}
-use Rattle.meaning.specs.declared.Answer.{Answer}
-use Rattle.meaning.specs.declared.Answer.TheVariants.{Done, Refused}
+use Rattle.std.specs.Prelude.{Ok, Err}
+use Rattle.meaning.specs.Answers.{Answer, Checked}
 use Rattle.meaning.specs.declared.Configuration.{Configuration}
-use Rattle.meaning.specs.declared.Checked.{Checked}
 use Rattle.meaning.specs.declared.Reply.{Reply}
 use Rattle.meaning.specs.declared.Graded.{Graded}
 use Rattle.meaning.specs.declared.Listed.{Listed}
@@ -110,8 +109,8 @@ abbrev number : Answer → Bytes
 number a = two_bytes (answer_number a)
 
 abbrev checked_bytes : Checked → Bytes
-checked_bytes (Checked.Good l) = two_bytes 0
-checked_bytes (Checked.Refused r) = two_bytes (number_of r)
+checked_bytes (Ok l) = two_bytes 0
+checked_bytes (Err r) = two_bytes (number_of r)
 
 unfoldable pub check_bytes : Bytes → Bytes
 check_bytes b = checked_bytes (checks b)
@@ -132,11 +131,11 @@ unfoldable pub restore_bytes : Bytes → Bytes → Bytes
 restore_bytes b p = reply_bytes (restores b p)
 
 abbrev verdict_bytes : Answer → Verdict → Bytes
-verdict_bytes (Refused r) v = 0 ∷ 0 ∷ 0 ∷ 0 ∷ []
-verdict_bytes Done Verdict.Bounded = 0 ∷ 0 ∷ 0 ∷ 0 ∷ []
-verdict_bytes Done (Verdict.Open Offender.InitialPlan) = 1 ∷ 1 ∷ 0 ∷ 0 ∷ []
-verdict_bytes Done (Verdict.Open (Offender.Selection n)) = 1 ∷ 2 ∷ two_bytes n
-verdict_bytes Done (Verdict.Open (Offender.Revision n)) = 1 ∷ 3 ∷ two_bytes n
+verdict_bytes (Err r) v = 0 ∷ 0 ∷ 0 ∷ 0 ∷ []
+verdict_bytes (Ok _) Verdict.Bounded = 0 ∷ 0 ∷ 0 ∷ 0 ∷ []
+verdict_bytes (Ok _) (Verdict.Open Offender.InitialPlan) = 1 ∷ 1 ∷ 0 ∷ 0 ∷ []
+verdict_bytes (Ok _) (Verdict.Open (Offender.Selection n)) = 1 ∷ 2 ∷ two_bytes n
+verdict_bytes (Ok _) (Verdict.Open (Offender.Revision n)) = 1 ∷ 3 ∷ two_bytes n
 
 abbrev graded_bytes : Graded → Bytes
 graded_bytes g = number (g.answer) ++ verdict_bytes (g.answer) (g.verdict)
@@ -176,8 +175,8 @@ unfoldable pub deliberate_bytes : Bytes → Bytes → Configuration → ℕ → 
 deliberate_bytes b p c budget = deliberated_bytes (deliberates b p c budget (replicate 128 0))
 
 abbrev place : Answer → ℕ
-place Done = 0
-place (Refused r) = carried r
+place (Ok _) = 0
+place (Err r) = carried r
 
 abbrev answered_bytes : Option TextComputed → Bytes
 answered_bytes none = []

@@ -26,8 +26,8 @@ THEOREMS = "## The theorems"
 READING = (
     ("the agent and its transitions", ("paper/specs/Atoms.antt", "paper/specs/Language.antt", "paper/specs/Transitions.antt")),
     ("the transitions as a function", ("paper/specs/Next.antt",)),
-    ("the order, a run, the grade", ("runs/src/lib.rt", "runs/specs/Limits.antt", "runs/specs/Order.antt", "runs/specs/Step.antt", "runs/specs/Run.antt", "runs/specs/Weight.antt")),
-    ("a card's bytes, a configuration, a place", ("meaning/src/lib.rt", "meaning/specs/Kinds.antt", "meaning/specs/Trees.antt", "meaning/specs/Sizes.antt", "meaning/specs/Card.antt", "meaning/specs/Configurations.antt",
+    ("the order, a run, the grade", ("runs/src/lib.rt", "runs/specs/Kinds.antt", "runs/specs/Limits.antt", "runs/specs/Order.antt", "runs/specs/Step.antt", "runs/specs/Run.antt", "runs/specs/Weight.antt")),
+    ("a card's bytes, a configuration, a place", ("meaning/src/lib.rt", "meaning/specs/Answers.antt", "meaning/specs/Kinds.antt", "meaning/specs/Trees.antt", "meaning/specs/Sizes.antt", "meaning/specs/Card.antt", "meaning/specs/Configurations.antt",
                                                   "meaning/specs/Place.antt")),
     ("the refusals and the nine answers", ("meaning/specs/Refusals.antt", "meaning/specs/Why.antt", "meaning/specs/Calls.antt",
                                             "meaning/specs/Numbers.antt")),
@@ -161,21 +161,21 @@ def antt_names(text):
 
 
 def rattle_names(text):
-    """The functions, enums and structs of a file of Rattle, the latter two with their variants or fields."""
+    """The functions, types, enums and structs of a file of Rattle, the latter two with their variants or fields."""
     names, last = {}, None
     for line in text.split("\n"):
-        head = re.match(r'(?:pub )?(?:extern "C" )?(fn|enum|struct) (\w+)', line)
-        member = re.match(r"    (?:pub )?(\w+)", line)
+        head = re.match(r'(?:pub )?(?:extern "C" )?(fn|type|enum|struct|impl) (\w+)', line)
+        member = re.match(r"    (?:pub )?(?:fn )?(\w+)", line)
         if head:
-            last = head.group(2) if head.group(1) != "fn" else None
-            names[head.group(2)] = set()
+            last = head.group(2) if head.group(1) in ("enum", "struct", "impl") else None
+            names.setdefault(head.group(2), set())
         elif last and member:
             names[last].add(member.group(1))
     return names
 
 
 def declares(path, name):
-    """Whether a file declares a name; `A.b` is the field, constructor or variant b of A."""
+    """Whether a file declares a name; `A.b` is the field, constructor, variant or method b of A."""
     text = read(path)
     if path.endswith(".antt"):
         names = antt_names(text)

@@ -13,6 +13,7 @@ use meaning::{Answer, BoundedAnswer, BoundedEnding, BoundedRefusal, Coming, Refu
 use runs::{Ending, Offender, Verdict};
 
 // A refusal's number.
+#[tactic(auto, unfolding(meaning::specs::Refusals::number_of))]
 pub fn refusal_number(r: Refusal) -> u16
     ensures { result ≡ number_of r }
 {
@@ -43,17 +44,19 @@ pub fn refusal_number(r: Refusal) -> u16
 }
 
 // An answer's number: 0 for done.
+#[tactic(auto, unfolding(meaning::specs::Refusals::answer_number))]
 pub fn answer_number(a: Answer) -> u16
     ensures { result ≡ answer_number a }
 {
     match a {
-        Answer::Done => 0,
-        Answer::Refused(r) => refusal_number(r),
+        Ok(()) => 0,
+        Err(r) => refusal_number(r),
     }
 }
 
 // The number that a refusal carries: 02, Wish 1: "16 a condition is false, with the node"; Wish 2: "17 text, with the place";
 // Wish 8: "20 a sheet …, the shed's before the master", which it is. 0 where it carries none.
+#[tactic(auto, unfolding(meaning::specs::Refusals::carried))]
 fn refusal_carried(r: Refusal) -> usize
     ensures { result ≡ carried r }
 {
@@ -66,27 +69,30 @@ fn refusal_carried(r: Refusal) -> usize
 }
 
 // The number that an answer carries, 0 where it carries none.
+#[tactic(auto, unfolding(meaning::specs::Refusals::answer_carried))]
 pub fn answer_carried(a: Answer) -> usize
     ensures { result ≡ answer_carried a }
 {
     match a {
-        Answer::Done => 0,
-        Answer::Refused(r) => refusal_carried(r),
+        Ok(()) => 0,
+        Err(r) => refusal_carried(r),
     }
 }
 
 // Which sheet is told: that of the part, and with 20 the refused one.
+#[tactic(auto, unfolding(meaning::specs::Numbers::sheet_number))]
 pub fn sheet_number(a: Answer, sheet: usize) -> u8
     requires { sheet_number a sheet < 256 }
     ensures { result ≡ sheet_number a sheet }
 {
     match a {
-        Answer::Done => sheet as u8,
-        Answer::Refused(r) => refusal_carried(r) as u8,
+        Ok(()) => sheet as u8,
+        Err(r) => refusal_carried(r) as u8,
     }
 }
 
 // An ending's number.
+#[tactic(auto, unfolding(meaning::specs::Numbers::ending_number))]
 pub fn ending_number(e: Ending) -> u8
     ensures { result ≡ ending_number e }
 {
@@ -98,6 +104,7 @@ pub fn ending_number(e: Ending) -> u8
 }
 
 // The number of a refusal of the calls for bounded cards: the table's.
+#[tactic(auto, unfolding(meaning::specs::Refusals::number_of, meaning::specs::BoundedCalls::as_refusal))]
 fn bounded_refusal_number(r: BoundedRefusal) -> u16
     ensures { result ≡ number_of (as_refusal r) }
 {
@@ -120,36 +127,41 @@ fn bounded_refusal_number(r: BoundedRefusal) -> u16
 }
 
 // The number of their answer: 0 for done.
+#[tactic(auto, unfolding(meaning::specs::Refusals::answer_number, meaning::specs::BoundedCalls::as_answer))]
 pub fn bounded_answer_number(a: BoundedAnswer) -> u16
     ensures { result ≡ answer_number (as_answer a) }
 {
     match a {
-        BoundedAnswer::Done => 0,
-        BoundedAnswer::Refused(r) => bounded_refusal_number(r),
+        Ok(()) => 0,
+        Err(r) => bounded_refusal_number(r),
     }
 }
 
 // The node that a refusal of theirs carries, 0 where it carries none.
+#[tactic(auto, unfolding(meaning::specs::Refusals::carried, meaning::specs::BoundedCalls::as_refusal))]
 fn bounded_refusal_carried(r: BoundedRefusal) -> usize
     ensures { result ≡ carried (as_refusal r) }
 {
-    let BoundedRefusal::Condition(node) = r else {
-        return 0;
-    };
-    node
+    if let BoundedRefusal::Condition(node) = r {
+        node
+    } else {
+        0
+    }
 }
 
 // The node that their answer carries, 0 where it carries none.
+#[tactic(auto, unfolding(meaning::specs::Refusals::answer_carried, meaning::specs::BoundedCalls::as_answer))]
 pub fn bounded_answer_carried(a: BoundedAnswer) -> usize
     ensures { result ≡ answer_carried (as_answer a) }
 {
     match a {
-        BoundedAnswer::Done => 0,
-        BoundedAnswer::Refused(r) => bounded_refusal_carried(r),
+        Ok(()) => 0,
+        Err(r) => bounded_refusal_carried(r),
     }
 }
 
 // The number of the bounded run's ending: that which it has as an ending of run.
+#[tactic(auto, unfolding(meaning::specs::Numbers::ending_number, meaning::specs::BoundedCalls::as_ending))]
 pub fn bounded_ending_number(e: BoundedEnding) -> u8
     ensures { result ≡ ending_number (as_ending e) }
 {
@@ -160,6 +172,7 @@ pub fn bounded_ending_number(e: BoundedEnding) -> u8
 }
 
 // The number of what comes next.
+#[tactic(auto, unfolding(meaning::specs::Numbers::coming_number))]
 pub fn coming_number(k: Coming) -> u8
     ensures { result ≡ coming_number k }
 {
@@ -171,17 +184,18 @@ pub fn coming_number(k: Coming) -> u8
 }
 
 // The code of what comes next, 0 at rest.
+#[tactic(auto, unfolding(meaning::specs::Numbers::coming_choice))]
 pub fn coming_choice(k: Coming) -> u16
     ensures { result ≡ coming_choice k }
 {
     match k {
-        Coming::Move(code) => code,
+        Coming::Move(code) | Coming::Full(code) => code,
         Coming::Rest => 0,
-        Coming::Full(code) => code,
     }
 }
 
 // A deliberation's ending's number.
+#[tactic(auto, unfolding(deliberation::specs::Deliberate::deliberation_ending_number))]
 pub fn deliberation_ending_number(e: DeliberationEnding) -> u8
     ensures { result ≡ deliberation_ending_number e }
 {
@@ -194,6 +208,7 @@ pub fn deliberation_ending_number(e: DeliberationEnding) -> u8
 }
 
 // A verdict's number.
+#[tactic(auto, unfolding(meaning::specs::Numbers::verdict_number))]
 pub fn verdict_number(v: Verdict) -> u8
     ensures { result ≡ verdict_number v }
 {
@@ -204,6 +219,7 @@ pub fn verdict_number(v: Verdict) -> u8
 }
 
 // The number of an offender's kind.
+#[tactic(auto, unfolding(meaning::specs::Numbers::offender_number))]
 fn offender_number(o: Offender) -> u8
     ensures { result ≡ offender_number o }
 {
@@ -215,6 +231,7 @@ fn offender_number(o: Offender) -> u8
 }
 
 // The number of a verdict's offender, 0 for none.
+#[tactic(auto, unfolding(meaning::specs::Numbers::verdict_offender))]
 pub fn verdict_offender(v: Verdict) -> u8
     ensures { result ≡ verdict_offender v }
 {
@@ -225,18 +242,19 @@ pub fn verdict_offender(v: Verdict) -> u8
 }
 
 // The number of the rule that an offender is.
+#[tactic(auto, unfolding(meaning::specs::Numbers::offender_rule))]
 fn offender_rule(o: Offender) -> u16
     requires { offender_rule o < 65536 }
     ensures { result ≡ offender_rule o }
 {
     match o {
         Offender::InitialPlan => 0,
-        Offender::Selection(n) => n as u16,
-        Offender::Revision(n) => n as u16,
+        Offender::Selection(n) | Offender::Revision(n) => n as u16,
     }
 }
 
 // The number of the rule that a verdict's offender is.
+#[tactic(auto, unfolding(meaning::specs::Numbers::verdict_rule))]
 pub fn verdict_rule(v: Verdict) -> u16
     requires { verdict_rule v < 65536 }
     ensures { result ≡ verdict_rule v }

@@ -1,6 +1,6 @@
 -- What include/rigtemple.h says of each call: the parts in which C sees what the guide answers.
 use Rattle.std.specs.Prelude.{◌≡◌, List, ℕ}
-use Rattle.meaning.specs.declared.Answer.{Answer}
+use Rattle.meaning.specs.Answers.{Answer}
 use Rattle.meaning.specs.declared.Configuration.{Configuration}
 use Rattle.meaning.specs.declared.Reply.{Reply}
 use Rattle.meaning.specs.declared.Graded.{Graded}

@@ -17,16 +17,16 @@ use answers::{
 };
 use card::check::check;
 use deliberate::call::DeliberatedInPlace;
-use meaning::{Checked, Plan, Set, Standing};
+use meaning::{Plan, Set, Standing};
 
 // All of a configuration that is lent in its parts but its sets and its plan.
 fn standing(length: u16, phase: u8, finished: u16) -> Standing
     ensures { result ≡ record { length = length; phase = phase; finished = finished } }
 {
     Standing {
-        length: length,
-        phase: phase,
-        finished: finished,
+        length,
+        phase,
+        finished,
     }
 }
 
@@ -46,21 +46,19 @@ fn tell(made: DeliberatedInPlace, count: &mut u16, ending: &mut u8, length: &mut
 {
     *count = made.count;
     *length = made.length;
-    let e = made.ending;
-    *ending = deliberation_ending_number(e);
-    let a = made.answer;
-    answer_number(a)
+    *ending = deliberation_ending_number(made.ending);
+    answer_number(made.answer)
 }
 
 // Whether a card is good.
+#[tactic(auto, unfolding(meaning::specs::Numbers::checked_number))]
 #[unsafe(no_mangle)]
 pub extern "C" fn rigtemple_4_check_parts(card: &[u8]) -> u16
     ensures { Checks card.now result }
 {
-    let v = check(card);
-    match v {
-        Checked::Good(_) => 0,
-        Checked::Refused(r) => refusal_number(r),
+    match check(card) {
+        Ok(_) => 0,
+        Err(r) => refusal_number(r),
     }
 }
 
@@ -80,10 +78,8 @@ pub extern "C" fn rigtemple_4_load_parts(
         finished.new) }
 {
     let loaded = place::load::load(card, beliefs, goals, plan);
-    let m = loaded.standing;
-    put(m, length, phase, finished);
-    let a = loaded.answer;
-    answer_number(a)
+    put(loaded.standing, length, phase, finished);
+    answer_number(loaded.answer)
 }
 
 // The configuration after the chosen move; as it came in, in a refusal. With 16 the node that settled the condition.
@@ -114,11 +110,9 @@ pub extern "C" fn rigtemple_4_take_parts(
         plan,
         choice,
     );
-    let m = taken.standing;
-    put(m, length, phase, finished);
-    let a = taken.answer;
-    *node = answer_carried(a) as u16;
-    answer_number(a)
+    put(taken.standing, length, phase, finished);
+    *node = answer_carried(taken.answer) as u16;
+    answer_number(taken.answer)
 }
 
 // The configuration after at most budget moves of the guide's own, how many they were, and how the run ended.
@@ -150,13 +144,10 @@ pub extern "C" fn rigtemple_4_run_parts(
         plan,
         budget,
     );
-    let m = ran.standing;
-    put(m, length, phase, finished);
+    put(ran.standing, length, phase, finished);
     *count = ran.count;
-    let e = ran.ending;
-    *ending = ending_number(e);
-    let a = ran.answer;
-    answer_number(a)
+    *ending = ending_number(ran.ending);
+    answer_number(ran.answer)
 }
 
 // The configuration after the chosen move on a bounded card; as it came in, in a refusal. With 16 the node that settled the
@@ -188,11 +179,9 @@ pub extern "C" fn rigtemple_4_take_bounded_parts(
         plan,
         choice,
     );
-    let m = taken.standing;
-    put(m, length, phase, finished);
-    let a = taken.answer;
-    *node = bounded_answer_carried(a) as u16;
-    bounded_answer_number(a)
+    put(taken.standing, length, phase, finished);
+    *node = bounded_answer_carried(taken.answer) as u16;
+    bounded_answer_number(taken.answer)
 }
 
 // The configuration after at most budget moves of the guide's own on a bounded card, how many they were, and how the run ended.
@@ -224,13 +213,10 @@ pub extern "C" fn rigtemple_4_run_bounded_parts(
         plan,
         budget,
     );
-    let m = ran.standing;
-    put(m, length, phase, finished);
+    put(ran.standing, length, phase, finished);
     *count = ran.count;
-    let e = ran.ending;
-    *ending = bounded_ending_number(e);
-    let a = ran.answer;
-    bounded_answer_number(a)
+    *ending = bounded_ending_number(ran.ending);
+    bounded_answer_number(ran.answer)
 }
 
 // The configuration after at most budget moves of a deliberation program, how many they were, how it ended, and the numbers that
@@ -327,10 +313,8 @@ pub extern "C" fn rigtemple_4_restore_parts(
         finished.new) }
 {
     let restored = place::restore::restore(card, place, beliefs, goals, plan);
-    let m = restored.standing;
-    put(m, length, phase, finished);
-    let a = restored.answer;
-    answer_number(a)
+    put(restored.standing, length, phase, finished);
+    answer_number(restored.answer)
 }
 
 // All enabled choices, into a lent list, and how many they are.
@@ -359,8 +343,7 @@ pub extern "C" fn rigtemple_4_list_parts(
         list,
     );
     *count = listed.count;
-    let a = listed.answer;
-    answer_number(a)
+    answer_number(listed.answer)
 }
 
 // The same; and how many conditions were judged for it, and how many goals are open. A refusal says 0 of each.
@@ -393,8 +376,7 @@ pub extern "C" fn rigtemple_4_list_looks_parts(
     *count = listed.count;
     *judged = listed.judged;
     *open_goals = listed.goals;
-    let a = listed.answer;
-    answer_number(a)
+    answer_number(listed.answer)
 }
 
 // The guide's own next move, which is not made: whether there is one, and its code. A refusal says rest.
@@ -421,11 +403,9 @@ pub extern "C" fn rigtemple_4_next_parts(
         standing(length, phase, finished),
         plan,
     );
-    let k = next.coming;
-    *coming = coming_number(k);
-    *choice = coming_choice(k);
-    let a = next.answer;
-    answer_number(a)
+    *coming = coming_number(next.coming);
+    *choice = coming_choice(next.coming);
+    answer_number(next.answer)
 }
 
 // The configuration into a lent buffer, and how many bytes were written.
@@ -454,8 +434,7 @@ pub extern "C" fn rigtemple_4_save_parts(
         place,
     );
     *count = saved.count;
-    let a = saved.answer;
-    answer_number(a)
+    answer_number(saved.answer)
 }
 
 // Bounded, or open with the first offender: its kind and its number.
@@ -469,12 +448,10 @@ pub extern "C" fn rigtemple_4_grade_parts(
     ensures { Grades card.now result verdict.new offender.new number.new }
 {
     let graded = verdict::grade::grade(card);
-    let v = graded.verdict;
-    *verdict = verdict_number(v);
-    *offender = verdict_offender(v);
-    *number = verdict_rule(v);
-    let a = graded.answer;
-    answer_number(a)
+    *verdict = verdict_number(graded.verdict);
+    *offender = verdict_offender(graded.verdict);
+    *number = verdict_rule(graded.verdict);
+    answer_number(graded.answer)
 }
 
 // The card that a text stands for, into a lent buffer, and how many bytes it has; with 17 the place of the first wrong byte.
@@ -489,9 +466,8 @@ pub extern "C" fn rigtemple_4_text_parts(
 {
     let read = reader::read::read(text, card);
     *count = read.count;
-    let a = read.answer;
-    *place = answer_carried(a);
-    answer_number(a)
+    *place = answer_carried(read.answer);
+    answer_number(read.answer)
 }
 
 // A condition of a card as text, into a lent buffer, and how many bytes were written.
@@ -506,8 +482,7 @@ pub extern "C" fn rigtemple_4_print_parts(
 {
     let printed = printer::print::print(card, node as usize, text);
     *count = printed.count;
-    let a = printed.answer;
-    answer_number(a)
+    answer_number(printed.answer)
 }
 
 // The part that holds an action's name: which sheet it lies in, where it starts there and how many bytes it has; with 20 which
@@ -526,9 +501,8 @@ pub extern "C" fn rigtemple_4_name_parts(
         sheet.new start.new length.new }
 {
     let named = names::name::named(card, shed, master, action as usize);
-    let a = named.answer;
-    *sheet = sheet_number(a, named.sheet);
+    *sheet = sheet_number(named.answer, named.sheet);
     *start = named.part.start;
     *length = named.part.length;
-    answer_number(a)
+    answer_number(named.answer)
 }

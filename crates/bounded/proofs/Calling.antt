@@ -1,5 +1,5 @@
 -- What the two calls for bounded cards answer, by what their parts do: row 22's test, the door, the old call behind it, the words.
-use mathlib.Core.Path.{◌≡◌, refl, sym, ap, ◌∙◌}
+use mathlib.Core.Path.{◌≡◌, refl, sym, ap, ◌∙◌, subst}
 use mathlib.Core.Bool.{Bool, true, false, ◌&&◌}
 use Prim.Native.Nat.{ℕ, ◌≤◌, ◌<◌}
 use lib.ListN.{take}
@@ -11,14 +11,12 @@ use Rattle.runs.specs.Step.{step_by}
 use Rattle.runs.specs.Run.{run}
 use Rattle.runs.specs.Weight.{weigh, light, verdict}
 use Rattle.meaning.specs.declared.Refusal.{Refusal}
-use Rattle.meaning.specs.declared.Answer.{Answer}
-use Rattle.meaning.specs.declared.Answer.TheVariants.{Done, Refused}
+use Rattle.meaning.specs.Answers.{Answer, BoundedAnswer}
+use Rattle.std.specs.Prelude.{Result, Ok, Err}
 use Rattle.meaning.specs.declared.Layout.{Layout}
-use Rattle.meaning.specs.declared.Checked.{Checked}
 use Rattle.meaning.specs.declared.Configuration.{Configuration}
 use Rattle.meaning.specs.declared.Reply.{Reply}
 use Rattle.meaning.specs.declared.Ran.{Ran}
-use Rattle.meaning.specs.declared.BoundedAnswer.{BoundedAnswer}
 use Rattle.meaning.specs.declared.BoundedEnding.{BoundedEnding}
 use Rattle.meaning.specs.Card.{Bytes, layout, weight, agent_for, agent, initial_plan}
 use Rattle.meaning.specs.Configurations.{state_of}
@@ -27,10 +25,9 @@ use Rattle.meaning.specs.Why.{why_closed}
 use Rattle.meaning.specs.Calls.{choice, reply, takes, ran, runs}
 use Rattle.meaning.specs.BoundedCalls.{as_answer, as_ending, is_bounded, bounded_good, bounded_answer, bounded_takes, bounded_runs, HasWord, HasEnding}
 use Rattle.meaning.proofs.BoundedCalls.{bounded_word, both_good, bounded_refused, bounded_heavy, bounded_good_lem, bounded_takes_done, bounded_takes_refused, bounded_runs_done, bounded_runs_refused}
-use Rattle.card.specs.Rows.{checked_by, answer_of}
-use Rattle.card.proofs.Checked.{good≢refused}
-use Rattle.door.specs.Ready.{Ready}
-use Rattle.door.specs.Admitted.{admitted}
+use Rattle.card.specs.Rows.{checked_by}
+use Rattle.layout.specs.declared.card.Card.{Card}
+use Rattle.door.specs.Admitted.{admitted, AdmittedCard}
 use Rattle.door.proofs.Accepting.{let_in, kept_out, admitted_good, admitted_refused}
 use Rattle.moves.specs.Steps.{taken_by}
 use Rattle.moves.proofs.Taking.{takes_by}
@@ -38,7 +35,7 @@ use Rattle.moves.proofs.Running.{runs_by}
 use Rattle.demands.specs.BoundedCalls.{OnBounded}
 use Rattle.demands.proofs.BoundedWords.{taken_word, ran_word, ran_ending}
 use Rattle.demands.proofs.OnBounded.{on_bounded}
-use Rattle.bounded.specs.Admitted.{bounded_admitted}
+use Rattle.bounded.specs.Admitted.{bounded_admitted, BoundedCard, BoundedAdmitted}
 
 and-false : (t : Bool) → t && false ≡ false
 and-false true = refl
@@ -67,52 +64,47 @@ module _ (b : Bytes) (c : Configuration) (w : ℕ) (e : w ≡ weigh (weight b) (
 -- ---- the door
 
 module _ (b : Bytes) (c : Configuration) where
-  -- what it answers
-  abbrev Admits : Checked → Type 0
-  Admits v = (v ≡ bounded_admitted b c) × ((l : Layout) → v ≡ Checked.Good l → Ready l b c)
+  pub refused_before : (v : Result Card Refusal) (q : Refusal) → v ≡ Err q → admitted b c ≡ Err q → BoundedAdmitted b c v
+  refused_before v q t e =
+      subst (BoundedAdmitted b c) (sym t) (ap (λ a. checked_by a (layout b)) (bounded_refused b c q (admitted_refused b c q e)))
 
-  module _ (v : Checked) (so : v ≡ admitted b c) where
-    pub refused_before : (q : Refusal) → v ≡ Checked.Refused q → Admits v
-    refused_before q e =
-        let (h, s) = admitted_refused b c v so q e (answer_of v) refl in
-        (e ∙ sym (ap (λ a. checked_by a (layout b)) (bounded_refused b c q h)), λ l g. absurd (good≢refused (sym g ∙ e)))
+  module _ (k : Card) (told : AdmittedCard b c k) where
+    on : configuration_answer k.bytes.now c ≡ Ok tt
+    on = (admitted_good k.bytes.now c k.layout told.value).0
 
-    module _ (l : Layout) (e : v ≡ Checked.Good l) where
-      on : configuration_answer b c ≡ Done
-      on = (admitted_good b c v so l e).0
+    pub refused_by_22 : bounded_good k.bytes.now c ≡ false → bounded_admitted b c ≡ Err Refusal.OpenOrHeavy
+    refused_by_22 h =
+        subst (λ x. bounded_admitted x c ≡ Err Refusal.OpenOrHeavy) told.same
+        (ap (λ a. checked_by a (layout k.bytes.now)) (bounded_heavy k.bytes.now c on h))
 
-      pub refused_by_22 : false ≡ bounded_good b c → Admits (Checked.Refused Refusal.OpenOrHeavy)
-      refused_by_22 h = (sym (ap (λ a. checked_by a (layout b)) (bounded_heavy b c on (sym h))), λ k g. absurd (good≢refused (sym g)))
-
-      pub not_refused : true ≡ bounded_good b c → ((k : Layout) → v ≡ Checked.Good k → Ready k b c) → Admits (Checked.Good l)
-      not_refused h ready = (sym e ∙ so ∙ ap (λ a. checked_by a (layout b)) (on ∙ sym (bounded_good_lem b c on (sym h))), λ k g. ready k (e ∙ g))
+    pub not_refused : bounded_good k.bytes.now c ≡ true → BoundedCard b c k
+    not_refused h = record {
+      same = told.same;
+      value = ap (λ a. checked_by a (layout k.bytes.now)) (bounded_good_lem k.bytes.now c on h ∙ sym on) ∙ told.value;
+      ready = told.ready;
+    }
 
 -- ---- the calls, by what the door answers
 
-told : (a : Answer) (k : Layout) → answer_of (checked_by a k) ≡ a
-told Done k = refl
-told (Refused r) k = refl
+module _ (b : Bytes) (c : Configuration) where
+  module _ (q : Refusal) (t : bounded_admitted b c ≡ Err q) (a : Answer) (s : a ≡ Err q) where
+    is_refused : bounded_answer b c ≡ Err q
+    is_refused = kept_out (bounded_answer b c) (layout b) q t
 
-module _ (b : Bytes) (c : Configuration) (v : Checked) (door : v ≡ bounded_admitted b c) where
-  pub door_word : (a : Answer) → a ≡ answer_of v → HasWord a
-  door_word a t =
-      let (x, e) = bounded_word b c in
-      (x, e ∙ sym (t ∙ ap answer_of door ∙ told (bounded_answer b c) (layout b)))
+    pub door_word : HasWord a
+    door_word = let (x, e) = bounded_word b c in (x, e ∙ is_refused ∙ sym s)
 
-  module _ (q : Refusal) (t : v ≡ Checked.Refused q) (a : Answer) (s : a ≡ answer_of v) (x : BoundedAnswer) (e : as_answer x ≡ a) where
-    out : (bounded_answer b c ≡ Refused q) × (as_answer x ≡ Refused q)
-    out = let (h, f) = kept_out (bounded_answer b c) (layout b) v door q t a s in (h, e ∙ f)
+    pub take_refused : (x : BoundedAnswer) → as_answer x ≡ a → (n : ℕ) → reply (as_answer x) c ≡ bounded_takes b c n
+    take_refused x e n = ap (λ y. reply y c) (e ∙ s) ∙ sym (bounded_takes_refused b c n q is_refused)
 
-    pub take_refused : (n : ℕ) → reply (as_answer x) c ≡ bounded_takes b c n
-    take_refused n = ap (λ y. reply y c) out.1 ∙ sym (bounded_takes_refused b c n q out.0)
-
-    pub run_refused : (budget : ℕ) → record { answer = as_answer x; count = 0; ending = as_ending BoundedEnding.Spent; configuration = c } ≡ bounded_runs b c budget
+    pub run_refused : (x : BoundedAnswer) → as_answer x ≡ a → (budget : ℕ)
+        → record { answer = as_answer x; count = 0; ending = as_ending BoundedEnding.Spent; configuration = c } ≡ bounded_runs b c budget
     unfolding as_ending
-    run_refused budget = ap (λ (y : Answer). record { answer = y; count = 0; ending = Ending.Spent; configuration = c }) out.1 ∙ sym (bounded_runs_refused b c budget q out.0)
+    run_refused x e budget = ap (λ (y : Answer). record { answer = y; count = 0; ending = Ending.Spent; configuration = c }) (e ∙ s) ∙ sym (bounded_runs_refused b c budget q is_refused)
 
-  module _ (l : Layout) (g : v ≡ Checked.Good l) where
-    in_here : (bounded_answer b c ≡ Done) × (l ≡ layout b)
-    in_here = let_in (bounded_answer b c) (layout b) v door l g
+  module _ (l : Layout) (g : bounded_admitted b c ≡ Ok l) where
+    in_here : (bounded_answer b c ≡ Ok tt) × (l ≡ layout b)
+    in_here = let_in (bounded_answer b c) (layout b) l g
 
     accepted : OnBounded b c
     accepted = on_bounded b c in_here.0

@@ -1,18 +1,14 @@
 -- 11 and the refusals of other calls have no word among those of the two calls for bounded cards.
-use mathlib.Core.Path.{◌≡◌, sym, subst}
+use mathlib.Core.Path.{sym, subst}
 use mathlib.Core.List.{List, [], ◌∷◌}
 use Prim.Native.Nat.{ℕ}
-use native.Mathlib.Omega.{arith}
 use denote.Enum.Declared.{tag_of}
 use types.Run.{OneOf, miss}
-use Rattle.runs.specs.declared.Ending.{Ending}
 use Rattle.meaning.specs.declared.Refusal.{Refusal}
 use Rattle.meaning.specs.contracts.Refusal.{the_type}
-use Rattle.meaning.specs.declared.Answer.TheVariants.{Refused}
+use Rattle.std.specs.Prelude.{Ok, Err}
 use Rattle.meaning.specs.declared.BoundedRefusal.{BoundedRefusal}
-use Rattle.meaning.specs.declared.BoundedAnswer.{BoundedAnswer}
-use Rattle.meaning.specs.declared.BoundedEnding.{BoundedEnding}
-use Rattle.meaning.specs.BoundedCalls.{as_refusal, as_answer, as_ending, HasWord, HasEnding}
+use Rattle.meaning.specs.BoundedCalls.{as_refusal, as_answer, HasWord}
 use Rattle.meaning.proofs.Tables.{done≢refused, refused_inj}
 
 -- the variants that have no word, by their tags
@@ -37,13 +33,7 @@ not_others BoundedRefusal.Front h = miss others 11 tt h
 not_others (BoundedRefusal.Condition n) h = miss others 12 tt h
 
 -- a refusal that has a word is none of them
-pub has_none : (r : Refusal) → HasWord (Refused r) → OneOf others (tag_of the_type r) → ⊥
+pub has_none : (r : Refusal) → HasWord (Err r) → OneOf others (tag_of the_type r) → ⊥
 unfolding as_answer
-has_none r (BoundedAnswer.Done, e) h = done≢refused e
-has_none r (BoundedAnswer.Refused q, e) h = not_others q (subst (λ (x : Refusal). OneOf others (tag_of the_type x)) (sym (refused_inj e)) h)
-
--- "full" has none
-pub full_none : HasEnding Ending.Full → ⊥
-unfolding as_ending
-full_none (BoundedEnding.Spent, e) = let z : ◌≡◌ {A = ℕ} 0 1 = cc in omega arith
-full_none (BoundedEnding.Rest, e) = let z : ◌≡◌ {A = ℕ} 0 1 = cc in omega arith
+has_none r (Ok _, e) h = done≢refused e
+has_none r (Err q, e) h = not_others q (subst (λ (x : Refusal). OneOf others (tag_of the_type x)) (sym (refused_inj e)) h)

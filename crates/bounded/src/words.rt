@@ -1,14 +1,14 @@
 // The table's words in those of the two calls, which have none for 11 and "full".
-ghost use Rattle.std.specs.Prelude.{◌≡◌};
-ghost use Rattle.meaning.specs.declared.Answer.TheVariants.{Refused};
+ghost use Rattle.std.specs.Prelude.{◌≡◌, Err};
 ghost use Rattle.meaning.specs.BoundedCalls.{as_refusal, as_answer, as_ending, HasWord, HasEnding};
 
 use meaning::{Answer, BoundedAnswer, BoundedEnding, BoundedRefusal, Refusal};
 use runs::Ending;
 
 // A refusal for which they have a word. Another does not come here.
+#[tactic(auto, unfolding(meaning::specs::BoundedCalls::as_refusal))]
 fn refusal_word(r: Refusal) -> BoundedRefusal
-    requires { HasWord (Refused r) }
+    requires { HasWord (Err r) }
     ensures { as_refusal result ≡ r }
 {
     match r {
@@ -31,24 +31,25 @@ fn refusal_word(r: Refusal) -> BoundedRefusal
 }
 
 // An answer for which they have a word.
+#[tactic(auto, unfolding(meaning::specs::BoundedCalls::as_answer))]
 pub fn answer_word(a: Answer) -> BoundedAnswer
     requires { HasWord a }
     ensures { as_answer result ≡ a }
 {
     match a {
-        Answer::Done => BoundedAnswer::Done,
-        Answer::Refused(r) => BoundedAnswer::Refused(refusal_word(r)),
+        Ok(()) => Ok(()),
+        Err(r) => Err(refusal_word(r)),
     }
 }
 
 // An ending for which the run has a word: "full" does not come here.
+#[tactic(auto, unfolding(meaning::specs::BoundedCalls::as_ending))]
 pub fn ending_word(e: Ending) -> BoundedEnding
     requires { HasEnding e }
     ensures { as_ending result ≡ e }
 {
     match e {
         Ending::Spent => BoundedEnding::Spent,
-        Ending::Rest => BoundedEnding::Rest,
-        Ending::Full => BoundedEnding::Rest,
+        Ending::Rest | Ending::Full => BoundedEnding::Rest,
     }
 }

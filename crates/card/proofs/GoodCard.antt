@@ -7,7 +7,7 @@ use borrow.Author.Tests.{leb-true, ltb-true, not-true}
 use lib.Dec.{ltb, eqb}
 use lib.ListN.{length, get_or}
 use Rattle.paper.proofs.Relation.{both}
-use Rattle.meaning.specs.declared.Answer.TheVariants.{Done}
+use Rattle.std.specs.Prelude.{Ok}
 use Rattle.meaning.specs.declared.Span.{Span}
 use Rattle.meaning.specs.declared.Layout.{Layout}
 use Rattle.meaning.specs.declared.SpecificationEntry.{SpecificationEntry}
@@ -72,7 +72,7 @@ module _ (l : Layout) (b : Bytes) where
       let below : get_or (pool l b) i 0 < l.actions = ltb-true _ _ (all-at (λ a. ltb a l.actions) (pool l b) i 0 e long) in
       rw (part_at b l.pool.offset l.pool.count i h) at below
 
-good_check : (b : Bytes) → card_answer b ≡ Done → GoodCard (layout b) b
+good_check : (b : Bytes) → card_answer b ≡ Ok tt → GoodCard (layout b) b
 good_check b e =
     let a = accepted b e in
     let l = layout b in
@@ -89,7 +89,7 @@ good_check b e =
       pool = pool_action l b d a.pool;
     }
 
-pub good_card : (l : Layout) (b : Bytes) → card_answer b ≡ Done → l ≡ layout b → GoodCard l b
+pub good_card : (l : Layout) (b : Bytes) → card_answer b ≡ Ok tt → l ≡ layout b → GoodCard l b
 good_card l b e q = subst (λ x. GoodCard x b) (sym q) (good_check b e)
 
 -- a good plan may be empty, and is good under another name

@@ -3,3 +3,4 @@ pub mod AddDel
 pub mod Entries
 pub mod Rows
 pub mod GoodCard
+pub mod Accepted

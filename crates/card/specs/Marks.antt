@@ -2,9 +2,15 @@
 use Rattle.std.specs.Prelude.{◌≡◌, Bool, not, List, ℕ, ◌/◌, ◌%◌, ◌<◌, eqb, get_or}
 use Rattle.std.specs.Int.Bits.{bit_or}
 use Rattle.meaning.specs.declared.Layout.{Layout}
+use Rattle.card.specs.declared.nodes.AtomKind.{AtomKind}
 use Rattle.meaning.specs.Kinds.{NodeKind, True, Believes, HasGoal, Not, And, Or, Unknown}
 use Rattle.meaning.specs.Card.{Bytes}
 use Rattle.meaning.specs.Refusals.{containing, condition_good}
+
+-- the value of a kind's bit: 01, "The card, edition 1": "1 believes a; 2 has goal a"
+abbrev pub atom_kind : AtomKind → ℕ
+atom_kind AtomKind.Believes = 1
+atom_kind AtomKind.HasGoal = 2
 
 -- whether a mark tells of an atom of a kind: each kind is the value of its bit
 abbrev pub tells : ℕ → ℕ → Bool

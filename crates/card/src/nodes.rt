@@ -2,18 +2,16 @@
 ghost use Rattle.std.specs.Prelude.{◌≡◌, true, not, ◌≤◌, get_or, replicate};
 ghost use Rattle.meaning.specs.Kinds.{node_kind};
 ghost use Rattle.meaning.specs.Refusals.{kind_good, nodes_good};
-ghost use Rattle.layout.specs.GoodLayout.{GoodLayout};
-ghost use Rattle.card.specs.Marks.{tells, mark_of, Marks};
+ghost use Rattle.card.specs.Marks.{atom_kind, tells, mark_of, Marks};
 
-use layout::entries::read_node;
-use meaning::{Layout, Node};
+use layout::card::Card;
+use meaning::Node;
 
 // Whether node i, of a card with some atoms, keeps the rule of its kind.
 fn kind_good(x: Node, atoms: usize, i: usize) -> bool
     ensures { result ≡ kind_good atoms i (node_kind x.kind) x.a x.b }
 {
-    let kind = x.kind;
-    match kind {
+    match x.kind {
         0 => (x.a == 0) & (x.b == 0),
         1..=2 => ((x.a as usize) < atoms) & (x.b == 0),
         3 => ((x.a as usize) < i) & (x.b == 0),
@@ -23,20 +21,13 @@ fn kind_good(x: Node, atoms: usize, i: usize) -> bool
 }
 
 // Not row 6: every node keeps its rule.
-pub fn nodes_good(card: &[u8], l: Layout) -> bool
-    requires { GoodLayout l card.now }
-    ensures { result ≡ nodes_good l card.now }
+pub fn nodes_good(card: &Card) -> bool
+    ensures { result ≡ nodes_good card.now.layout card.now.bytes.now }
 {
-    let nodes = l.nodes;
-    let n = nodes.count as usize;
-    let atoms = l.atoms as usize;
     let mut good = true;
-    let mut i: usize = 0;
-    while i < n {
-        let x = read_node(card, l, i);
-        let kept = kind_good(x, atoms, i);
-        good = good & (kept & (x.zero == 0));
-        i += 1;
+    for i in 0..card.layout.nodes.count as usize {
+        let x = card.node(i);
+        good &= kind_good(x, card.layout.atoms as usize, i) & (x.zero == 0);
     }
     good
 }
@@ -62,26 +53,26 @@ pub fn all_marks() -> [u8; 256]
 }
 
 // The nodes that contain a belief atom, and those that contain a goal atom, where all are marked at first: in one pass.
-pub fn mark_nodes(card: &[u8], l: Layout, marks: &mut [u8; 256])
-    requires { GoodLayout l card.now × (nodes_good l card.now ≡ true) × (marks.old ≡ replicate 256 3) }
-    ensures { Marks 1 l card.now marks.new × Marks 2 l card.now marks.new }
+pub fn mark_nodes(card: &Card, marks: &mut [u8; 256])
+    requires { (nodes_good card.now.layout card.now.bytes.now ≡ true) × (marks.old ≡ replicate 256 3) }
+    ensures { Marks 1 card.now.layout card.now.bytes.now marks.new × Marks 2 card.now.layout card.now.bytes.now marks.new }
 {
-    let nodes = l.nodes;
-    let n = nodes.count as usize;
-    let mut i: usize = 0;
-    while i < n {
-        let x = read_node(card, l, i);
-        let first = marks[x.a as usize];
-        let second = marks[x.b as usize];
-        marks[i] = mark_of(x.kind, first, second);
-        i += 1;
+    for i in 0..card.layout.nodes.count as usize {
+        let x = card.node(i);
+        marks[i] = mark_of(x.kind, marks[x.a as usize], marks[x.b as usize]);
     }
 }
 
-// A node that is not marked for a kind of atoms: 1 believes, 2 has goal.
-pub fn free_of(marks: &[u8; 256], kind: u8, node: u8) -> bool
-    requires { 1 ≤ kind }
-    ensures { result ≡ not (tells kind (get_or marks.now node 0)) }
+// The two kinds of atoms that a condition may contain, by the values of their bits: "1 believes a; 2 has goal a".
+#[derive(Clone, Copy)]
+pub enum AtomKind {
+    Believes = 1,
+    HasGoal = 2,
+}
+
+// A node that is not marked for a kind of atoms.
+pub fn free_of(marks: &[u8; 256], kind: AtomKind, node: u8) -> bool
+    ensures { result ≡ not (tells (atom_kind kind) (get_or marks.now node 0)) }
 {
-    !(marks[node as usize] / kind % 2 == 1)
+    marks[node as usize] / (kind as u8) % 2 != 1
 }

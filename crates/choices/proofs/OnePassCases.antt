@@ -8,7 +8,7 @@ use lib.ListN.{length, get_or, drop}
 use lib.Seq.{get_or-drop, drop-drop}
 use Rattle.paper.specs.Language.{𝐁, Config}
 use Rattle.runs.specs.Order.{numbers}
-use Rattle.meaning.specs.declared.Answer.TheVariants.{Done}
+use Rattle.std.specs.Prelude.{Ok}
 use Rattle.meaning.specs.declared.Layout.{Layout}
 use Rattle.meaning.specs.declared.Node.{Node}
 use Rattle.meaning.specs.Kinds.{node_kind}
@@ -107,7 +107,7 @@ module _ (b : Bytes) {v w : Bool} (d : Computed b v w) where
   abbrev l : Layout
   l = layout b
 
-  accepted : card_answer b ≡ Done
+  accepted : card_answer b ≡ Ok tt
   unfolding card_answer card_table
   accepted =
       let n : nodes_good l b ≡ true = good_along l b ∙ d.nodes in

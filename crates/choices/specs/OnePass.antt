@@ -1,10 +1,9 @@
 -- The one pass and the tree: a condition judged in one pass over its nodes has the value and the settling node of its tree
 -- (02, Wish 3; proved in proofs/OnePass.antt).
-use Rattle.std.specs.Prelude.{◌≡◌, Bool, true, false, List, ℕ, ◌≤◌, get_or}
+use Rattle.std.specs.Prelude.{◌≡◌, Bool, true, false, List, ℕ, ◌≤◌, get_or, Ok}
 use Rattle.paper.specs.Atoms.{Atoms}
 use Rattle.paper.specs.Language.{Letter, Config}
 use Rattle.paper.specs.Transitions.{◌⊨◌}
-use Rattle.meaning.specs.declared.Answer.TheVariants.{Done}
 use Rattle.meaning.specs.declared.Layout.{Layout}
 use Rattle.meaning.specs.Kinds.{NodeKind, node_kind}
 use Rattle.meaning.specs.Card.{Bytes, layout, node_at, nodes, pass, conditions, condition}
@@ -60,5 +59,5 @@ pub record OnePass (L : Letter) (l : Layout) (b : Bytes) (c : Config) (n : ℕ) 
 
 -- The same of every condition of an accepted card, and every configuration.
 abbrev pub OnePassLaw : Type 0
-OnePassLaw = (b : Bytes) → card_answer b ≡ Done → (L : Letter) (c : Config) (n : ℕ)
+OnePassLaw = (b : Bytes) → card_answer b ≡ Ok tt → (L : Letter) (c : Config) (n : ℕ)
     → GoodCondition (layout b) b (other L) n → OnePass L (layout b) b c n

@@ -1,9 +1,8 @@
 -- Two cards of 256 nodes whose last condition is large as a tree: one has 2 to the 255th leaves, one is nested 255 deep (02,
 -- Wish 3; proved in proofs/OnePassCases.antt).
-use Rattle.std.specs.Prelude.{◌≡◌, Bool, true, false, [], ◌∷◌, map, ℕ, zero, suc}
+use Rattle.std.specs.Prelude.{◌≡◌, Bool, true, false, [], ◌∷◌, map, ℕ, zero, suc, Ok}
 use Rattle.paper.specs.Language.{𝐁, Config, ⟨◌/◌/◌⟩}
 use Rattle.runs.specs.Order.{numbers}
-use Rattle.meaning.specs.declared.Answer.TheVariants.{Done}
 use Rattle.meaning.specs.Card.{Bytes, layout}
 use Rattle.meaning.specs.Refusals.{card_answer}
 use Rattle.meaning.specs.Assembled.{assembled}
@@ -47,10 +46,10 @@ LastIs b c v i = (value_of 𝐁 (layout b) b c 255 ≡ v) × Settles 𝐁 (layou
 -- 02, Wish 3: "Answers and promises remain what they are", of the two cards. No value is looked for in a tree: one pass is
 -- computed, and OnePassLaw leads from it to the tree.
 pub record OnePassCases : Type 0 where
-  pub shared_accepted : card_answer shared_card ≡ Done
+  pub shared_accepted : card_answer shared_card ≡ Ok tt
   pub shared_believed : LastIs shared_card believed true 0
   pub shared_missing : LastIs shared_card missing false 0
-  pub deep_accepted : card_answer deep_card ≡ Done
+  pub deep_accepted : card_answer deep_card ≡ Ok tt
   -- turned by an odd number of "not"
   pub deep_believed : LastIs deep_card believed false 0
   pub deep_missing : LastIs deep_card missing true 0

@@ -2,246 +2,197 @@
 ghost use Rattle.std.specs.Prelude.{◌≡◌, true, ◌<◌};
 ghost use Rattle.paper.specs.Transitions.{select, act, revise};
 ghost use Rattle.paper.specs.Next.{enabled};
+ghost use Rattle.runs.specs.Kinds.{kind_number};
 ghost use Rattle.runs.specs.Order.{guide};
-ghost use Rattle.door.specs.Words.{agent_for, state_of, asked, choice_at, chosen, first_of_kind};
+ghost use Rattle.door.specs.Words.{agent_for, state_of, asked, choice_of, chosen, first_of_kind};
 ghost use Rattle.layout.specs.Entries.{count_of};
 ghost use Rattle.choices.specs.Judged.{of_mark, SomeSets, AllSets};
 ghost use Rattle.door.specs.Asking.{asked_by};
 
 use crate::truth::{Marks, both_of, is_true, settler};
-use door::asked::{Asked, Chosen};
-use layout::entries::{count_of, pool_at, read_revision, read_selection, read_specification};
-use meaning::{Layout, Plan, Standing};
+use door::asked::{Asked, Choice, kind_of};
+use layout::card::Card;
+use meaning::{Plan, Standing};
+use runs::Kind;
 
 // By whether the plan's front fits, and the mark of the conditions: in this order. "Whoever judges a condition passes it on".
 fn asked_by(front: bool, conditions: u16) -> Asked
     ensures { result ≡ asked_by true front (of_mark conditions) }
 {
-    let hold = is_true(conditions);
     if !front {
-        return Asked::Front;
+        Asked::Front
+    } else if !is_true(conditions) {
+        Asked::Condition(settler(conditions))
+    } else {
+        Asked::Enabled
     }
-    if !hold {
-        return Asked::Condition(settler(conditions));
-    }
-    Asked::Enabled
 }
 
 // Selection rule i: "Enabled if the plan is empty and both conditions of the rule hold."; "the belief condition before the goal
 // condition".
-fn ask_selection(card: &[u8], l: Layout, m: Standing, plan: &Plan, marks: &Marks, i: usize) -> Asked
-    requires { SomeSets l card.now m plan.now marks.now × (i < l.selections.count) }
-    ensures { AllSets l card.now m plan.now marks.now
-        (λ c. result ≡ asked l card.now (state_of c).mental (select i)) }
+fn ask_selection(card: &Card, m: Standing, plan: &Plan, marks: &Marks, i: usize) -> Asked
+    requires { SomeSets card.now.layout card.now.bytes.now m plan.now marks.now × (i < card.now.layout.selections.count) }
+    ensures { AllSets card.now.layout card.now.bytes.now m plan.now marks.now
+        (λ c. result ≡ asked card.now.layout card.now.bytes.now (state_of c).mental (select i)) }
 {
-    let e = read_selection(card, l, i);
-    let belief = marks[e.belief as usize];
-    let goal = marks[e.goal as usize];
-    asked_by(m.length == 0, both_of(belief, goal))
+    let e = card.selection(i);
+    asked_by(
+        m.length == 0,
+        both_of(marks[e.belief as usize], marks[e.goal as usize]),
+    )
 }
 
 // Specification i: "Enabled … if the plan is not empty, its first action is that of the specification, and the precondition
 // holds."
-fn ask_specification(
-    card: &[u8],
-    l: Layout,
-    m: Standing,
-    plan: &Plan,
-    marks: &Marks,
-    i: usize,
-) -> Asked
-    requires { SomeSets l card.now m plan.now marks.now × (i < l.specifications.count) }
-    ensures { AllSets l card.now m plan.now marks.now
-        (λ c. result ≡ asked l card.now (state_of c).mental (act i)) }
+fn ask_specification(card: &Card, m: Standing, plan: &Plan, marks: &Marks, i: usize) -> Asked
+    requires { SomeSets card.now.layout card.now.bytes.now m plan.now marks.now × (i < card.now.layout.specifications.count) }
+    ensures { AllSets card.now.layout card.now.bytes.now m plan.now marks.now
+        (λ c. result ≡ asked card.now.layout card.now.bytes.now (state_of c).mental (act i)) }
 {
-    let e = read_specification(card, l, i);
-    let first = plan[0];
-    let belief = marks[e.node as usize];
-    asked_by((m.length != 0) & (e.action == first), belief)
+    let e = card.specification(i);
+    asked_by(
+        (m.length != 0) & (e.action == plan[0]),
+        marks[e.node as usize],
+    )
 }
 
 // Revision rule i: "Enabled if the head is a prefix of the plan and the condition holds."
-fn ask_revision(card: &[u8], l: Layout, m: Standing, plan: &Plan, marks: &Marks, i: usize) -> Asked
-    requires { SomeSets l card.now m plan.now marks.now × (i < l.revisions.count) }
-    ensures { AllSets l card.now m plan.now marks.now
-        (λ c. result ≡ asked l card.now (state_of c).mental (revise i)) }
+fn ask_revision(card: &Card, m: Standing, plan: &Plan, marks: &Marks, i: usize) -> Asked
+    requires { SomeSets card.now.layout card.now.bytes.now m plan.now marks.now × (i < card.now.layout.revisions.count) }
+    ensures { AllSets card.now.layout card.now.bytes.now m plan.now marks.now
+        (λ c. result ≡ asked card.now.layout card.now.bytes.now (state_of c).mental (revise i)) }
 {
-    let e = read_revision(card, l, i);
-    let head = e.head;
-    let at = pool_at(l, head.start);
-    let front = plans::starts_with(card, at, head.length as usize, plan, m.length as usize);
-    let belief = marks[e.node as usize];
-    asked_by(front, belief)
+    let e = card.revision(i);
+    let at = card.pool_at(e.head.start);
+    let front = plans::starts_with(
+        card.bytes,
+        at,
+        e.head.length as usize,
+        plan,
+        m.length as usize,
+    );
+    asked_by(front, marks[e.node as usize])
 }
 
 // A choice that the card has, by its kind and number: whether it is enabled, or why it is closed.
-fn ask_entry(
-    card: &[u8],
-    l: Layout,
-    m: Standing,
-    plan: &Plan,
-    marks: &Marks,
-    kind: u8,
-    i: usize,
-) -> Asked
-    requires { SomeSets l card.now m plan.now marks.now × (kind < 3) × (i < count_of l kind) }
-    ensures { AllSets l card.now m plan.now marks.now
-        (λ c. result ≡ asked l card.now (state_of c).mental (choice_at kind i)) }
+fn ask_entry(card: &Card, m: Standing, plan: &Plan, marks: &Marks, choice: Choice) -> Asked
+    requires { SomeSets card.now.layout card.now.bytes.now m plan.now marks.now × (choice.number < count_of card.now.layout (kind_number choice.kind)) }
+    ensures { AllSets card.now.layout card.now.bytes.now m plan.now marks.now
+        (λ c. result ≡ asked card.now.layout card.now.bytes.now (state_of c).mental (choice_of choice)) }
 {
-    match kind {
-        0 => ask_selection(card, l, m, plan, marks, i),
-        1 => ask_specification(card, l, m, plan, marks, i),
-        _ => ask_revision(card, l, m, plan, marks, i),
+    match choice.kind {
+        Kind::Selection => ask_selection(card, m, plan, marks, choice.number),
+        Kind::Action => ask_specification(card, m, plan, marks, choice.number),
+        Kind::Revision => ask_revision(card, m, plan, marks, choice.number),
     }
 }
 
 // A choice of any number.
-pub fn ask(
-    card: &[u8],
-    l: Layout,
-    m: Standing,
-    plan: &Plan,
-    marks: &Marks,
-    kind: u8,
-    i: usize,
-) -> Asked
-    requires { SomeSets l card.now m plan.now marks.now × (kind < 3) }
-    ensures { AllSets l card.now m plan.now marks.now
-        (λ c. result ≡ asked l card.now (state_of c).mental (choice_at kind i)) }
+pub fn ask(card: &Card, m: Standing, plan: &Plan, marks: &Marks, choice: Choice) -> Asked
+    requires { SomeSets card.now.layout card.now.bytes.now m plan.now marks.now }
+    ensures { AllSets card.now.layout card.now.bytes.now m plan.now marks.now
+        (λ c. result ≡ asked card.now.layout card.now.bytes.now (state_of c).mental (choice_of choice)) }
 {
-    if count_of(l, kind) <= i {
-        return Asked::NoRule;
+    if choice.number < card.count_of(choice.kind) {
+        ask_entry(card, m, plan, marks, choice)
+    } else {
+        Asked::NoRule
     }
-    ask_entry(card, l, m, plan, marks, kind, i)
 }
 
-// Whether selection rule i is enabled: the plan is looked at first.
-fn selection_enabled(
-    card: &[u8],
-    l: Layout,
-    m: Standing,
-    plan: &Plan,
-    marks: &Marks,
-    i: usize,
-) -> bool
-    requires { SomeSets l card.now m plan.now marks.now × (i < l.selections.count) }
-    ensures { AllSets l card.now m plan.now marks.now
-        (λ c. result ≡ enabled (agent_for l card.now) (state_of c).mental (select i)) }
+// Whether selection rule i is enabled: the plan is looked at first. Each of the three looks at another cheap thing first and leaves
+// the rest unread: one function over them would take all of it as closures.
+fn selection_enabled(card: &Card, m: Standing, plan: &Plan, marks: &Marks, i: usize) -> bool
+    requires { SomeSets card.now.layout card.now.bytes.now m plan.now marks.now × (i < card.now.layout.selections.count) }
+    ensures { AllSets card.now.layout card.now.bytes.now m plan.now marks.now
+        (λ c. result ≡ enabled (agent_for card.now.layout card.now.bytes.now) (state_of c).mental (select i)) }
 {
     if m.length != 0 {
         return false;
     }
-    let e = read_selection(card, l, i);
-    let belief = marks[e.belief as usize];
-    let goal = marks[e.goal as usize];
-    is_true(belief) & is_true(goal)
+    let e = card.selection(i);
+    is_true(marks[e.belief as usize]) & is_true(marks[e.goal as usize])
 }
 
 // Whether specification i is enabled: its action is looked at first.
-fn specification_enabled(
-    card: &[u8],
-    l: Layout,
-    m: Standing,
-    plan: &Plan,
-    marks: &Marks,
-    i: usize,
-) -> bool
-    requires { SomeSets l card.now m plan.now marks.now × (i < l.specifications.count) }
-    ensures { AllSets l card.now m plan.now marks.now
-        (λ c. result ≡ enabled (agent_for l card.now) (state_of c).mental (act i)) }
+fn specification_enabled(card: &Card, m: Standing, plan: &Plan, marks: &Marks, i: usize) -> bool
+    requires { SomeSets card.now.layout card.now.bytes.now m plan.now marks.now × (i < card.now.layout.specifications.count) }
+    ensures { AllSets card.now.layout card.now.bytes.now m plan.now marks.now
+        (λ c. result ≡ enabled (agent_for card.now.layout card.now.bytes.now) (state_of c).mental (act i)) }
 {
-    let e = read_specification(card, l, i);
-    let first = plan[0];
-    if e.action != first {
+    let e = card.specification(i);
+    if e.action != plan[0] {
         return false;
     }
-    let belief = marks[e.node as usize];
-    (m.length != 0) & is_true(belief)
+    (m.length != 0) & is_true(marks[e.node as usize])
 }
 
 // Whether revision rule i is enabled: its condition is looked at first.
-fn revision_enabled(
-    card: &[u8],
-    l: Layout,
-    m: Standing,
-    plan: &Plan,
-    marks: &Marks,
-    i: usize,
-) -> bool
-    requires { SomeSets l card.now m plan.now marks.now × (i < l.revisions.count) }
-    ensures { AllSets l card.now m plan.now marks.now
-        (λ c. result ≡ enabled (agent_for l card.now) (state_of c).mental (revise i)) }
+fn revision_enabled(card: &Card, m: Standing, plan: &Plan, marks: &Marks, i: usize) -> bool
+    requires { SomeSets card.now.layout card.now.bytes.now m plan.now marks.now × (i < card.now.layout.revisions.count) }
+    ensures { AllSets card.now.layout card.now.bytes.now m plan.now marks.now
+        (λ c. result ≡ enabled (agent_for card.now.layout card.now.bytes.now) (state_of c).mental (revise i)) }
 {
-    let e = read_revision(card, l, i);
-    let belief = marks[e.node as usize];
-    if !is_true(belief) {
+    let e = card.revision(i);
+    if !is_true(marks[e.node as usize]) {
         return false;
     }
-    let head = e.head;
-    let at = pool_at(l, head.start);
-    plans::starts_with(card, at, head.length as usize, plan, m.length as usize)
+    let at = card.pool_at(e.head.start);
+    plans::starts_with(
+        card.bytes,
+        at,
+        e.head.length as usize,
+        plan,
+        m.length as usize,
+    )
 }
 
 // Whether a choice that the card has is enabled.
-pub fn is_enabled(
-    card: &[u8],
-    l: Layout,
-    m: Standing,
-    plan: &Plan,
-    marks: &Marks,
-    kind: u8,
-    i: usize,
-) -> bool
-    requires { SomeSets l card.now m plan.now marks.now × (kind < 3) × (i < count_of l kind) }
-    ensures { AllSets l card.now m plan.now marks.now
-        (λ c. result ≡ enabled (agent_for l card.now) (state_of c).mental (choice_at kind i)) }
+pub fn is_enabled(card: &Card, m: Standing, plan: &Plan, marks: &Marks, choice: Choice) -> bool
+    requires { SomeSets card.now.layout card.now.bytes.now m plan.now marks.now × (choice.number < count_of card.now.layout (kind_number choice.kind)) }
+    ensures { AllSets card.now.layout card.now.bytes.now m plan.now marks.now
+        (λ c. result ≡ enabled (agent_for card.now.layout card.now.bytes.now) (state_of c).mental (choice_of choice)) }
 {
-    match kind {
-        0 => selection_enabled(card, l, m, plan, marks, i),
-        1 => specification_enabled(card, l, m, plan, marks, i),
-        _ => revision_enabled(card, l, m, plan, marks, i),
+    match choice.kind {
+        Kind::Selection => selection_enabled(card, m, plan, marks, choice.number),
+        Kind::Action => specification_enabled(card, m, plan, marks, choice.number),
+        Kind::Revision => revision_enabled(card, m, plan, marks, choice.number),
     }
 }
 
 // The lowest enabled choice of a kind.
 pub fn first_of_kind(
-    card: &[u8],
-    l: Layout,
+    card: &Card,
     m: Standing,
     plan: &Plan,
     marks: &Marks,
-    kind: u8,
-) -> Chosen
-    requires { SomeSets l card.now m plan.now marks.now × (kind < 3) }
-    ensures { AllSets l card.now m plan.now marks.now
-        (λ c. result ≡ first_of_kind l card.now c kind) }
+    kind: Kind,
+) -> Option<Choice>
+    requires { SomeSets card.now.layout card.now.bytes.now m plan.now marks.now }
+    ensures { AllSets card.now.layout card.now.bytes.now m plan.now marks.now
+        (λ c. result ≡ first_of_kind card.now.layout card.now.bytes.now c (kind_number kind)) }
 {
-    let n = count_of(l, kind);
-    let mut i: usize = 0;
-    while i < n {
-        if is_enabled(card, l, m, plan, marks, kind, i) {
-            return Chosen::At(kind, i);
+    for number in 0..card.count_of(kind) {
+        let choice = Choice { kind, number };
+        if is_enabled(card, m, plan, marks, choice) {
+            return Some(choice);
         }
-        i += 1;
     }
-    Chosen::Nothing
+    None
 }
 
 // "From phase p the kinds p, p+1, p+2 (modulo 3) are tried in turn. In the first kind with an enabled transition, the lowest
 // number is taken."
-pub fn choose(card: &[u8], l: Layout, m: Standing, plan: &Plan, marks: &Marks) -> Chosen
-    requires { SomeSets l card.now m plan.now marks.now }
-    ensures { AllSets l card.now m plan.now marks.now
-        (λ c. result ≡ chosen (guide (agent_for l card.now) (state_of c))) }
+pub fn choose(card: &Card, m: Standing, plan: &Plan, marks: &Marks) -> Option<Choice>
+    requires { SomeSets card.now.layout card.now.bytes.now m plan.now marks.now }
+    ensures { AllSets card.now.layout card.now.bytes.now m plan.now marks.now
+        (λ c. result ≡ chosen (guide (agent_for card.now.layout card.now.bytes.now) (state_of c))) }
 {
-    let p = m.phase;
-    let mut t: u8 = 0;
-    while t < 3 {
-        let chosen = first_of_kind(card, l, m, plan, marks, (p + t) % 3);
-        let Chosen::Nothing = chosen else {
-            return chosen;
-        };
-        t += 1;
+    for t in 0..3 {
+        let kind = kind_of(m.phase + t);
+        if let Some(choice) = first_of_kind(card, m, plan, marks, kind) {
+            return Some(choice);
+        }
     }
-    Chosen::Nothing
+    None
 }

@@ -15,8 +15,11 @@ use Rattle.notation.specs.Built.{node}
 use Rattle.notation.specs.Conditions.{Condition, joined}
 use Rattle.notation.specs.Values.{Read, nested, got, then, more, several, unit_of, and_list_of}
 use Rattle.notation.specs.Making.{added_to, with_tree, last_node}
-use Rattle.conditions.specs.declared.read.Reading.{Reading}
-use Rattle.conditions.specs.Reads.{nodes_of, joined_nodes, begins, ReadsCondition}
+use Rattle.conditions.specs.declared.read.Nested.{Nested}
+use Rattle.conditions.specs.declared.read.TreeRead.{TreeRead}
+use Rattle.std.proofs.Common.{Result, Ok}
+use Rattle.std.specs.Prelude.{IfSome, IsErr}
+use Rattle.conditions.specs.Reads.{Count, nodes_of, joined_nodes, begins, ReadsCondition}
 use Rattle.conditions.proofs.Numbers.{drop-cons, drop_none}
 use Rattle.conditions.proofs.Stored.{either, last-of}
 use Rattle.conditions.proofs.Told.{Told, at_told, nested_told}
@@ -85,12 +88,12 @@ joined_by K none d = d
 joined_by K (some c) d = joined K.op c d
 
 -- a list from at on, behind the k₀ nodes of d₀: the next member is at n, behind the k nodes of d
-pub record Before (K : Kind) (t : Bytes) (at k₀ : ℕ) (d₀ : Bytes) (first : Bool) (n k : ℕ) (d : Bytes) : Type 0 where
+pub record Before (K : Kind) (t : Bytes) (at : ℕ) (k₀ : Count) (d₀ : Bytes) (first : Bool) (n : ℕ) (k : Count) (d : Bytes) : Type 0 where
   pub so_far : Option Condition
   pub flag : first ≡ is_first so_far
   pub behind : at ≤ n
   pub within : n ≤ length t
-  pub small : k ≤ 257
+  pub small : IfSome k (λ n. n ≤ 256)
   pub room : length d ≡ 1024
   pub nodes : nodes_of k d ≡ nodes_before so_far (nodes_of k₀ d₀)
   pub fuel : Bytes → ℕ
@@ -98,19 +101,19 @@ pub record Before (K : Kind) (t : Bytes) (at k₀ : ℕ) (d₀ : Bytes) (first :
   pub whole : several_of K (drop at t) ≡ then (K.one (drop n t)) (λ c s. more_of K (fuel s) (joined_by K so_far c) s)
 
 -- the members up to n are one condition, whose nodes are the last of the k of d
-pub record BehindMember (K : Kind) (t : Bytes) (at k₀ : ℕ) (d₀ : Bytes) (n k : ℕ) (d : Bytes) : Type 0 where
+pub record BehindMember (K : Kind) (t : Bytes) (at : ℕ) (k₀ : Count) (d₀ : Bytes) (n : ℕ) (k : Count) (d : Bytes) : Type 0 where
   pub cond : Condition
   pub behind : at ≤ n
   pub within : n ≤ length t
-  pub small : k ≤ 257
+  pub small : IfSome k (λ n. n ≤ 256)
   pub room : length d ≡ 1024
   pub nodes : nodes_of k d ≡ with_tree cond.tree (nodes_of k₀ d₀)
   pub fuel : ℕ
   pub enough : length t ≤ n + fuel
   pub whole : several_of K (drop at t) ≡ more_of K fuel cond (drop n t)
 
-module _ (K : Kind) (t : Bytes) (at k₀ : ℕ) (d₀ : Bytes) where
-  pub list_starts : at ≤ length t → k₀ ≤ 257 → length d₀ ≡ 1024 → Before K t at k₀ d₀ true at k₀ d₀
+module _ (K : Kind) (t : Bytes) (at : ℕ) (k₀ : Count) (d₀ : Bytes) where
+  pub list_starts : at ≤ length t → IfSome k₀ (λ n. n ≤ 256) → length d₀ ≡ 1024 → Before K t at k₀ d₀ true at k₀ d₀
   list_starts within small room = record {
     so_far = none;
     flag = refl;
@@ -125,9 +128,9 @@ module _ (K : Kind) (t : Bytes) (at k₀ : ℕ) (d₀ : Bytes) where
   }
 
   -- a member is read
-  module _ (first : Bool) (n k : ℕ) (d : Bytes) (b : Before K t at k₀ d₀ first n k d) where
-    pub list_joined : (p j m : ℕ) (d' d'' : Bytes) → Told t n d k (K.one (drop n t)) p j d'
-        → m ≤ 257 → length d'' ≡ 1024 → nodes_of m d'' ≡ joined_nodes first K.kind k j d' → BehindMember K t at k₀ d₀ p m d''
+  module _ (first : Bool) (n : ℕ) (k : Count) (d : Bytes) (b : Before K t at k₀ d₀ first n k d) where
+    pub list_joined : (p : ℕ) (j m : Count) (d' d'' : Bytes) → Told t n d k (K.one (drop n t)) p j d'
+        → IfSome m (λ n. n ≤ 256) → length d'' ≡ 1024 → nodes_of m d'' ≡ joined_nodes first K.kind k j d' → BehindMember K t at k₀ d₀ p m d''
     list_joined p j m d' d'' r small room put =
         let far = b.behind in
         let on = r.behind in
@@ -147,20 +150,20 @@ module _ (K : Kind) (t : Bytes) (at k₀ : ℕ) (d₀ : Bytes) where
             → joined_nodes (is_first so_far) K.kind k j d' ≡ with_tree (joined_by K so_far r.cond).tree (nodes_of k₀ d₀)
         by none e = r.nodes ∙ ap (with_tree r.cond.tree) e
         by (some c) e =
-            (λ i. added_to 1024 (node K.kind (last-of d b.room k i) (last-of d' (r.room ∙ b.room) j i)) (nodes_of j d'))
+            (λ i. added_to 1024 (node K.kind (last-of d b.room k b.small i) (last-of d' (r.room ∙ b.room) j r.small i)) (nodes_of j d'))
             ∙ (ap (λ q. added_to 1024 (node K.kind (last_node (nodes_of k d)) (last_node q)) q) r.nodes
             ∙ (ap (λ q. added_to 1024 (node K.kind (last_node q) (last_node (with_tree r.cond.tree q))) (with_tree r.cond.tree q)) e
             ∙ sym (K.joins c.tree r.cond.tree (nodes_of k₀ d₀))))
 
     -- it nests too deep
-    pub list_nested : length d₀ ≡ 1024 → (d' : Bytes) → K.one (drop n t) ≡ nested → length d' ≡ length d
-        → ReadsCondition t at d₀ k₀ (several_of K (drop at t)) Reading.Nested d'
-    list_nested sized d' e room =
-        nested_told t at d₀ k₀ d' (several_of K (drop at t))
+    pub list_nested : length d₀ ≡ 1024 → (d' : Bytes) (r : Result TreeRead Nested) → IsErr r → K.one (drop n t) ≡ nested → length d' ≡ length d
+        → ReadsCondition t at d₀ k₀ (several_of K (drop at t)) r d'
+    list_nested sized d' r f e room =
+        nested_told t at d₀ k₀ d' (several_of K (drop at t)) r f
         (b.whole ∙ ap (λ (R : Read Condition). then R (λ c s. more_of K (b.fuel s) (joined_by K b.so_far c) s)) e)
         (room ∙ (b.room ∙ sym sized))
 
-  module _ (n k : ℕ) (d : Bytes) (l : BehindMember K t at k₀ d₀ n k d) where
+  module _ (n : ℕ) (k : Count) (d : Bytes) (l : BehindMember K t at k₀ d₀ n k d) where
     -- the operator comes, and the next member
     pub list_on : begins K.byte (drop n t) ≡ true → Before K t at k₀ d₀ false (n + 1) k d
     list_on e =
@@ -185,9 +188,9 @@ module _ (K : Kind) (t : Bytes) (at k₀ : ℕ) (d₀ : Bytes) where
 
     -- no operator comes
     pub list_stops : length d₀ ≡ 1024 → begins K.byte (drop n t) ≡ false
-        → ReadsCondition t at d₀ k₀ (several_of K (drop at t)) (Reading.At n k) d
+        → ReadsCondition t at d₀ k₀ (several_of K (drop at t)) (Ok (record { next = n; count = k })) d
     list_stops sized e =
-        at_told t at d₀ k₀ d (several_of K (drop at t)) n k
+        at_told t at d₀ k₀ d (several_of K (drop at t)) (record { next = n; count = k })
         (record {
           cond = l.cond;
           reads = l.whole ∙ more_stop K l.cond l.fuel (drop n t) e;

@@ -1,38 +1,27 @@
 -- A number of any length, 65,536 where it is greater: digit by digit.
-use mathlib.Core.Path.{◌≡◌, refl, ap, sym, ◌∙◌}
-use mathlib.Core.Bool.{Bool, true, false, and-eq-true_iff}
+use mathlib.Core.Path.{◌≡◌, refl, ap, sym, ◌∙◌, subst}
+use mathlib.Core.Bool.{Bool, true, false}
 use mathlib.Core.List.{[], ◌∷◌}
 use Prim.Native.Nat.{ℕ, zero, suc, ◌+◌, ◌-◌, ◌*◌, ◌≤◌, ◌<◌}
 use Prim.Native.Char.{code}
 use native.Mathlib.Omega.{arith}
-use borrow.Author.Tests.{leb-true}
-use lib.Dec.{leb}
-use lib.ListN.{length, drop, get_or}
+use lib.ListN.{length, drop, get_or, drop_of_length-le}
+use lib.Seq as Seq
 use Rattle.paper.specs.Next.{if}
 use Rattle.meaning.specs.Card.{Bytes}
 use Rattle.notation.specs.Scanning.{digit}
-use Rattle.notation.specs.Values.{digits_value, digits_rest, number_value}
+use Rattle.notation.specs.Values.{list_goes_on, digits_value, digits_rest, number_value}
 use Rattle.conditions.specs.Reads.{capped, ReadsNumber}
 
 -- ---- bytes
 
 pub drop-cons : (t : Bytes) (n : ℕ) → n < length t → drop n t ≡ get_or t n 0 ∷ drop (n + 1) t
-drop-cons [] n h = absurd (omega arith)
-drop-cons (x ∷ t) zero h = refl
-drop-cons (x ∷ t) (suc n) h = drop-cons t n (omega arith) ∙ (let e : suc (n + 1) ≡ suc n + 1 = omega arith in λ j. get_or t n 0 ∷ drop (e j) (x ∷ t))
+drop-cons t n h = let e : suc n ≡ n + 1 = omega arith in Seq.drop-cons t n 0 h ∙ (λ j. get_or t n 0 ∷ drop (e j) t)
 
 pub drop_none : (t : Bytes) (n : ℕ) → n ≡ length t → drop n t ≡ []
-drop_none [] zero e = refl
-drop_none [] (suc n) e = absurd (omega arith)
-drop_none (x ∷ t) zero e = absurd (omega arith)
-drop_none (x ∷ t) (suc n) e = drop_none t n (omega arith)
+drop_none t n e = drop_of_length-le t {i = n} (omega arith)
 
 -- ---- digits
-
-pub digit_from_to : (x : ℕ) → digit x ≡ true → (48 ≤ x) × (x ≤ 57)
-digit_from_to x e =
-    let both = (and-eq-true_iff (leb 48 x) (leb x 57)).0 e in
-    (leb-true 48 x both.0, leb-true x 57 both.1)
 
 -- from digits on that have the same value, or values that are both too great
 pub digits_alike : (t : Bytes) (m n : ℕ) → capped m ≡ capped n → capped (digits_value m t) ≡ capped (digits_value n t)
@@ -97,11 +86,11 @@ module _ (t : Bytes) (at v n : ℕ) (d : DigitsPassed t at v n) where
       let z : v ≡ capped v = omega arith in
       (z ∙ (ap capped (sym e) ∙ d.3), d.0, (d.1, sym f ∙ d.4))
 
-  pub read_over : length t ≤ n → ReadsNumber t at (record { value = v; next = n })
+  pub read_over : length t ≤ n → ReadsNumber t at (record { value = v; next = length t })
   read_over l =
       let a = d.1 in
       let e : n ≡ length t = omega arith in
-      read_at (digits-over t n e v) (rest_over t n e)
+      subst (λ (m : ℕ). ReadsNumber t at (record { value = v; next = m })) e (read_at (digits-over t n e v) (rest_over t n e))
 
   module _ (h : n < length t) where
     pub read_stop : digit (get_or t n 0) ≡ false → ReadsNumber t at (record { value = v; next = n })
@@ -111,3 +100,12 @@ module _ (t : Bytes) (at v n : ℕ) (d : DigitsPassed t at v n) where
     read_on w e f =
         let a = d.0 in
         (omega arith, omega arith, omega arith, sym (digits_on t n h e v w f) ∙ d.3, sym (rest_on t n h e) ∙ d.4)
+
+-- ---- whether a space and a digit come
+
+pub goes_short : (t : Bytes) (n : ℕ) → length t - n < 2 → false ≡ list_goes_on (drop n t)
+goes_short [] zero h = refl
+goes_short [] (suc n) h = refl
+goes_short (x ∷ []) zero h = refl
+goes_short (x ∷ (y ∷ t)) zero h = absurd (omega arith)
+goes_short (x ∷ t) (suc n) h = goes_short t n (omega arith)

@@ -16,8 +16,10 @@ use Rattle.notation.specs.Built.{node}
 use Rattle.notation.specs.Conditions.{Condition, plain, negated, bracketed}
 use Rattle.notation.specs.Values.{Read, nested, got, then, number_value, digits_rest, in_not, in_brackets, or_list_of, unit_by, unit_of}
 use Rattle.notation.specs.Making.{when, added_to, with_tree, last_node}
-use Rattle.conditions.specs.declared.read.Reading.{Reading}
-use Rattle.conditions.specs.Reads.{leaf, nodes_of, last_of, TextAt, ReadsAtom, ReadsCondition}
+use Rattle.conditions.specs.declared.read.TreeRead.{TreeRead}
+use Rattle.std.proofs.Common.{Ok}
+use Rattle.std.specs.Prelude.{IfSome}
+use Rattle.conditions.specs.Reads.{Count, leaf, nodes_of, last_of, TextAt, ReadsAtom, ReadsCondition}
 use Rattle.conditions.proofs.Numbers.{drop-cons, drop_none}
 use Rattle.conditions.proofs.Stored.{last-of}
 use Rattle.conditions.proofs.Told.{Told, at_told}
@@ -104,67 +106,60 @@ module _ (t : Bytes) (at left : ℕ) where
 -- ---- what the readers of a unit's parts tell
 
 -- behind the next byte
-pub byte_over : (t : Bytes) (n : ℕ) → n ≡ length t → drop n t ≡ drop 1 (drop n t)
-byte_over t n e = drop_none t n e ∙ sym (ap (drop 1) (drop_none t n e))
-
 pub byte_on : (t : Bytes) (n : ℕ) → n < length t → drop (n + 1) t ≡ drop 1 (drop n t)
 byte_on t n h = sym (ap (drop 1) (drop-cons t n h))
 
 only_G : (x : ℕ) → leaf x ≡ true → (x ≡ 84 → ⊥) → (x ≡ 66 → ⊥) → x ≡ 71
 only_G x l e f = eqb-true x 71 (sym ((λ j. (ne_eqb x 84 e j || ne_eqb x 66 f j) || eqb x 71)) ∙ l)
 
-module _ (t : Bytes) (at left : ℕ) (h : at < length t) (d : Bytes) (k : ℕ) (d' : Bytes) where
-  pub read_T : (m : ℕ) → get_or t at 0 ≡ 84 → m ≤ 257 → length d' ≡ length d → nodes_of m d' ≡ added_to 1024 (node 0 0 0) (nodes_of k d)
-      → ReadsCondition t at d k (unit_of left (drop at t)) (Reading.At (at + 1) m) d'
+module _ (t : Bytes) (at left : ℕ) (h : at < length t) (d : Bytes) (k : Count) (d' : Bytes) where
+  pub read_T : (m : Count) → get_or t at 0 ≡ 84 → IfSome m (λ n. n ≤ 256) → length d' ≡ length d → nodes_of m d' ≡ added_to 1024 (node 0 0 0) (nodes_of k d)
+      → ReadsCondition t at d k (unit_of left (drop at t)) (Ok (record { next = at + 1; count = m })) d'
   unfolding with_tree
   read_T m e small room put =
-      at_told t at d k d' (unit_of left (drop at t)) (at + 1) m
+      at_told t at d k d' (unit_of left (drop at t)) (record { next = at + 1; count = m })
       (record { cond = plain true; reads = unit_T t at left h e; within = omega arith; behind = omega arith; small = small; room = room; nodes = put })
 
-  module _ (r : Reading) where
+  module _ (r : TreeRead) where
     atom_told : (kind : ℕ) (c : Condition)
         → ((o : Option Bytes) → with_tree c.tree o ≡ when (leb (number_value (drop (at + 1) t)) 255) (added_to 1024 (node kind (number_value (drop (at + 1) t)) 0) o))
         → unit_of left (drop at t) ≡ got c (digits_rest (drop (at + 1) t))
         → ReadsAtom t (at + 1) kind d k r d'
-        → ReadsCondition t at d k (unit_of left (drop at t)) r d'
-    atom_told kind c made reads g = by_cases r g
-      where
-        by_cases : (r : Reading) → ReadsAtom t (at + 1) kind d k r d' → ReadsCondition t at d k (unit_of left (drop at t)) r d'
-        by_cases (Reading.At n m) g =
-            at_told t at d k d' (unit_of left (drop at t)) n m
-            (record {
-              cond = c;
-              reads = reads ∙ ap (got c) (sym g.0.1);
-              within = g.0.0;
-              behind = (let b = g.1 in omega arith);
-              small = g.2;
-              room = g.3;
-              nodes = g.4 ∙ sym (made (nodes_of k d));
-            })
-        by_cases Reading.Nested g = absurd g
+        → ReadsCondition t at d k (unit_of left (drop at t)) (Ok r) d'
+    atom_told kind c made reads g =
+        at_told t at d k d' (unit_of left (drop at t)) r
+        (record {
+          cond = c;
+          reads = reads ∙ ap (got c) (sym g.0.1);
+          within = g.0.0;
+          behind = (let b = g.1 in omega arith);
+          small = g.2;
+          room = g.3;
+          nodes = g.4 ∙ sym (made (nodes_of k d));
+        })
 
-    pub read_B : get_or t at 0 ≡ 66 → ReadsAtom t (at + 1) 1 d k r d' → ReadsCondition t at d k (unit_of left (drop at t)) r d'
+    pub read_B : get_or t at 0 ≡ 66 → ReadsAtom t (at + 1) 1 d k r d' → ReadsCondition t at d k (unit_of left (drop at t)) (Ok r) d'
     unfolding with_tree
     read_B e g = atom_told 1 (plain (believes (number_value (drop (at + 1) t)))) (λ o. refl) (unit_B t at left h e) g
 
     pub read_G : leaf (get_or t at 0) ≡ true → (get_or t at 0 ≡ 84 → ⊥) → (get_or t at 0 ≡ 66 → ⊥) → ReadsAtom t (at + 1) 2 d k r d'
-        → ReadsCondition t at d k (unit_of left (drop at t)) r d'
+        → ReadsCondition t at d k (unit_of left (drop at t)) (Ok r) d'
     unfolding with_tree
     read_G l e f g = atom_told 2 (plain (goal (number_value (drop (at + 1) t)))) (λ o. refl) (unit_G t at left h (only_G (get_or t at 0) l e f)) g
 
 -- ---- "!" and brackets
 
-module _ (t : Bytes) (at left : ℕ) (h : at < length t) (some_left : left ≡ 0 → ⊥) (d : Bytes) (k : ℕ) where
+module _ (t : Bytes) (at left : ℕ) (h : at < length t) (some_left : left ≡ 0 → ⊥) (d : Bytes) (k : Count) where
   module _ (e : get_or t at 0 ≡ 33) where
     pub not_nested : unit_of (left - 1) (drop (at + 1) t) ≡ nested → unit_of left (drop at t) ≡ nested
     not_nested f = unit_not t at left h some_left e ∙ ap (λ (R : Read Condition). then R (λ c r. got (negated c) r)) f
 
-    pub read_not : (d' d'' : Bytes) (n m m' : ℕ) → length d ≡ 1024 → Told t (at + 1) d k (unit_of (left - 1) (drop (at + 1) t)) n m d'
-        → m' ≤ 257 → length d'' ≡ 1024 → nodes_of m' d'' ≡ added_to 1024 (node 3 (last_of m) 0) (nodes_of m d')
-        → ReadsCondition t at d k (unit_of left (drop at t)) (Reading.At n m') d''
+    pub read_not : (d' d'' : Bytes) (n : ℕ) (m m' : Count) → length d ≡ 1024 → Told t (at + 1) d k (unit_of (left - 1) (drop (at + 1) t)) n m d'
+        → IfSome m' (λ n. n ≤ 256) → length d'' ≡ 1024 → nodes_of m' d'' ≡ added_to 1024 (node 3 (last_of m) 0) (nodes_of m d')
+        → ReadsCondition t at d k (unit_of left (drop at t)) (Ok (record { next = n; count = m' })) d''
     unfolding with_tree
     read_not d' d'' n m m' sized r small room put =
-        at_told t at d k d'' (unit_of left (drop at t)) n m'
+        at_told t at d k d'' (unit_of left (drop at t)) (record { next = n; count = m' })
         (record {
           cond = negated r.cond;
           reads = unit_not t at left h some_left e ∙ ap (λ (R : Read Condition). then R (λ c r. got (negated c) r)) r.reads;
@@ -174,7 +169,7 @@ module _ (t : Bytes) (at left : ℕ) (h : at < length t) (some_left : left ≡ 0
           room = room ∙ sym sized;
           nodes =
               put
-              ∙ (ap (λ z. added_to 1024 (node 3 z 0) (nodes_of m d')) (last-of d' (r.room ∙ sized) m)
+              ∙ (ap (λ z. added_to 1024 (node 3 z 0) (nodes_of m d')) (last-of d' (r.room ∙ sized) m r.small)
               ∙ ap (λ o. added_to 1024 (node 3 (last_node o) 0) o) r.nodes);
         })
 
@@ -182,10 +177,10 @@ module _ (t : Bytes) (at left : ℕ) (h : at < length t) (some_left : left ≡ 0
     pub brackets_nested : or_list_of (left - 1) (drop (at + 1) t) ≡ nested → unit_of left (drop at t) ≡ nested
     brackets_nested f = unit_brackets t at left h some_left l e ∙ ap (λ (R : Read Condition). then R (λ c r. got (bracketed c) (drop 1 r))) f
 
-    pub read_brackets : (d' : Bytes) (n m n' : ℕ) → Told t (at + 1) d k (or_list_of (left - 1) (drop (at + 1) t)) n m d'
-        → (n ≤ n') × TextAt t n' (drop 1 (drop n t)) → ReadsCondition t at d k (unit_of left (drop at t)) (Reading.At n' m) d'
+    pub read_brackets : (d' : Bytes) (n : ℕ) (m : Count) (n' : ℕ) → Told t (at + 1) d k (or_list_of (left - 1) (drop (at + 1) t)) n m d'
+        → (n ≤ n') × TextAt t n' (drop 1 (drop n t)) → ReadsCondition t at d k (unit_of left (drop at t)) (Ok (record { next = n'; count = m })) d'
     read_brackets d' n m n' r b =
-        at_told t at d k d' (unit_of left (drop at t)) n' m
+        at_told t at d k d' (unit_of left (drop at t)) (record { next = n'; count = m })
         (record {
           cond = bracketed r.cond;
           reads =

@@ -5,16 +5,14 @@ use mathlib.Core.List.{List, ◌∷◌, ◌++◌, append-nil}
 use Prim.Native.Nat.{ℕ, ◌+◌, ◌-◌, ◌≤◌, ◌<◌}
 use native.Mathlib.Numerals.{add-one}
 use native.Mathlib.Omega.{arith}
-use borrow.Author.Tests.{lt-ltb, le-ltb}
 use lib.Dec.{ltb}
 use lib.ListN.{length, take, drop, get_or, replicate, length-append, length-drop, drop_of_length-le}
-use lib.Seq.{take_all, take_at, drop_at, drop-cons, length-take-le, paste}
+use lib.Seq.{take_all, take_at, drop-cons, length-take-le, paste}
 use Rattle.paper.specs.Language.{𝐁}
 use Rattle.meaning.specs.declared.Refusal.{Refusal}
-use Rattle.meaning.specs.declared.Answer.{Answer}
-use Rattle.meaning.specs.declared.Answer.TheVariants.{Done, Refused}
+use Rattle.meaning.specs.Answers.{Answer}
+use Rattle.std.specs.Prelude.{Ok, Err}
 use Rattle.meaning.specs.declared.Layout.{Layout}
-use Rattle.meaning.specs.declared.Checked.{Checked}
 use Rattle.meaning.specs.declared.Standing.{Standing}
 use Rattle.meaning.specs.declared.Configuration.{Configuration}
 use Rattle.layout.specs.PlaceParts.{configured}
@@ -28,17 +26,15 @@ use Rattle.card.specs.Rows.{row_answer}
 use Rattle.card.proofs.Rows.{row_done}
 use Rattle.door.proofs.Accepting.{accepted_card}
 use Rattle.deliberation.specs.declared.Deliberated.{Deliberated}
-use Rattle.deliberation.specs.Entries.{entry_count, entries_of, program_good, numbers_good, go_on_answer, whole}
-use Rattle.deliberation.specs.Deliberate.{Outcome, deliberate, remaining_of, deliberated, goes_on}
+use Rattle.deliberation.specs.Entries.{entry_count, entries_of, program_good, numbers_good, go_on_answer}
+use Rattle.deliberation.specs.Deliberate.{deliberate, remaining_of, deliberated, goes_on}
 use Rattle.deliberation.specs.Stacked.{Stacked}
 use Rattle.deliberation.proofs.Room.{stacked_length, good_stacked}
-use Rattle.deliberation.proofs.Call.{goes_on_done, goes_on_refused, card_refused, program_refused, numbers_refused, configuration_refused, nothing_refused, whole_good}
+use Rattle.deliberation.proofs.Call.{goes_on_done, goes_on_refused, card_refused, program_refused, numbers_refused, configuration_refused, nothing_refused}
 use Rattle.program.specs.GoodProgram.{GoodProgram}
 use Rattle.program.proofs.GoodProgram.{good_program}
 use Rattle.deliberate.specs.declared.call.DeliberatedInPlace.{DeliberatedInPlace}
-use Rattle.deliberate.specs.declared.run.RanMoves.{RanMoves}
 use Rattle.deliberate.specs.Made.{Remains}
-use Rattle.deliberate.specs.Ran.{RanTo}
 use Rattle.deliberate.specs.InPlace.{remains, refused_with, deliberated_with, Admits}
 
 -- ---- given numbers
@@ -62,16 +58,6 @@ module _ (k : ℕ) (ns : List ℕ) (i : ℕ) (h : i < length ns) where
   first_of : numbers_good k (drop i ns) ≡ (ltb (get_or ns i 0 + length (drop (i + 1) ns)) k && numbers_good k (drop (i + 1) ns))
   first_of = ap (numbers_good k) split
 
-  pub good_more : get_or ns i 0 + (length ns - i - 1) < k → numbers_good k (drop i ns) ≡ numbers_good k (drop (i + 1) ns)
-  good_more l =
-      let w = behind in
-      first_of ∙ ap (λ t. t && numbers_good k (drop (i + 1) ns)) (lt-ltb (get_or ns i 0 + length (drop (i + 1) ns)) k (omega arith))
-
-  pub bad_here : k ≤ get_or ns i 0 + (length ns - i - 1) → numbers_good k (drop i ns) ≡ false
-  bad_here l =
-      let w = behind in
-      first_of ∙ ap (λ t. t && numbers_good k (drop (i + 1) ns)) (le-ltb (get_or ns i 0 + length (drop (i + 1) ns)) k (omega arith))
-
 pub none_left : (k : ℕ) (ns : List ℕ) (i : ℕ) → length ns ≤ i → numbers_good k (drop i ns) ≡ true
 none_left k ns i h = ap (numbers_good k) (drop_of_length-le ns h)
 
@@ -79,24 +65,8 @@ none_left k ns i h = ap (numbers_good k) (drop_of_length-le ns h)
 
 -- at the end of the lent ones
 module _ (d d₁ ns : Bytes) (n : ℕ) (count : n ≡ length ns) (fits : n ≤ 128) (s : length d ≡ 128) (put-there : d₁ ≡ paste d (128 - n) (drop 0 ns) n) where
-  as_put : d₁ ≡ take (128 - n) d ++ ns
-  as_put =
-      let e : 128 - n + n ≡ 128 = omega arith in
-      let full : length d ≤ 128 = omega arith in
-      put-there
-      ∙ ap₂ (λ (x : Bytes) j. take (128 - n) d ++ x ++ drop j d) (take_all n ns (omega arith)) e
-      ∙ ap (λ (x : Bytes). take (128 - n) d ++ ns ++ x) (drop_of_length-le d full)
-      ∙ append-nil (take (128 - n) d ++ ns)
-
   front : length (take (128 - n) d) ≡ 128 - n
   front = length-take-le (128 - n) d (omega arith)
-
-  pub put_so : (drop (128 - length ns) d₁ ≡ ns) × (length d₁ ≡ 128)
-  put_so =
-      let f = front in (
-        ap (λ j. drop (128 - j) d₁) (sym count) ∙ ap (drop (128 - n)) as_put ∙ drop_at (take (128 - n) d) ns (128 - n) f,
-        omega (arith, ap length as_put ∙ length-append (take (128 - n) d) ns),
-      )
 
 pub given_remains : (p stack ns : Bytes) (top : ℕ) → drop top stack ≡ ns → top ≤ 128 → length stack ≡ 128 → numbers_good (entry_count p) ns ≡ true → Remains p stack top
 given_remains p stack ns top e h n g =
@@ -127,38 +97,30 @@ module _ (d d₁ d₂ : Bytes) (top : ℕ) (h : top ≤ 128) (s : length d ≡ 1
       cleared ∙ ap (λ (x : Bytes). front ++ x) (drop_of_length-le d₁ w) ∙ append-nil front ∙ ap₂ ◌++◌ t (ap (λ j. replicate (128 - j) 0) (sym n)) in
       λ i. record { length = sym n i; numbers = q i }
 
--- what the moves came to, as it is answered
-pub ran_so : (o : Outcome) (r : RanMoves) (σ γ plan stack numbers : Bytes) (n : ℕ) → RanTo o r (configured σ γ r.standing plan) stack
-    → remains n numbers ≡ remaining_of (drop r.top stack)
-    → deliberated_with (record { answer = Done; count = r.count; ending = r.ending; standing = r.standing; length = n }) σ γ plan numbers ≡ deliberated o
-ran_so o r σ γ plan stack numbers n t e =
-    let q = e ∙ ap remaining_of t.numbers in
-    λ i. record { answer = Done; count = t.count i; ending = t.ending i; configuration = t.configuration i; remaining = q i }
-
 -- ---- the checks
 
 -- a card that is good has a header, and the layout is what the header says
-module _ (b : Bytes) (e : checks b ≡ Checked.Good (layout b)) where
+module _ (b : Bytes) (e : checks b ≡ Ok (layout b)) where
   pub has_header : 32 ≤ length b
   has_header = let g = (accepted_card b (layout b) e).layout in omega arith
 
-  pub read_again : (p : Bytes) → GoodProgram (layout b) b p → (l : Layout) → l ≡ layout b → (checks b ≡ Checked.Good l) × GoodProgram l b p
-  read_again p g l q = (e ∙ ap Checked.Good (sym q), subst (λ x. GoodProgram x b p) (sym q) g)
+  pub read_again : (p : Bytes) → GoodProgram (layout b) b p → (l : Layout) → l ≡ layout b → (checks b ≡ Ok l) × GoodProgram l b p
+  read_again p g l q = (e ∙ ap Ok (sym q), subst (λ x. GoodProgram x b p) (sym q) g)
 
 module _ (b p : Bytes) where
-  module _ (l : Layout) (e : checks b ≡ Checked.Good l) where
+  module _ (l : Layout) (e : checks b ≡ Ok l) where
     says : l ≡ layout b
     says = (good_judged b l e).1
 
-    program_accepted : (a : Answer) → a ≡ row_answer (program_good (containing 2 l b) l p) Refusal.Program → a ≡ Done → GoodProgram l b p
+    program_accepted : (a : Answer) → a ≡ row_answer (program_good (containing 2 l b) l p) Refusal.Program → a ≡ Ok tt → GoodProgram l b p
     program_accepted a h f = good_program l b p (row_done _ Refusal.Program (sym h ∙ f))
 
     -- a program that is not good is refused, whatever else is given
-    by_program : (a : Answer) → a ≡ row_answer (program_good (containing 2 l b) l p) Refusal.Program → (q : Refusal) → a ≡ Refused q
-        → (ns : List ℕ) (c : Configuration) → go_on_answer b p ns c ≡ Refused q
+    by_program : (a : Answer) → a ≡ row_answer (program_good (containing 2 l b) l p) Refusal.Program → (q : Refusal) → a ≡ Err q
+        → (ns : List ℕ) (c : Configuration) → go_on_answer b p ns c ≡ Err q
     by_program a h q f ns c = go (program_good (containing 2 l b) l p) refl
       where
-        go : (t : Bool) → program_good (containing 2 l b) l p ≡ t → go_on_answer b p ns c ≡ Refused q
+        go : (t : Bool) → program_good (containing 2 l b) l p ≡ t → go_on_answer b p ns c ≡ Err q
         go true g = absurd (done≢refused (sym (h ∙ ap (λ t. row_answer t Refusal.Program) g) ∙ f))
         go false g =
             program_refused b p ns c (good_judged b l e).0 (sym (ap (λ (x : Layout). program_good (containing 2 x b) x p) says) ∙ g)
@@ -168,19 +130,16 @@ module _ (b p : Bytes) where
     -- what is found of the program, as it is told
     pub admits : (a : Answer) → a ≡ row_answer (program_good (containing 2 l b) l p) Refusal.Program → Admits b p a
     admits a h = record {
-      good = λ f. (e ∙ ap Checked.Good says, subst (λ x. GoodProgram x b p) says (program_accepted a h f));
+      good = λ f. (e ∙ ap Ok says, subst (λ x. GoodProgram x b p) says (program_accepted a h f));
       bad = by_program a h;
     }
 
-    pub by_numbers : (ns : List ℕ) (c : Configuration) → numbers_good (entry_count p) ns ≡ false → go_on_answer b p ns c ≡ Refused Refusal.Program
+    pub by_numbers : (ns : List ℕ) (c : Configuration) → numbers_good (entry_count p) ns ≡ false → go_on_answer b p ns c ≡ Err Refusal.Program
     by_numbers ns c g = numbers_refused b p ns c (good_judged b l e).0 g
 
     module _ (good : GoodProgram l b p) where
       good_there : program_good (containing 2 (layout b) b) (layout b) p ≡ true
       good_there = sym (ap (λ (x : Layout). program_good (containing 2 x b) x p) says) ∙ good.good
-
-      pub whole_accepted : numbers_good (entry_count p) (whole p) ≡ true
-      whole_accepted = whole_good (containing 2 l b) l p good.good
 
       pub by_configuration : (ns : List ℕ) (c : Configuration) → numbers_good (entry_count p) ns ≡ true → (a : Answer)
           → a ≡ row_answer (configuration_good l c) Refusal.Configuration → go_on_answer b p ns c ≡ a
@@ -194,7 +153,7 @@ module _ (b p : Bytes) where
           go false g = configuration_refused b p ns c (good_judged b l e).0 good_there n (sym same ∙ g) ∙ sym (h ∙ ap (λ t. row_answer t Refusal.Configuration) g)
 
     -- what the moves answer is what the call answers
-    pub done_so : (ns : List ℕ) (c : Configuration) (budget : ℕ) (lent : Bytes) → go_on_answer b p ns c ≡ Done → (x : Deliberated)
+    pub done_so : (ns : List ℕ) (c : Configuration) (budget : ℕ) (lent : Bytes) → go_on_answer b p ns c ≡ Ok tt → (x : Deliberated)
         → x ≡ deliberated (deliberate (agent_for l b) (conditions 𝐁 l b) (entries_of p) budget ns (state_of c)) → x ≡ goes_on b p ns c budget lent
     unfolding agent
     done_so ns c budget lent f x g =
@@ -203,11 +162,11 @@ module _ (b p : Bytes) where
         ∙ sym (goes_on_done b p ns c budget lent f)
 
   -- a card that is not good is refused, whatever else is given
-  by_card : (q : Refusal) → checks b ≡ Checked.Refused q → (ns : List ℕ) (c : Configuration) → go_on_answer b p ns c ≡ Refused q
+  by_card : (q : Refusal) → checks b ≡ Err q → (ns : List ℕ) (c : Configuration) → go_on_answer b p ns c ≡ Err q
   by_card q e ns c = card_refused b p ns c q (refused_judged b q e)
 
   -- and so it is told
-  pub admits_not : (q : Refusal) → checks b ≡ Checked.Refused q → (a : Answer) → a ≡ Refused q → Admits b p a
+  pub admits_not : (q : Refusal) → checks b ≡ Err q → (a : Answer) → a ≡ Err q → Admits b p a
   admits_not q e a f = record {
     good = λ g. absurd (done≢refused (sym g ∙ f));
     bad = λ r g ns c. by_card q e ns c ∙ sym f ∙ g;
@@ -215,7 +174,7 @@ module _ (b p : Bytes) where
 
   -- a refusal as it is answered
   pub refused_so : (ns : List ℕ) (σ γ : Bytes) (m : Standing) (plan : Bytes) (budget : ℕ) (lent : Bytes) (q : Refusal)
-      → go_on_answer b p ns (configured σ γ m plan) ≡ Refused q → (a : Answer) → a ≡ Refused q
+      → go_on_answer b p ns (configured σ γ m plan) ≡ Err q → (a : Answer) → a ≡ Err q
       → (r : DeliberatedInPlace) → r ≡ refused_with a m → deliberated_with r σ γ plan lent ≡ goes_on b p ns (configured σ γ m plan) budget lent
   refused_so ns σ γ m plan budget lent q e a f r g =
       ap (λ (x : DeliberatedInPlace). deliberated_with x σ γ plan lent) (g ∙ ap (λ x. refused_with x m) f)

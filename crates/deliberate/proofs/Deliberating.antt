@@ -1,15 +1,13 @@
 -- A deliberation so far, over plain values.
 use mathlib.Core.Path.{◌≡◌, refl, ap, ap₂, ◌∙◌, sym, subst}
-use mathlib.Core.Bool.{Bool, true, false}
 use mathlib.Core.List.{List, [], ◌∷◌, ◌++◌}
 use mathlib.Core.Option.{Option, none, some}
 use Prim.Native.Nat.{ℕ, suc, ◌+◌, ◌-◌, ◌%◌, ◌≤◌, ◌<◌}
-use native.Mathlib.Nat.{mod-lt, sub-zero, zero-add}
+use native.Mathlib.Nat.{mod-lt}
 use native.Mathlib.Omega.{arith}
 use lib.ListN.{length, drop, get_or, drop_of_length-le}
 use Rattle.paper.specs.Language.{𝐁, Agent, Config}
 use Rattle.paper.specs.Transitions.{Choice, Step}
-use Rattle.paper.specs.Next.{if}
 use Rattle.runs.specs.Order.{State, kind}
 use Rattle.runs.specs.Step.{after, Reached, step}
 use Rattle.runs.proofs.Step.{StepsTo, none_there, too_long, taken, steps_to}
@@ -61,10 +59,6 @@ module _ (A : Agent) (s : State) where
 
 -- ---- the deliberation so far
 
-pub at_most_one : (t : Bool) → if t 0 1 ≤ 1
-at_most_one true = omega arith
-at_most_one false = omega arith
-
 -- an outcome with so many moves before it
 abbrev counted : ℕ → Outcome → Outcome
 counted n o = record { state = o.state; count = n + o.count; ending = o.ending; remaining = o.remaining }
@@ -80,17 +74,6 @@ module _ (l : Layout) (b p : Bytes) where
     pub ready : Ready l b c
     pub remains : Remains p stack top
     pub same : counted count (outcome (budget - count) (drop top stack) (state_of c)) ≡ all
-
-  pub deliberating_start : (budget : ℕ) (c : Configuration) (stack : Bytes) (top : ℕ) → Ready l b c → Remains p stack top
-      → Deliberating budget (outcome budget (drop top stack) (state_of c)) c stack top 0
-  deliberating_start budget c stack top h r =
-      let o = outcome budget (drop top stack) (state_of c) in
-      record {
-        within = omega arith;
-        ready = h;
-        remains = r;
-        same = ap (λ n. counted 0 (outcome n (drop top stack) (state_of c))) (sub-zero budget) ∙ (λ i. record { state = o.state; count = zero-add o.count i; ending = o.ending; remaining = o.remaining });
-      }
 
   module _ (budget : ℕ) (all : Outcome) (c : Configuration) (stack : Bytes) (top count : ℕ) (d : Deliberating budget all c stack top count) where
     -- what is answered where it ends here

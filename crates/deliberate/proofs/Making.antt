@@ -3,18 +3,19 @@ use mathlib.Core.Path.{◌≡◌, refl, ap, ap₂, ◌∙◌, sym, subst}
 use mathlib.Core.Bool.{Bool, true, false, not}
 use mathlib.Core.List.{List, [], ◌∷◌}
 use mathlib.Core.Option.{Option, none, some}
-use Prim.Native.Nat.{ℕ, ◌+◌, ◌-◌, ◌≤◌, ◌<◌}
+use Prim.Native.Nat.{ℕ, ◌≤◌, ◌<◌}
 use native.Mathlib.Omega.{arith}
 use lib.Dec.{eqb}
-use lib.ListN.{length, drop, set, get_or, length-set, length-drop}
+use lib.ListN.{length, drop, get_or, length-drop}
 use borrow.Author.Tests.{eqb-false, not-true}
 use Rattle.paper.specs.Language.{𝐁, Query, Agent, Config}
 use Rattle.paper.specs.Transitions.{Choice}
 use Rattle.paper.specs.Next.{enabled}
 use Rattle.paper.proofs.Relation.{none≢some, some_inj, false≢true}
-use Rattle.runs.specs.Order.{State, kind, number, first, of_kind}
+use Rattle.runs.specs.Kinds.{kind_number}
+use Rattle.runs.specs.Order.{State, first, of_kind}
 use Rattle.runs.specs.Step.{after, Reached, nothing, full, step}
-use Rattle.runs.proofs.Order.{kind_lt, first_yes, first_no}
+use Rattle.runs.proofs.Order.{first_yes, first_no}
 use Rattle.runs.proofs.Step.{StepsTo, none_there, too_long, taken, steps_to}
 use Rattle.meaning.specs.declared.Standing.{Standing}
 use Rattle.meaning.specs.declared.Layout.{Layout}
@@ -23,17 +24,19 @@ use Rattle.meaning.specs.declared.Configuration.{Configuration}
 use Rattle.meaning.specs.Card.{Bytes, condition, conditions, agent_for}
 use Rattle.meaning.specs.Refusals.{containing}
 use Rattle.meaning.specs.Configurations.{state_of, configuration_of}
-use Rattle.door.specs.declared.asked.Chosen.{Chosen}
+use Rattle.std.specs.Prelude.{Some, None}
+use Rattle.door.specs.declared.asked.Choice as Told
 use Rattle.choices.specs.OnePass.{kept}
 use Rattle.door.specs.Ready.{Ready}
 use Rattle.choices.specs.Judged.{mark_at, Marked, Judged}
-use Rattle.door.specs.Asking.{choice_at, chosen}
+use Rattle.door.specs.Asking.{choice_of, told as told-choice, chosen}
+use Rattle.door.proofs.Told.{told_some, told_at, told_kind}
 use Rattle.door.proofs.Asking.{empty_exactly}
 use Rattle.choices.proofs.Marked.{marked}
 use Rattle.moves.specs.declared.step.Transition.{Transition}
 use Rattle.moves.specs.declared.step.Stepped.{Stepped}
 use Rattle.moves.specs.Steps.{Enabled, StepsBy, transition_of}
-use Rattle.moves.proofs.Running.{choice_back, ready_back, no_action_keeps}
+use Rattle.moves.proofs.Running.{ready_back, no_action_keeps}
 use Rattle.deliberation.specs.Programs.{not_empty_plan, holds, 𝒲}
 use Rattle.deliberation.specs.MetaTransitions.{taking}
 use Rattle.deliberation.specs.Kinds.{EntryKind, Execute, Apply, Select, WhilePlan, WhileBelief, Then, Or, entry_kind}
@@ -48,8 +51,8 @@ use Rattle.program.specs.GoodProgram.{GoodEntry, GoodProgram}
 use Rattle.deliberate.specs.declared.made.MoveMade.{MoveMade}
 use Rattle.deliberate.specs.declared.descent.Leaf.{Leaf}
 use Rattle.deliberate.specs.Descent.{AtLeaf}
-use Rattle.deliberate.specs.Made.{made_of, configuration_after, numbers_after, Makes, stayed, moved_by, made_by, known_after, HoldsBy, by_plan, by_mark, again, if_open}
-use Rattle.deliberate.proofs.Descending.{pushed, stacked_room}
+use Rattle.deliberate.specs.Made.{made_of, configuration_after, numbers_after, Makes, stayed, moved_by, made_by, known_after, HoldsBy, by_plan, by_mark, again}
+use Rattle.deliberate.proofs.Descending.{stacked_room}
 use Rattle.moves.specs.Steps as Steps
 use Rattle.deliberation.specs.Deliberate as Deliberate
 use Rattle.deliberate.specs.Made as Made-specs
@@ -92,7 +95,7 @@ module _ (l : Layout) (b : Bytes) (c : Configuration) (k : Choice) (x : Stepped)
       go e (too_long d t h) = not_taken full e refl Deliberate.too_long (leads_full A s k ns e) refl refl refl
       go e (taken d t h) =
           let at : left ≡ configuration_of (after s k d) = told.1 ∙ ap (λ z. Steps.configuration_after z c) e in
-          let u : x.transition ≡ Transition.Taken (kind k) (number k) = told.0 ∙ ap transition_of e in
+          let u : x.transition ≡ Transition.Taken (told-choice k) = told.0 ∙ ap transition_of e in
           subst (λ z. Makes l b c ns z (moved_by x.standing x.transition top) left stack) (sym (leads_to_lem A s k ns (after s k d) e))
           (record {
             made = ap made_by u;
@@ -101,7 +104,7 @@ module _ (l : Layout) (b : Bytes) (c : Configuration) (k : Choice) (x : Stepped)
             within = within;
             room = room;
             keeps = λ z marks v.
-                (let y = no_action_keeps t (λ g. eqb-false (kind k) 1 (not-true _ (sym (ap known_after u) ∙ z)) g) in
+                (let y = no_action_keeps t (λ g. eqb-false (kind_number (told-choice k).kind) 1 (not-true _ (sym (ap known_after u) ∙ z)) (told_kind k ∙ g)) in
                 let β : left.mind.beliefs ≡ c.mind.beliefs = ap (λ (g : Configuration). g.mind.beliefs) at ∙ y.0 in
                 let γ : left.mind.goals ≡ c.mind.goals = ap (λ (g : Configuration). g.mind.goals) at ∙ y.1 in
                 λ j g. v j g ∙ ap₂ (λ x y. get_or (kept l b x y) j (false, 0)) (sym β) (sym γ));
@@ -130,11 +133,14 @@ module _ (A : Agent) (s : Config) where
       go true h = let q : if_enabled A s k ≡ some k = rw (h, if_enabled) in ap (enabled A s) (some_inj (sym e ∙ q)) ∙ h
       go false h = let q : if_enabled A s k ≡ none = rw (h, if_enabled) in absurd (none≢some (sym q ∙ e))
 
-  -- a rule that is named is taken, if it is enabled
-  pub named_chosen : (k : Choice) (t : Bool) → t ≡ enabled A s k → if_open t (kind k) (number k) ≡ chosen (if_enabled A s k)
+  -- a choice is taken, if it is enabled
+  pub open_chosen : (t : Told.Choice) → enabled A s (choice_of t) ≡ true → Some t ≡ chosen (if_enabled A s (choice_of t))
   unfolding if_enabled
-  named_chosen k true e = let h = sym e in rw (h, if_enabled)
-  named_chosen k false e = let h = sym e in rw (h, if_enabled)
+  open_chosen t h = rw (h, if_enabled) (ap Some (sym (told_at t.kind t.number)))
+
+  pub shut_chosen : (k : Choice) → enabled A s k ≡ false → None ≡ chosen (if_enabled A s k)
+  unfolding if_enabled
+  shut_chosen k h = rw (h, if_enabled)
 
   taken_enabled : (κ : EntryKind) (a : ℕ) (k : Choice) → Made-specs.taken A s κ a ≡ some k → enabled A s k ≡ true
   unfolding lowest_action
@@ -147,40 +153,17 @@ module _ (A : Agent) (s : Config) where
   taken_enabled Or a k e = absurd (none≢some e)
 
 module _ (l : Layout) (b : Bytes) (c : Configuration) where
-  -- a choice of a kind and a number that is open, and is taken
-  abbrev pub Takes : Option Choice → ℕ → ℕ → Type 0
-  Takes o n i = (n < 3) × Enabled l b c (choice_at n i) × (o ≡ some (choice_at n i))
+  -- a choice that is open, and is taken
+  abbrev pub Takes : Option Choice → Told.Choice → Type 0
+  Takes o t = Enabled l b c (choice_of t) × (o ≡ some (choice_of t))
 
-  pub takes_at : (κ : EntryKind) (a n i : ℕ) → chosen (Made-specs.taken (agent_for l b) (state_of c).mental κ a) ≡ Chosen.At n i
-      → Takes (Made-specs.taken (agent_for l b) (state_of c).mental κ a) n i
-  takes_at κ a n i = go (Made-specs.taken (agent_for l b) (state_of c).mental κ a) refl
-    where
-      go : (o : Option Choice) → Made-specs.taken (agent_for l b) (state_of c).mental κ a ≡ o → chosen o ≡ Chosen.At n i
-          → Takes (Made-specs.taken (agent_for l b) (state_of c).mental κ a) n i
-      go none e f = absurd (let z : ◌≡◌ {A = ℕ} 0 1 = cc in omega arith)
-      go (some k) e f =
-          let q = choice_back k n i f in
-          let m : kind k ≡ n = cc in
-          let t = taken_enabled (agent_for l b) (state_of c).mental κ a k e in
-          (subst (λ x. x < 3) m (kind_lt k), subst (Enabled l b c) (sym q) t, e ∙ ap some (sym q))
-
--- where there is none, all stays as it was
-pub none_taken : (l : Layout) (b : Bytes) (c : Configuration) (o : Option Choice) → chosen o ≡ Chosen.Nothing → (top : ℕ) (stack : Bytes) → top ≤ 128 → length stack ≡ 128
-    → (m : Standing) → Makes l b c (drop top stack) (move_result (agent_for l b) (state_of c) (by_choice o []) (drop top stack)) (stayed m MoveMade.Stuck top) c stack
-none_taken l b c none e top stack h s m = record { made = refl; configuration = refl; numbers = refl; within = h; room = s; keeps = λ _ marks v. v }
-none_taken l b c (some k) e top stack h s m = absurd (let z : ◌≡◌ {A = ℕ} 0 1 = cc in omega arith)
+  pub takes_at : (κ : EntryKind) (a : ℕ) (t : Told.Choice) → Some t ≡ chosen (Made-specs.taken (agent_for l b) (state_of c).mental κ a)
+      → Takes (Made-specs.taken (agent_for l b) (state_of c).mental κ a) t
+  takes_at κ a t e =
+      let q = told_some (Made-specs.taken (agent_for l b) (state_of c).mental κ a) t e in
+      (taken_enabled (agent_for l b) (state_of c).mental κ a (choice_of t) q, q)
 
 -- ---- an idle move
-
-pub pushed_twice : (stack : List ℕ) (top i b : ℕ) → 2 ≤ top → top ≤ length stack
-    → drop (top - 2) (set (set stack (top - 1) i) (top - 2) b) ≡ b ∷ i ∷ drop top stack
-pushed_twice stack top i b h k =
-    let e : top - 2 + 1 ≡ top - 1 = omega arith in
-    let f : top - 1 + 1 ≡ top = omega arith in
-    let n : top - 2 < length (set stack (top - 1) i) = simp length-set (omega arith) in
-    pushed (set stack (top - 1) i) (top - 2) b n
-    ∙ ap (λ j. b ∷ drop j (set stack (top - 1) i)) e
-    ∙ ap (λ ns. b ∷ ns) (pushed stack (top - 1) i (omega arith) ∙ ap (λ j. i ∷ drop j stack) f)
 
 belief_condition : {n m : ℕ} {C : ℕ → Type 0} {i a b : ℕ} → EntryLaws n m C i a b WhileBelief → C a
 belief_condition (while_belief h k) = h

@@ -1,9 +1,10 @@
 -- Which entries have a first move, by one pass over them.
-use mathlib.Core.Path.{◌≡◌, refl, ap, ap₂, ◌∙◌, sym, subst}
+use mathlib.Core.Path.{◌≡◌, refl, ap, ap₂, ◌∙◌, sym}
 use mathlib.Core.Bool.{Bool, true, false, ◌||◌}
 use mathlib.Core.List.{List, [], ◌∷◌, ◌++◌}
 use mathlib.Core.Option.{Option, none, some}
 use Prim.Native.Nat.{ℕ, ◌<◌}
+use Rattle.std.specs.Prelude as Std
 use Rattle.paper.specs.Atoms.{Atoms, ◌∈◌}
 use Rattle.paper.specs.Language.{𝐁, Query, Agent, Config}
 use Rattle.paper.specs.Transitions.{Choice}
@@ -22,9 +23,9 @@ use Rattle.deliberation.specs.Entries.{entry_of, entry_count, move_of, move_at}
 use Rattle.deliberation.specs.Theorems.{EntryLaws, executes, applies, selects, while_plan, while_belief, does_both, does_one}
 use Rattle.deliberation.proofs.Good.{move_at_lem}
 use Rattle.program.specs.GoodProgram.{GoodProgram}
-use Rattle.deliberate.specs.First.{is_at, movable_of, Movable}
+use Rattle.deliberate.specs.First.{movable_of, Movable}
 
-pub at_some : (o : Option Choice) → is_at (chosen o) ≡ is_some o
+pub at_some : (o : Option Choice) → Std.is_some (chosen o) ≡ is_some o
 at_some none = refl
 at_some (some k) = refl
 
@@ -75,10 +76,6 @@ module _ (A : Agent) (βs : List (Query 𝐁)) (s : Config) where
   by_parts {a = a} q q' (does_both h l) f = f a h
   by_parts {a = a} {b = b} q q' (does_one h l) f = ap₂ ◌||◌ (f a h) (f b l)
 
--- the rule that an apply or a select names is known
-applied : {n m : ℕ} {C : ℕ → Type 0} {i a b : ℕ} → EntryLaws n m C i a b Apply → a < n
-applied (applies h) = h
-
 selected : {n m : ℕ} {C : ℕ → Type 0} {i a b : ℕ} → EntryLaws n m C i a b Select → a < m
 selected (selects h) = h
 
@@ -88,19 +85,6 @@ then_lower (does_both f g) = (f, g)
 
 pub or_lower : {n m : ℕ} {C : ℕ → Type 0} {i a b : ℕ} → EntryLaws n m C i a b Or → (a < i) × (b < i)
 or_lower (does_one f g) = (f, g)
-
-module _ {n m : ℕ} {C : ℕ → Type 0} {i a b : ℕ} (k : ℕ) (g : EntryLaws n m C i a b (entry_kind k)) where
-  pub apply_known : k ≡ 1 → a < n
-  apply_known e = applied (subst (λ j. EntryLaws n m C i a b (entry_kind j)) e g)
-
-  pub select_known : k ≡ 2 → a < m
-  select_known e = selected (subst (λ j. EntryLaws n m C i a b (entry_kind j)) e g)
-
-  pub then_known : k ≡ 5 → (a < i) × (b < i)
-  then_known e = then_lower (subst (λ j. EntryLaws n m C i a b (entry_kind j)) e g)
-
-  pub or_known : k ≡ 6 → (a < i) × (b < i)
-  or_known e = or_lower (subst (λ j. EntryLaws n m C i a b (entry_kind j)) e g)
 
 -- the set of the entries below n that have a first move, and whether entry n has one
 module _ (l : Layout) (b p : Bytes) (c : Configuration) (n : ℕ) (movable : Atoms) (marked : Movable l b p c n movable) where

@@ -10,29 +10,15 @@ use Rattle.meaning.specs.declared.Layout.{Layout}
 use Rattle.meaning.specs.declared.Configuration.{Configuration}
 use Rattle.meaning.specs.Card.{Bytes}
 use Rattle.choices.specs.Judged.{Marked}
-use Rattle.deliberation.specs.Entries.{entry_count}
 use Rattle.deliberation.specs.Deliberate.{MoveResult, stuck, too_long, on}
-use Rattle.deliberation.specs.Stacked.{Stacked}
-use Rattle.program.specs.GoodProgram.{GoodProgram}
 use Rattle.deliberate.specs.declared.made.MoveMade.{MoveMade}
 use Rattle.deliberate.specs.declared.made.AfterMove.{AfterMove}
-use Rattle.deliberate.specs.Descent.{Stack}
 use Rattle.deliberate.specs.Made.{made_of, configuration_after, numbers_after, Makes, Remains, stayed, kept_as, kept_in}
-use Rattle.deliberate.proofs.Descending.{pushed, later_kept, stacked_room}
+use Rattle.deliberate.proofs.Descending.{pushed, later_kept}
 
 module _ (p stack : Bytes) (top : ℕ) (r : Remains p stack top) (h : top < 128) where
   pub next_first : drop top stack ≡ get_or stack top 0 ∷ drop (top + 1) stack
   next_first = let s = r.room in drop-cons stack top 0 (omega arith) ∙ ap (λ n. get_or stack top 0 ∷ drop n stack) (sym (add-one top))
-
-  pub next_stack : Stack p stack (get_or stack top 0) (top + 1)
-  next_stack = record { room = r.room; within = omega arith; stacked = subst (Stacked (entry_count p)) next_first r.stacked }
-
-  pub next_known : (l : Layout) (b : Bytes) → GoodProgram l b p → (get_or stack top 0 < entry_count p) × (get_or stack top 0 < 128)
-  next_known l b g =
-      let k = stacked_room next_stack.stacked in
-      let some = g.some in
-      let most = g.most in
-      (omega arith, omega arith)
 
 module _ (l : Layout) (b p : Bytes) (c : Configuration) (stack : Bytes) (top : ℕ) (r : Remains p stack top) (h : top < 128) where
   abbrev next : ℕ

@@ -1,5 +1,5 @@
 -- Which entries of a program have a first move: what the call marks.
-use Rattle.std.specs.Prelude.{Bool, true, false, ◌||◌, ℕ}
+use Rattle.std.specs.Prelude.{Bool, true, ◌||◌, ℕ}
 use Rattle.paper.specs.Atoms.{Atoms}
 use Rattle.paper.specs.Language.{Agent, Config}
 use Rattle.paper.specs.Transitions.{Choice}
@@ -9,15 +9,9 @@ use Rattle.meaning.specs.declared.Configuration.{Configuration}
 use Rattle.meaning.specs.Card.{Bytes}
 use Rattle.meaning.specs.Configurations.{state_of}
 use Rattle.sets.specs.Sets.{Passing}
-use Rattle.door.specs.declared.asked.Chosen.{Chosen}
 use Rattle.deliberation.specs.Kinds.{EntryKind, Execute, Apply, Select, WhilePlan, WhileBelief, Then, Or}
 use Rattle.deliberation.specs.FirstMove.{lowest_action}
 use Rattle.deliberation.specs.Entries.{move_at}
-
--- there is a choice
-abbrev pub is_at : Chosen → Bool
-is_at (Chosen.At k n) = true
-is_at Chosen.Nothing = false
 
 -- whether an entry has a first move, by whether its parts have one (move_of)
 abbrev pub movable_of : Agent → Config → EntryKind → ℕ → ℕ → (ℕ → Bool) → Bool

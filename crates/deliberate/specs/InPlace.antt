@@ -1,9 +1,7 @@
 -- What the calls answer where sets, plan and numbers are lent, together with what these hold, as one answer.
-use Rattle.std.specs.Prelude.{◌≡◌, List, ℕ}
+use Rattle.std.specs.Prelude.{◌≡◌, List, ℕ, Ok, Err}
 use Rattle.meaning.specs.declared.Refusal.{Refusal}
-use Rattle.meaning.specs.declared.Answer.{Answer}
-use Rattle.meaning.specs.declared.Answer.TheVariants.{Done, Refused}
-use Rattle.meaning.specs.declared.Checked.{Checked}
+use Rattle.meaning.specs.Answers.{Answer}
 use Rattle.meaning.specs.declared.Configuration.{Configuration}
 use Rattle.meaning.specs.declared.Standing.{Standing}
 use Rattle.meaning.specs.Card.{Bytes, layout}
@@ -37,5 +35,5 @@ refused_with a m = record { answer = a; count = 0; ending = DeliberationEnding.S
 -- what is found of a card and a program: both are good; or one is not, and the call is refused with its number, whatever the
 -- numbers and the configuration
 pub record Admits (b p : Bytes) (a : Answer) : Type 0 where
-  pub good : a ≡ Done → (checks b ≡ Checked.Good (layout b)) × GoodProgram (layout b) b p
-  pub bad : (q : Refusal) → a ≡ Refused q → (ns : List ℕ) (c : Configuration) → go_on_answer b p ns c ≡ Refused q
+  pub good : a ≡ Ok tt → (checks b ≡ Ok (layout b)) × GoodProgram (layout b) b p
+  pub bad : (q : Refusal) → a ≡ Err q → (ns : List ℕ) (c : Configuration) → go_on_answer b p ns c ≡ Err q

@@ -3,6 +3,7 @@ use Rattle.std.specs.Prelude.{◌≡◌, Bool, true, false, not, List, ◌∷◌
 use Rattle.std.proofs.Math.Option.{Option, none}
 use Rattle.paper.specs.Language.{Agent, Config}
 use Rattle.paper.specs.Transitions.{Choice}
+use Rattle.runs.specs.Kinds.{kind_number}
 use Rattle.meaning.specs.declared.Standing.{Standing}
 use Rattle.meaning.specs.declared.Layout.{Layout}
 use Rattle.meaning.specs.declared.Node.{Node}
@@ -16,7 +17,6 @@ use Rattle.deliberation.specs.FirstMove.{lowest_action, if_enabled}
 use Rattle.deliberation.specs.Entries.{entry_count, move_at}
 use Rattle.deliberation.specs.Deliberate.{MoveResult, stuck, too_long, on, move_result}
 use Rattle.deliberation.specs.Stacked.{Stacked}
-use Rattle.door.specs.declared.asked.Chosen.{Chosen}
 use Rattle.door.specs.Asking.{first_of_kind}
 use Rattle.deliberate.specs.declared.made.Reached.{Reached}
 use Rattle.deliberate.specs.Descent.{AtLeaf}
@@ -82,11 +82,6 @@ taken A s WhileBelief a = none
 taken A s Then a = none
 taken A s Or a = none
 
--- a choice of a kind and a number, if it is open
-abbrev pub if_open : Bool → ℕ → ℕ → Chosen
-if_open true k n = Chosen.At k n
-if_open false k n = Chosen.Nothing
-
 -- the entry in which the first move of entry n is made, which has numbers behind it as ns stand behind n, and the lowest enabled
 -- action where it is an execute
 pub record Found (l : Layout) (b p : Bytes) (c : Configuration) (n : ℕ) (ns : List ℕ) (r : Reached) (stack : Bytes) : Type 0 where
@@ -97,13 +92,13 @@ pub record Found (l : Layout) (b p : Bytes) (c : Configuration) (n : ℕ) (ns : 
 
 -- what a transition comes to, as a move
 abbrev pub made_by : Transition → MoveMade
-made_by (Transition.Taken k i) = MoveMade.On
+made_by (Transition.Taken t) = MoveMade.On
 made_by Transition.Nothing = MoveMade.Stuck
 made_by Transition.Full = MoveMade.Full
 
 -- only an action changes beliefs and goals
 abbrev pub known_after : Transition → Bool
-known_after (Transition.Taken k i) = not (eqb k 1)
+known_after (Transition.Taken t) = not (eqb (kind_number t.kind) 1)
 known_after Transition.Nothing = true
 known_after Transition.Full = true
 

@@ -1,8 +1,7 @@
 // The calls `deliberate` and `go on` (02, Wish 6), where sets, plan and the numbers that remain are lent: the card, the program,
 // the given numbers and the configuration are checked in this order. A refusal writes to no lent buffer.
-ghost use Rattle.std.specs.Prelude.{◌≡◌, true, [], ◌∷◌, ◌-◌, ◌/◌, ◌≤◌, length, drop};
+ghost use Rattle.std.specs.Prelude.{◌≡◌, true, [], ◌∷◌, ◌-◌, ◌/◌, ◌≤◌, length, drop, Ok};
 ghost use Rattle.door.specs.Words.{configured};
-ghost use Rattle.meaning.specs.declared.Checked.{Checked};
 ghost use Rattle.meaning.specs.Card.{layout};
 ghost use Rattle.meaning.specs.Calls.{checks};
 ghost use Rattle.deliberation.specs.Entries.{entry_count, numbers_good};
@@ -13,12 +12,13 @@ ghost use Rattle.deliberate.specs.Ran.{Starts, outcome_of};
 
 use crate::made::Point;
 use crate::run::run_moves;
-use card::check::{answer_of, check};
+use card::check::{accept, answer_of};
 use deliberation::DeliberationEnding;
 use door::configuration::judge_configuration;
-use layout::bytes::{byte_below, copy, down, size};
+use layout::bytes::{byte_below, down};
+use layout::card::Card;
 use layout::header::read_layout;
-use meaning::{Answer, Checked, Layout, Plan, Refusal, Set, Standing};
+use meaning::{Answer, Plan, Refusal, Set, Standing};
 use plans::clear;
 use program::judge_program;
 
@@ -37,7 +37,7 @@ fn refused(answer: Answer, m: Standing) -> DeliberatedInPlace
     ensures { result ≡ refused_with answer m }
 {
     DeliberatedInPlace {
-        answer: answer,
+        answer,
         count: 0,
         ending: DeliberationEnding::Spent,
         standing: m,
@@ -49,11 +49,11 @@ fn refused(answer: Answer, m: Standing) -> DeliberatedInPlace
 fn check_program(card: &[u8], program: &[u8]) -> Answer
     ensures { Admits card.now program.now result }
 {
-    let checked = check(card);
-    let Checked::Good(l) = checked else {
-        return answer_of(checked);
+    let accepted = accept(card);
+    let Ok(card) = accepted else {
+        return answer_of(accepted);
     };
-    judge_program(card, l, program)
+    judge_program(&card, program)
 }
 
 // Whether a deliberation may go on from given numbers: each, plus how many stand behind it, is below the number of entries.
@@ -64,12 +64,10 @@ fn numbers_good(given: &[u8], entries: usize) -> bool
     if entries < n {
         return false;
     }
-    let mut i: usize = 0;
-    while i < n {
+    for i in 0..n {
         if !byte_below(given[i], entries - (n - i - 1)) {
             return false;
         }
-        i += 1;
     }
     true
 }
@@ -80,9 +78,7 @@ fn put_numbers(remaining: &mut [u8; 128], given: &[u8])
     ensures { (drop (128 - length given.now) remaining.new ≡ given.now)
         × (length remaining.new ≡ 128) }
 {
-    let n = given.len();
-    let room = size(remaining);
-    copy(remaining, room - n, given, 0, n);
+    remaining[128 - given.len()..].copy_from_slice(given);
 }
 
 // The numbers from top on to the front, and zeros behind them.
@@ -98,8 +94,7 @@ fn hand_out(remaining: &mut [u8; 128], top: usize) -> u8
 
 // The moves of an accepted card, program and configuration, from accepted numbers.
 fn from_moves(
-    card: &[u8],
-    l: Layout,
+    card: &Card,
     beliefs: &mut Set,
     goals: &mut Set,
     at: Point,
@@ -108,23 +103,18 @@ fn from_moves(
     budget: u16,
     remaining: &mut [u8; 128],
 ) -> DeliberatedInPlace
-    requires { Starts l card.now program.now (configured beliefs.old goals.old at.standing plan.old) remaining.old at.top }
+    requires { Starts card.now.layout card.now.bytes.now program.now (configured beliefs.old goals.old at.standing plan.old) remaining.old at.top }
     ensures { deliberated_with result beliefs.new goals.new plan.new remaining.new
-        ≡ deliberated (outcome_of l card.now program.now budget
+        ≡ deliberated (outcome_of card.now.layout card.now.bytes.now program.now budget
         (configured beliefs.old goals.old at.standing plan.old) (drop at.top remaining.old)) }
 {
-    let ran = run_moves(
-        card, l, beliefs, goals, at, plan, program, budget, remaining,
-    );
-    let n = hand_out(remaining, ran.top);
-    let after = ran.standing;
-    let ending = ran.ending;
+    let ran = run_moves(card, beliefs, goals, at, plan, program, budget, remaining);
     DeliberatedInPlace {
-        answer: Answer::Done,
+        answer: Ok(()),
         count: ran.count,
-        ending: ending,
-        standing: after,
-        length: n,
+        ending: ran.ending,
+        standing: ran.standing,
+        length: hand_out(remaining, ran.top),
     }
 }
 
@@ -140,15 +130,19 @@ fn from_configuration(
     budget: u16,
     remaining: &mut [u8; 128],
 ) -> DeliberatedInPlace
-    requires { (checks card.now ≡ Checked.Good (layout card.now)) × GoodProgram (layout card.now) card.now program.now
+    requires { (checks card.now ≡ Ok (layout card.now)) × GoodProgram (layout card.now) card.now program.now
         × (numbers_good (entry_count program.now) given.now ≡ true) }
     ensures { deliberated_with result beliefs.new goals.new plan.new remaining.new
         ≡ goes_on card.now program.now given.now
         (configured beliefs.old goals.old m plan.old) budget remaining.old }
 {
-    let l = read_layout(card);
-    let judged = judge_configuration(l, beliefs, goals, m, plan);
-    let Answer::Done = judged else {
+    let layout = read_layout(card);
+    let card = Card {
+        bytes: card,
+        layout,
+    };
+    let judged = judge_configuration(card.layout, beliefs, goals, m, plan);
+    let Ok(()) = judged else {
         return refused(judged, m);
     };
     put_numbers(remaining, given);
@@ -157,7 +151,7 @@ fn from_configuration(
         top: 128 - given.len(),
     };
     from_moves(
-        card, l, beliefs, goals, first, plan, program, budget, remaining,
+        &card, beliefs, goals, first, plan, program, budget, remaining,
     )
 }
 
@@ -186,7 +180,7 @@ pub fn deliberate(
         (configured beliefs.old goals.old m plan.old) budget remaining.old }
 {
     let checked = check_program(card, program);
-    let Answer::Done = checked else {
+    let Ok(()) = checked else {
         return refused(checked, m);
     };
     let given = whole_program(program.len() / 4);
@@ -212,11 +206,11 @@ pub fn go_on(
         (configured beliefs.old goals.old m plan.old) budget remaining.old }
 {
     let checked = check_program(card, program);
-    let Answer::Done = checked else {
+    let Ok(()) = checked else {
         return refused(checked, m);
     };
     if !numbers_good(given, program.len() / 4) {
-        return refused(Answer::Refused(Refusal::Program), m);
+        return refused(Err(Refusal::Program), m);
     }
     from_configuration(
         card, beliefs, goals, m, plan, program, given, budget, remaining,

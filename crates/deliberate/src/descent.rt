@@ -33,24 +33,20 @@ fn into_part(e: Node, movable: &[u8; 16], stack: &mut [u8; 128], top: usize) -> 
     ensures into { Into e (e.a ∈ movable.now) (drop top stack.old) result.at (drop result.top stack.new) }
     ensures top_le_top { (result.top ≤ top) × (length stack.new ≡ 128) × (drop top stack.new ≡ drop top stack.old) }
 {
-    let a = e.a;
-    let b = e.b;
+    let left = e.a as usize;
     if e.kind == 5 {
-        stack[top - 1] = b;
-        return Part {
-            at: a as usize,
+        stack[top - 1] = e.b;
+        Part {
+            at: left,
             top: top - 1,
-        };
-    }
-    if has_member(movable, a as usize) {
-        return Part {
-            at: a as usize,
-            top: top,
-        };
-    }
-    Part {
-        at: b as usize,
-        top: top,
+        }
+    } else if has_member(movable, left) {
+        Part { at: left, top }
+    } else {
+        Part {
+            at: e.b as usize,
+            top,
+        }
     }
 }
 
@@ -66,16 +62,14 @@ pub fn lead(program: &[u8], stack: &mut [u8; 128], from: usize, top: usize) -> L
     let mut rest = top;
     let mut e = read_entry(program, at);
     while e.kind == 5 {
-        let a = e.a;
-        let b = e.b;
-        stack[rest - 1] = b;
+        stack[rest - 1] = e.b;
         rest -= 1;
-        at = a as usize;
+        at = e.a as usize;
         e = read_entry(program, at);
     }
     Leaf {
         entry: e,
-        at: at,
+        at,
         top: rest,
     }
 }
@@ -105,7 +99,7 @@ pub fn descend(
     }
     Leaf {
         entry: e,
-        at: at,
+        at,
         top: rest,
     }
 }

@@ -1,23 +1,26 @@
 // A move is made: the first move of the next of the numbers that remain. 02, Wish 6: "Each move is one of the document's
 // meta-level transitions, with selection added".
 ghost use Rattle.std.specs.Prelude.{◌≡◌, Bool, [], ℕ, ◌≤◌, ◌<◌, length, drop};
-ghost use Rattle.door.specs.Words.{Bytes, agent_for, state_of, configured, Ready, chosen, first_of_kind};
+ghost use Rattle.door.specs.Words.{Bytes, kind_number, agent_for, state_of, configured, Ready, choice_of, chosen, first_of_kind};
+ghost use Rattle.layout.specs.Entries.{count_of};
 ghost use Rattle.choices.specs.Judged.{mark_at, Judged, SomeSets, AllSets};
 ghost use Rattle.deliberation.specs.Kinds.{EntryKind, entry_kind};
-ghost use Rattle.deliberation.specs.FirstMove.{by_choice};
+ghost use Rattle.deliberation.specs.FirstMove.{by_choice, if_enabled};
 ghost use Rattle.deliberation.specs.Entries.{move_at};
 ghost use Rattle.deliberation.specs.Deliberate.{move_result};
 ghost use Rattle.program.specs.GoodProgram.{GoodEntry, GoodProgram};
 ghost use Rattle.deliberate.specs.Descent.{Stack, AtLeaf};
-ghost use Rattle.deliberate.specs.Made.{Makes, MakesNext, Remains, stayed, taken, if_open, Found, moved_by, HoldsBy, again, kept_as, kept_in};
+ghost use Rattle.deliberate.specs.Made.{Makes, MakesNext, Remains, stayed, taken, Found, moved_by, HoldsBy, again, kept_as, kept_in};
 
 use crate::descent::{Leaf, descend, lead};
 use crate::first::mark_moves;
 use choices::ask::{first_of_kind, is_enabled};
 use choices::truth::{Marks, is_true};
-use door::asked::Chosen;
-use meaning::{Layout, Node, Plan, Set, Standing};
+use door::asked::Choice;
+use layout::card::Card;
+use meaning::{Node, Plan, Set, Standing};
 use moves::step::{Stepped, Transition, step};
+use runs::Kind;
 
 // What a move comes to: it is made; there is none; or the plan that it leaves is too long.
 #[derive(Clone, Copy)]
@@ -50,43 +53,56 @@ fn stays(m: Standing, made: MoveMade, top: usize) -> AfterMove
 {
     AfterMove {
         standing: m,
-        made: made,
+        made,
         known: true,
-        top: top,
+        top,
     }
 }
 
-// A choice of a kind and a number, if it is open.
-fn if_open(enabled: bool, kind: u8, i: usize) -> Chosen
-    ensures { result ≡ if_open enabled kind i }
+// A choice that the card has, if it is enabled.
+fn if_enabled(
+    card: &Card,
+    m: Standing,
+    plan: &Plan,
+    marks: &Marks,
+    choice: Choice,
+) -> Option<Choice>
+    requires { SomeSets card.now.layout card.now.bytes.now m plan.now marks.now × (choice.number < count_of card.now.layout (kind_number choice.kind)) }
+    ensures { AllSets card.now.layout card.now.bytes.now m plan.now marks.now
+        (λ c. result ≡ chosen (if_enabled (agent_for card.now.layout card.now.bytes.now) (state_of c).mental (choice_of choice))) }
 {
-    if enabled {
-        return Chosen::At(kind, i);
+    if is_enabled(card, m, plan, marks, choice) {
+        Some(choice)
+    } else {
+        None
     }
-    Chosen::Nothing
 }
 
 // The choice of an execute, an apply or a select, if it has one: "Execute takes the lowest enabled specification."
 fn choice_of(
-    card: &[u8],
-    l: Layout,
+    card: &Card,
     m: Standing,
     plan: &Plan,
     marks: &Marks,
     e: Node,
-    action: Chosen,
-) -> Chosen
-    requires { SomeSets l card.now m plan.now marks.now × (e.kind < 3) × ((i : ℕ) × GoodEntry l card.now i e) }
-    ensures { AllSets l card.now m plan.now marks.now
-        (λ c. (e.kind ≡ 0 → action ≡ first_of_kind l card.now c 1)
-        → result ≡ chosen (taken (agent_for l card.now) (state_of c).mental (entry_kind e.kind) e.a)) }
+    action: Option<Choice>,
+) -> Option<Choice>
+    requires { SomeSets card.now.layout card.now.bytes.now m plan.now marks.now × (e.kind < 3) × ((i : ℕ) × GoodEntry card.now.layout card.now.bytes.now i e) }
+    ensures { AllSets card.now.layout card.now.bytes.now m plan.now marks.now
+        (λ c. (e.kind ≡ 0 → action ≡ first_of_kind card.now.layout card.now.bytes.now c 1)
+        → result ≡ chosen (taken (agent_for card.now.layout card.now.bytes.now) (state_of c).mental (entry_kind e.kind) e.a)) }
 {
-    let kind = e.kind;
-    let a = e.a as usize;
-    match kind {
+    let number = e.a as usize;
+    match e.kind {
         0 => action,
-        1 => if_open(is_enabled(card, l, m, plan, marks, 2, a), 2, a),
-        _ => if_open(is_enabled(card, l, m, plan, marks, 0, a), 0, a),
+        1 => {
+            let kind = Kind::Revision;
+            if_enabled(card, m, plan, marks, Choice { kind, number })
+        }
+        _ => {
+            let kind = Kind::Selection;
+            if_enabled(card, m, plan, marks, Choice { kind, number })
+        }
     }
 }
 
@@ -94,48 +110,44 @@ fn choice_of(
 fn moved_by(s: Stepped, top: usize) -> AfterMove
     ensures { result ≡ moved_by s.standing s.transition top }
 {
-    let m = s.standing;
-    let transition = s.transition;
-    match transition {
-        Transition::Taken(kind, _) => AfterMove {
-            standing: m,
+    match s.transition {
+        Transition::Taken(choice) => AfterMove {
+            standing: s.standing,
             made: MoveMade::On,
-            known: kind != 1,
-            top: top,
+            known: !matches!(choice.kind, Kind::Action),
+            top,
         },
-        Transition::Nothing => stays(m, MoveMade::Stuck, top),
-        Transition::Full => stays(m, MoveMade::Full, top),
+        Transition::Nothing => stays(s.standing, MoveMade::Stuck, top),
+        Transition::Full => stays(s.standing, MoveMade::Full, top),
     }
 }
 
 // The transition of an execute, an apply or a select, by its choice.
 fn make_choice(
-    card: &[u8],
-    l: Layout,
+    card: &Card,
     beliefs: &mut Set,
     goals: &mut Set,
     m: Standing,
     plan: &mut Plan,
-    choice: Chosen,
+    choice: Option<Choice>,
     top: usize,
 ) -> AfterMove
-    requires { Ready l card.now (configured beliefs.old goals.old m plan.old) × ((κ : EntryKind) × ((a : ℕ)
-        × (choice ≡ chosen (taken (agent_for l card.now) (state_of (configured beliefs.old goals.old m plan.old)).mental κ a)))) }
+    requires { Ready card.now.layout card.now.bytes.now (configured beliefs.old goals.old m plan.old) × ((κ : EntryKind) × ((a : ℕ)
+        × (choice ≡ chosen (taken (agent_for card.now.layout card.now.bytes.now) (state_of (configured beliefs.old goals.old m plan.old)).mental κ a)))) }
     ensures { (κ : EntryKind) (a : ℕ)
-        → choice ≡ chosen (taken (agent_for l card.now)
+        → choice ≡ chosen (taken (agent_for card.now.layout card.now.bytes.now)
         (state_of (configured beliefs.old goals.old m plan.old)).mental κ a)
         → (stack : Bytes) → top ≤ 128 → length stack ≡ 128
-        → Makes l card.now (configured beliefs.old goals.old m plan.old) (drop top stack)
-        (move_result (agent_for l card.now) (state_of (configured beliefs.old goals.old m plan.old))
-        (by_choice (taken (agent_for l card.now)
+        → Makes card.now.layout card.now.bytes.now (configured beliefs.old goals.old m plan.old) (drop top stack)
+        (move_result (agent_for card.now.layout card.now.bytes.now) (state_of (configured beliefs.old goals.old m plan.old))
+        (by_choice (taken (agent_for card.now.layout card.now.bytes.now)
         (state_of (configured beliefs.old goals.old m plan.old)).mental κ a) [])
         (drop top stack)) result (configured beliefs.new goals.new result.standing plan.new) stack }
 {
-    let Chosen::At(kind, i) = choice else {
+    let Some(choice) = choice else {
         return stays(m, MoveMade::Stuck, top);
     };
-    let s = step(card, l, beliefs, goals, m, plan, kind, i);
-    moved_by(s, top)
+    moved_by(step(card, beliefs, goals, m, plan, choice), top)
 }
 
 // Whether a while's condition holds: "3 while the plan is not empty do b, 4 while belief condition a holds do b".
@@ -143,11 +155,9 @@ fn holds(e: Node, m: Standing, marks: &Marks) -> bool
     requires { (3 ≤ e.kind) × (e.kind < 5) }
     ensures { HoldsBy e m.length (mark_at marks.now e.a).0 result }
 {
-    let kind = e.kind;
-    let a = e.a as usize;
-    match kind {
+    match e.kind {
         3 => m.length != 0,
-        _ => is_true(marks[a]),
+        _ => is_true(marks[e.a as usize]),
     }
 }
 
@@ -171,13 +181,12 @@ fn turn(e: Node, i: usize, m: Standing, marks: &Marks, stack: &mut [u8; 128], to
 #[derive(Clone, Copy)]
 pub struct Reached {
     pub leaf: Leaf,
-    pub action: Chosen,
+    pub action: Option<Choice>,
 }
 
 // The move of an entry without parts, or of a while: where a descent ends.
 fn move_leaf(
-    card: &[u8],
-    l: Layout,
+    card: &Card,
     beliefs: &mut Set,
     goals: &mut Set,
     m: Standing,
@@ -186,14 +195,14 @@ fn move_leaf(
     reached: Reached,
     stack: &mut [u8; 128],
 ) -> AfterMove
-    requires judged { Judged l card.now (configured beliefs.old goals.old m plan.old) marks.now
-        × (reached.leaf.entry.kind ≡ 0 → reached.action ≡ first_of_kind l card.now (configured beliefs.old goals.old m plan.old) 1) }
-    requires good_program { (p : Bytes) × (GoodProgram l card.now p × AtLeaf p stack.old reached.leaf) }
-    ensures { (p : Bytes) → GoodProgram l card.now p → AtLeaf p stack.old reached.leaf
-        → Makes l card.now (configured beliefs.old goals.old m plan.old)
+    requires judged { Judged card.now.layout card.now.bytes.now (configured beliefs.old goals.old m plan.old) marks.now
+        × (reached.leaf.entry.kind ≡ 0 → reached.action ≡ first_of_kind card.now.layout card.now.bytes.now (configured beliefs.old goals.old m plan.old) 1) }
+    requires good_program { (p : Bytes) × (GoodProgram card.now.layout card.now.bytes.now p × AtLeaf p stack.old reached.leaf) }
+    ensures { (p : Bytes) → GoodProgram card.now.layout card.now.bytes.now p → AtLeaf p stack.old reached.leaf
+        → Makes card.now.layout card.now.bytes.now (configured beliefs.old goals.old m plan.old)
         (drop reached.leaf.top stack.old)
-        (move_result (agent_for l card.now) (state_of (configured beliefs.old goals.old m plan.old))
-        (move_at l card.now p (state_of (configured beliefs.old goals.old m plan.old)).mental reached.leaf.at)
+        (move_result (agent_for card.now.layout card.now.bytes.now) (state_of (configured beliefs.old goals.old m plan.old))
+        (move_at card.now.layout card.now.bytes.now p (state_of (configured beliefs.old goals.old m plan.old)).mental reached.leaf.at)
         (drop reached.leaf.top stack.old)) result
         (configured beliefs.new goals.new result.standing plan.new) stack.new }
 {
@@ -203,9 +212,8 @@ fn move_leaf(
         let rest = turn(e, leaf.at, m, marks, stack, leaf.top);
         return stays(m, MoveMade::On, rest);
     }
-    let action = reached.action;
-    let choice = choice_of(card, l, m, plan, marks, e, action);
-    make_choice(card, l, beliefs, goals, m, plan, choice, leaf.top)
+    let choice = choice_of(card, m, plan, marks, e, reached.action);
+    make_choice(card, beliefs, goals, m, plan, choice, leaf.top)
 }
 
 // A move that is not made leaves the numbers as they were: `next` stands at top again.
@@ -215,32 +223,27 @@ fn put_back(made: MoveMade, stack: &mut [u8; 128], top: usize, next: u8)
 {
     match made {
         MoveMade::On => {}
-        MoveMade::Stuck => {
-            stack[top] = next;
-        }
-        MoveMade::Full => {
-            stack[top] = next;
-        }
+        MoveMade::Stuck | MoveMade::Full => stack[top] = next,
     }
 }
 
 // The lowest enabled action, where an entry of this kind is an execute.
-fn action_for(card: &[u8], l: Layout, m: Standing, plan: &Plan, marks: &Marks, kind: u8) -> Chosen
-    requires { SomeSets l card.now m plan.now marks.now }
-    ensures { AllSets l card.now m plan.now marks.now
-        (λ c. kind ≡ 0 → result ≡ first_of_kind l card.now c 1) }
+fn action_for(card: &Card, m: Standing, plan: &Plan, marks: &Marks, kind: u8) -> Option<Choice>
+    requires { SomeSets card.now.layout card.now.bytes.now m plan.now marks.now }
+    ensures { AllSets card.now.layout card.now.bytes.now m plan.now marks.now
+        (λ c. kind ≡ 0 → result ≡ first_of_kind card.now.layout card.now.bytes.now c 1) }
 {
     if kind == 0 {
-        return first_of_kind(card, l, m, plan, marks, 1);
+        first_of_kind(card, m, plan, marks, Kind::Action)
+    } else {
+        None
     }
-    Chosen::Nothing
 }
 
 // Down from an entry to the one in which its first move is made. An entry without parts and a while are asked about themselves
 // alone; the others are marked for a choice, whose left part is taken if it has a first move.
 fn reach(
-    card: &[u8],
-    l: Layout,
+    card: &Card,
     m: Standing,
     plan: &Plan,
     marks: &Marks,
@@ -249,33 +252,29 @@ fn reach(
     from: usize,
     top: usize,
 ) -> Reached
-    requires { SomeSets l card.now m plan.now marks.now × GoodProgram l card.now program.now × Stack program.now stack.old from top }
-    ensures all_sets { AllSets l card.now m plan.now marks.now
-        (λ c. Found l card.now program.now c from (drop top stack.old) result stack.new) }
+    requires { SomeSets card.now.layout card.now.bytes.now m plan.now marks.now × GoodProgram card.now.layout card.now.bytes.now program.now × Stack program.now stack.old from top }
+    ensures all_sets { AllSets card.now.layout card.now.bytes.now m plan.now marks.now
+        (λ c. Found card.now.layout card.now.bytes.now program.now c from (drop top stack.old) result stack.new) }
     ensures top_le_top { (result.leaf.top ≤ top) × (drop top stack.new ≡ drop top stack.old) }
 {
     let first = lead(program, stack, from, top);
-    let kind = first.entry.kind;
-    if kind < 5 {
-        let action = action_for(card, l, m, plan, marks, kind);
+    if first.entry.kind < 5 {
         return Reached {
             leaf: first,
-            action: action,
+            action: action_for(card, m, plan, marks, first.entry.kind),
         };
     }
-    let action = first_of_kind(card, l, m, plan, marks, 1);
-    let movable = mark_moves(card, l, m, plan, marks, program, action, first.at);
-    let leaf = descend(program, &movable, stack, first.at, first.top);
+    let action = first_of_kind(card, m, plan, marks, Kind::Action);
+    let movable = mark_moves(card, m, plan, marks, program, action, first.at);
     Reached {
-        leaf: leaf,
-        action: action,
+        leaf: descend(program, &movable, stack, first.at, first.top),
+        action,
     }
 }
 
 // The first move of the number at top, where every node's truth is known. Where it is not made, the numbers begin at top as before.
 pub fn make_move(
-    card: &[u8],
-    l: Layout,
+    card: &Card,
     beliefs: &mut Set,
     goals: &mut Set,
     at: Point,
@@ -284,29 +283,18 @@ pub fn make_move(
     program: &[u8],
     stack: &mut [u8; 128],
 ) -> AfterMove
-    requires judged { Judged l card.now (configured beliefs.old goals.old at.standing plan.old) marks.now
-        × GoodProgram l card.now program.now }
+    requires judged { Judged card.now.layout card.now.bytes.now (configured beliefs.old goals.old at.standing plan.old) marks.now
+        × GoodProgram card.now.layout card.now.bytes.now program.now }
     requires remains { Remains program.now stack.old at.top × (at.top < 128) }
-    ensures { MakesNext l card.now program.now
+    ensures { MakesNext card.now.layout card.now.bytes.now program.now
         (configured beliefs.old goals.old at.standing plan.old) stack.old at.top
         (kept_as result.made result at.top) (configured beliefs.new goals.new result.standing plan.new) stack.new }
 {
     let m = at.standing;
     let top = at.top;
     let next = stack[top];
-    let reached = reach(
-        card,
-        l,
-        m,
-        plan,
-        marks,
-        program,
-        stack,
-        next as usize,
-        top + 1,
-    );
-    let moved = move_leaf(card, l, beliefs, goals, m, plan, marks, reached, stack);
-    let made = moved.made;
-    put_back(made, stack, top, next);
+    let reached = reach(card, m, plan, marks, program, stack, next as usize, top + 1);
+    let moved = move_leaf(card, beliefs, goals, m, plan, marks, reached, stack);
+    put_back(moved.made, stack, top, next);
     moved
 }

@@ -4,9 +4,11 @@ ghost use Rattle.door.specs.Words.{configured};
 ghost use Rattle.deliberate.specs.Ran.{Starts, outcome_of, RanTo, stopped_by};
 
 use crate::made::{MoveMade, Point, make_move};
-use choices::truth::{judge_nodes, no_marks};
+use choices::truth::no_marks;
 use deliberation::DeliberationEnding;
-use meaning::{Layout, Plan, Set, Standing};
+use layout::card::Card;
+use meaning::{Plan, Set, Standing};
+use moves::run::refresh;
 
 // What a deliberation comes to beside the sets, the plan and the numbers that remain: where these begin.
 #[derive(Clone, Copy)]
@@ -21,11 +23,10 @@ pub struct RanMoves {
 fn ended(at: Point, count: u16, ending: DeliberationEnding) -> RanMoves
     ensures { result ≡ record { standing = at.standing; count = count; ending = ending; top = at.top } }
 {
-    let m = at.standing;
     RanMoves {
-        standing: m,
-        count: count,
-        ending: ending,
+        standing: at.standing,
+        count,
+        ending,
         top: at.top,
     }
 }
@@ -44,8 +45,7 @@ fn stopped(made: MoveMade) -> DeliberationEnding
 // "Endings, in this order: spent, finished, stuck, full." The nodes are judged at most once a move: their marks stay true until an
 // action.
 pub fn run_moves(
-    card: &[u8],
-    l: Layout,
+    card: &Card,
     beliefs: &mut Set,
     goals: &mut Set,
     at: Point,
@@ -54,32 +54,26 @@ pub fn run_moves(
     budget: u16,
     stack: &mut [u8; 128],
 ) -> RanMoves
-    requires { Starts l card.now program.now (configured beliefs.old goals.old at.standing plan.old) stack.old at.top }
-    ensures { RanTo (outcome_of l card.now program.now budget
+    requires { Starts card.now.layout card.now.bytes.now program.now (configured beliefs.old goals.old at.standing plan.old) stack.old at.top }
+    ensures { RanTo (outcome_of card.now.layout card.now.bytes.now program.now budget
         (configured beliefs.old goals.old at.standing plan.old) (drop at.top stack.old))
         result (configured beliefs.new goals.new result.standing plan.new) stack.new }
 {
     let mut here = at;
     let mut marks = no_marks();
     let mut known = false;
-    let mut count: u16 = 0;
-    while count < budget {
+    for count in 0..budget {
         if here.top == 128 {
             return ended(here, count, DeliberationEnding::Finished);
         }
-        if !known {
-            judge_nodes(card, l, beliefs, goals, &mut marks);
-        }
-        let moved = make_move(card, l, beliefs, goals, here, plan, &marks, program, stack);
-        let made = moved.made;
-        let after = moved.standing;
-        here.standing = after;
-        let MoveMade::On = made else {
-            return ended(here, count, stopped(made));
+        refresh(card, beliefs, goals, known, &mut marks);
+        let moved = make_move(card, beliefs, goals, here, plan, &marks, program, stack);
+        here.standing = moved.standing;
+        let MoveMade::On = moved.made else {
+            return ended(here, count, stopped(moved.made));
         };
         known = moved.known;
         here.top = moved.top;
-        count += 1;
     }
-    ended(here, count, DeliberationEnding::Spent)
+    ended(here, budget, DeliberationEnding::Spent)
 }

@@ -14,8 +14,8 @@ use Rattle.runs.specs.Run.{Chain, stay, ◌then◌}
 use Rattle.runs.specs.Theorems.{NoneBelieved}
 use Rattle.runs.proofs.Goals.{goal_law}
 use Rattle.meaning.specs.declared.Refusal.{Refusal}
-use Rattle.meaning.specs.declared.Answer.{Answer}
-use Rattle.meaning.specs.declared.Answer.TheVariants.{Done, Refused}
+use Rattle.meaning.specs.Answers.{Answer}
+use Rattle.std.specs.Prelude.{Ok, Err}
 use Rattle.meaning.specs.declared.Layout.{Layout}
 use Rattle.meaning.specs.declared.Configuration.{Configuration}
 use Rattle.meaning.specs.Card.{Bytes, layout, conditions, agent}
@@ -43,11 +43,11 @@ module _ (b p : Bytes) (ns : List ℕ) (c : Configuration) (budget : ℕ) where
   outcome = deliberate (agent b) (conditions 𝐁 (layout b) b) (entries_of p) budget ns (state_of c)
 
   module _ (lent : Bytes) where
-    pub goes_on_done : go_on_answer b p ns c ≡ Done → goes_on b p ns c budget lent ≡ deliberated outcome
+    pub goes_on_done : go_on_answer b p ns c ≡ Ok tt → goes_on b p ns c budget lent ≡ deliberated outcome
     unfolding goes_on
     goes_on_done e = rw (e, goes_on)
 
-    pub goes_on_refused : (q : Refusal) → go_on_answer b p ns c ≡ Refused q → goes_on b p ns c budget lent ≡ refused q c lent
+    pub goes_on_refused : (q : Refusal) → go_on_answer b p ns c ≡ Err q → goes_on b p ns c budget lent ≡ refused q c lent
     unfolding goes_on
     goes_on_refused q e = rw (e, goes_on)
 
@@ -58,10 +58,10 @@ module _ {X : Type 0} (r : Refusal) (good : X → Bool) (x : X) where
   abbrev row : Row X
   row = r given_when (λ x. not (good x))
 
-  bad_row : good x ≡ false → first_given (row ∷ []) x ≡ Refused r
+  bad_row : good x ≡ false → first_given (row ∷ []) x ≡ Err r
   bad_row e = given row [] x (rw e)
 
-  good_row : good x ≡ true → first_given (row ∷ []) x ≡ Done
+  good_row : good x ≡ true → first_given (row ∷ []) x ≡ Ok tt
   unfolding first_given
   good_row e = not_given row [] x (rw e)
 
@@ -72,12 +72,12 @@ module _ (b p : Bytes) (ns : List ℕ) (c : Configuration) where
   abbrev numbers_test : List ℕ → Bool
   numbers_test = numbers_good (entry_count p)
 
-  pub card_refused : (q : Refusal) → card_answer b ≡ Refused q → go_on_answer b p ns c ≡ Refused q
+  pub card_refused : (q : Refusal) → card_answer b ≡ Err q → go_on_answer b p ns c ≡ Err q
   unfolding go_on_answer
   card_refused q e = rw e
 
-  module _ (card : card_answer b ≡ Done) where
-    pub program_refused : program_test p ≡ false → go_on_answer b p ns c ≡ Refused Refusal.Program
+  module _ (card : card_answer b ≡ Ok tt) where
+    pub program_refused : program_test p ≡ false → go_on_answer b p ns c ≡ Err Refusal.Program
     unfolding go_on_answer program_table
     program_refused e = rw (card, bad_row Refusal.Program program_test p e)
 
@@ -86,7 +86,7 @@ module _ (b p : Bytes) (ns : List ℕ) (c : Configuration) where
       unfolding go_on_answer program_table
       after_program = rw (card, good_row Refusal.Program program_test p program)
 
-      bad_numbers : numbers_test ns ≡ false → go_on_answer b p ns c ≡ Refused Refusal.Program
+      bad_numbers : numbers_test ns ≡ false → go_on_answer b p ns c ≡ Err Refusal.Program
       unfolding numbers_table
       bad_numbers e = after_program ∙ rw (bad_row Refusal.Program numbers_test ns e)
 
@@ -95,49 +95,49 @@ module _ (b p : Bytes) (ns : List ℕ) (c : Configuration) where
         unfolding numbers_table
         after_numbers = after_program ∙ rw (good_row Refusal.Program numbers_test ns numbers)
 
-        pub configuration_refused : configuration_good (layout b) c ≡ false → go_on_answer b p ns c ≡ Refused Refusal.Configuration
+        pub configuration_refused : configuration_good (layout b) c ≡ false → go_on_answer b p ns c ≡ Err Refusal.Configuration
         unfolding configuration_table
         configuration_refused e = after_numbers ∙ bad_row Refusal.Configuration (configuration_good (layout b)) c e
 
-        pub nothing_refused : configuration_good (layout b) c ≡ true → go_on_answer b p ns c ≡ Done
+        pub nothing_refused : configuration_good (layout b) c ≡ true → go_on_answer b p ns c ≡ Ok tt
         unfolding configuration_table
         nothing_refused e = after_numbers ∙ good_row Refusal.Configuration (configuration_good (layout b)) c e
 
     -- with a bad program too
-    pub numbers_refused : numbers_test ns ≡ false → go_on_answer b p ns c ≡ Refused Refusal.Program
+    pub numbers_refused : numbers_test ns ≡ false → go_on_answer b p ns c ≡ Err Refusal.Program
     numbers_refused e = go (program_test p) refl
       where
-        go : (t : Bool) → program_test p ≡ t → go_on_answer b p ns c ≡ Refused Refusal.Program
+        go : (t : Bool) → program_test p ≡ t → go_on_answer b p ns c ≡ Err Refusal.Program
         go true h = bad_numbers h e
         go false h = program_refused h
 
 -- ---- what an accepted call has passed
 
 pub record Passed (b p : Bytes) (ns : List ℕ) (c : Configuration) : Type 0 where
-  pub card : card_answer b ≡ Done
+  pub card : card_answer b ≡ Ok tt
   pub program_good_lem : program_good (containing 2 (layout b) b) (layout b) p ≡ true
   pub numbers_good_lem : numbers_good (entry_count p) ns ≡ true
   pub configuration_good_lem : configuration_good (layout b) c ≡ true
 
-pub passed : (b p : Bytes) (ns : List ℕ) (c : Configuration) → go_on_answer b p ns c ≡ Done → Passed b p ns c
+pub passed : (b p : Bytes) (ns : List ℕ) (c : Configuration) → go_on_answer b p ns c ≡ Ok tt → Passed b p ns c
 passed b p ns c e = by_card (card_answer b) refl
   where
-    by_configuration : card_answer b ≡ Done → program_test b p ns c p ≡ true → numbers_test b p ns c ns ≡ true → (t : Bool) → configuration_good (layout b) c ≡ t
+    by_configuration : card_answer b ≡ Ok tt → program_test b p ns c p ≡ true → numbers_test b p ns c ns ≡ true → (t : Bool) → configuration_good (layout b) c ≡ t
         → Passed b p ns c
     by_configuration d g f true h = record { card = d; program_good_lem = g; numbers_good_lem = f; configuration_good_lem = h }
     by_configuration d g f false h = absurd (done≢refused (sym e ∙ configuration_refused b p ns c d g f h))
 
-    by_numbers : card_answer b ≡ Done → program_test b p ns c p ≡ true → (t : Bool) → numbers_test b p ns c ns ≡ t → Passed b p ns c
+    by_numbers : card_answer b ≡ Ok tt → program_test b p ns c p ≡ true → (t : Bool) → numbers_test b p ns c ns ≡ t → Passed b p ns c
     by_numbers d g true h = by_configuration d g h (configuration_good (layout b) c) refl
     by_numbers d g false h = absurd (done≢refused (sym e ∙ numbers_refused b p ns c d h))
 
-    by_program : card_answer b ≡ Done → (t : Bool) → program_test b p ns c p ≡ t → Passed b p ns c
+    by_program : card_answer b ≡ Ok tt → (t : Bool) → program_test b p ns c p ≡ t → Passed b p ns c
     by_program d true h = by_numbers d h (numbers_test b p ns c ns) refl
     by_program d false h = absurd (done≢refused (sym e ∙ program_refused b p ns c d h))
 
     by_card : (a : Answer) → card_answer b ≡ a → Passed b p ns c
-    by_card Done h = by_program h (program_test b p ns c p) refl
-    by_card (Refused q) h = absurd (done≢refused (sym e ∙ card_refused b p ns c q h))
+    by_card (Ok _) h = by_program h (program_test b p ns c p) refl
+    by_card (Err q) h = absurd (done≢refused (sym e ∙ card_refused b p ns c q h))
 
 -- ---- what remains, as it is answered
 
@@ -211,7 +211,7 @@ tells_law b p ns c budget lent e r q =
 -- ---- what a done deliberation keeps
 
 -- what each transition keeps whose plan fits, a done deliberation keeps
-pub done_keeps : (b p : Bytes) (ns : List ℕ) (c : Configuration) (budget : ℕ) (lent : Bytes) → go_on_answer b p ns c ≡ Done → (r : Deliberated)
+pub done_keeps : (b p : Bytes) (ns : List ℕ) (c : Configuration) (budget : ℕ) (lent : Bytes) → go_on_answer b p ns c ≡ Ok tt → (r : Deliberated)
     → GoesOn b p ns c budget lent r → (Q : State → Type 0) → Kept (agent b) Q → Q (state_of c) → (s : State) × ((r.configuration ≡ configuration_of s) × Q s)
 done_keeps b p ns c budget lent e r q Q f h =
     let o = outcome b p ns c budget in (
@@ -220,7 +220,7 @@ done_keeps b p ns c budget lent e r q Q f h =
     )
 
 -- no goal gets believed
-pub none_believed : (b p : Bytes) (ns : List ℕ) (c : Configuration) (budget : ℕ) (lent : Bytes) → go_on_answer b p ns c ≡ Done → (r : Deliberated)
+pub none_believed : (b p : Bytes) (ns : List ℕ) (c : Configuration) (budget : ℕ) (lent : Bytes) → go_on_answer b p ns c ≡ Ok tt → (r : Deliberated)
     → GoesOn b p ns c budget lent r → NoneBelieved (state_of c).mental → NoneBelieved (state_of r.configuration).mental
 none_believed b p ns c budget lent e r q h = (goal_law (agent b)).stays_so (tells_law b p ns c budget lent e r q).chain h
 
@@ -253,17 +253,17 @@ module _ (b p : Bytes) (ns : List ℕ) (c : Configuration) (budget : ℕ) (lent 
 
   -- the answer is that of the checks
   pub said : (a : Answer) → go_on_answer b p ns c ≡ a → told.answer ≡ a
-  said Done e = ap (λ (r : Deliberated). r.answer) (goes_on_done b p ns c budget lent e)
-  said (Refused q) e = ap (λ (r : Deliberated). r.answer) (goes_on_refused b p ns c budget lent q e)
+  said (Ok _) e = ap (λ (r : Deliberated). r.answer) (goes_on_done b p ns c budget lent e)
+  said (Err q) e = ap (λ (r : Deliberated). r.answer) (goes_on_refused b p ns c budget lent q e)
 
-  handed_back : (q : Refusal) → told.answer ≡ Refused q
+  handed_back : (q : Refusal) → told.answer ≡ Err q
       → (told.configuration ≡ c) × ((told.count ≡ 0) × ((told.remaining.length ≡ 0) × (told.remaining.numbers ≡ lent)))
   handed_back q e = go (go_on_answer b p ns c) refl
     where
       go : (a : Answer) → go_on_answer b p ns c ≡ a
           → (told.configuration ≡ c) × ((told.count ≡ 0) × ((told.remaining.length ≡ 0) × (told.remaining.numbers ≡ lent)))
-      go Done h = absurd (done≢refused (sym (said Done h) ∙ e))
-      go (Refused r) h = rw (goes_on_refused b p ns c budget lent r h) (refl, (refl, (refl, refl)))
+      go (Ok _) h = absurd (done≢refused (sym (said (Ok tt) h) ∙ e))
+      go (Err r) h = rw (goes_on_refused b p ns c budget lent r h) (refl, (refl, (refl, refl)))
 
 pub refusal_law : RefusalLaw
 unfolding answer_number number_of
@@ -271,11 +271,11 @@ refusal_law b p ns c budget lent r q =
     let say = said b p ns c budget lent in
     rw q
     (record {
-      by_card = λ x e. say (Refused x) (card_refused b p ns c x e);
-      by_program = λ d e. ap answer_number (say (Refused Refusal.Program) (program_refused b p ns c d e));
-      by_numbers = λ d e. ap answer_number (say (Refused Refusal.Program) (numbers_refused b p ns c d e));
-      by_configuration = λ d g f e. ap answer_number (say (Refused Refusal.Configuration) (configuration_refused b p ns c d g f e));
-      otherwise = λ d g f e. say Done (nothing_refused b p ns c d g f e);
+      by_card = λ x e. say (Err x) (card_refused b p ns c x e);
+      by_program = λ d e. ap answer_number (say (Err Refusal.Program) (program_refused b p ns c d e));
+      by_numbers = λ d e. ap answer_number (say (Err Refusal.Program) (numbers_refused b p ns c d e));
+      by_configuration = λ d g f e. ap answer_number (say (Err Refusal.Configuration) (configuration_refused b p ns c d g f e));
+      otherwise = λ d g f e. say (Ok tt) (nothing_refused b p ns c d g f e);
       hands_back = handed_back b p ns c budget lent;
     })
 
@@ -294,12 +294,12 @@ whole_law b p = record {
   refused_exactly = λ card c. (λ e. by_answer card c e (program_test b p (whole p) c p) refl, λ e. ap answer_number (program_refused b p (whole p) c card e));
 }
   where
-    by_good : card_answer b ≡ Done → (c : Configuration) → answer_number (deliberate_answer b p c) ≡ 19 → program_test b p (whole p) c p ≡ true
+    by_good : card_answer b ≡ Ok tt → (c : Configuration) → answer_number (deliberate_answer b p c) ≡ 19 → program_test b p (whole p) c p ≡ true
         → (t : Bool) → configuration_good (layout b) c ≡ t → ⊥
     by_good card c e g true h = absurd (let z = sym e ∙ ap answer_number (nothing_refused b p (whole p) c card g (whole_good _ _ p g) h) in omega arith)
     by_good card c e g false h = absurd (let z = sym e ∙ ap answer_number (configuration_refused b p (whole p) c card g (whole_good _ _ p g) h) in omega arith)
 
-    by_answer : card_answer b ≡ Done → (c : Configuration) → answer_number (deliberate_answer b p c) ≡ 19 → (t : Bool) → program_test b p (whole p) c p ≡ t
+    by_answer : card_answer b ≡ Ok tt → (c : Configuration) → answer_number (deliberate_answer b p c) ≡ 19 → (t : Bool) → program_test b p (whole p) c p ≡ t
         → program_test b p (whole p) c p ≡ false
     by_answer card c e true h = absurd (by_good card c e h (configuration_good (layout b) c) refl)
     by_answer card c e false h = h

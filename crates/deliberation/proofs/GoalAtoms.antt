@@ -7,7 +7,7 @@ use borrow.Author.Tests.{eqb-true, lt-ltb}
 use lib.Dec.{ltb}
 use lib.ListN.{get_or}
 use Rattle.paper.proofs.Relation.{false≢true}
-use Rattle.meaning.specs.declared.Answer.TheVariants.{Done}
+use Rattle.std.specs.Prelude.{Ok}
 use Rattle.meaning.specs.declared.Layout.{Layout}
 use Rattle.meaning.specs.Kinds.{NodeKind}
 use Rattle.meaning.specs.Card.{Bytes, layout, node_at}
@@ -61,7 +61,7 @@ module _ (l : Layout) (b : Bytes) (kind : ℕ) where
       (λ k. (let z = r.first k in below x.a z (omega arith))) (λ k. (let z = r.second k in below x.b z (omega arith))))
       (suc i) i (omega arith)
 
-pub belief_condition : (b : Bytes) → card_answer b ≡ Done → (n : ℕ) → n < (layout b).nodes.count → Without b 2 n
+pub belief_condition : (b : Bytes) → card_answer b ≡ Ok tt → (n : ℕ) → n < (layout b).nodes.count → Without b 2 n
     → condition_good (layout b) (containing 2 (layout b) b) n ≡ true
 belief_condition b card n h none_there =
     both_true (ltb n (layout b).nodes.count) (not (contains (layout b) b 2 n)) (lt-ltb n (layout b).nodes.count h) (go (contains (layout b) b 2 n) refl)

@@ -1,11 +1,10 @@
 -- What the calls `deliberate` and `go on` answer, on all bytes and numbers, refusals too (02, Wish 6).
-use Rattle.std.specs.Prelude.{List, [], ◌∷◌, ◌++◌, ℕ, zero, suc, ◌-◌, length, replicate}
+use Rattle.std.specs.Prelude.{List, [], ◌∷◌, ◌++◌, ℕ, zero, suc, ◌-◌, length, replicate, Ok, Err}
 use Rattle.std.proofs.Math.Option.{Option, none, some}
 use Rattle.paper.specs.Language.{𝐁, Query, Agent}
 use Rattle.runs.specs.Order.{State}
 use Rattle.runs.specs.Step.{nothing, full, to, step}
 use Rattle.meaning.specs.declared.Refusal.{Refusal}
-use Rattle.meaning.specs.declared.Answer.TheVariants.{Done, Refused}
 use Rattle.meaning.specs.declared.Node.{Node}
 use Rattle.meaning.specs.declared.Configuration.{Configuration}
 use Rattle.meaning.specs.Card.{Bytes, layout, conditions, agent}
@@ -78,7 +77,7 @@ remaining_of ns = record { length = length ns; numbers = ns ++ replicate (128 - 
 -- A deliberation's outcome as it is answered. Serves goes_on.
 abbrev pub deliberated : Outcome → Deliberated
 deliberated o = record {
-  answer = Done;
+  answer = Ok tt;
   count = o.count;
   ending = o.ending;
   configuration = configuration_of o.state;
@@ -91,7 +90,7 @@ deliberated o = record {
 -- Serves goes_on.
 abbrev pub refused : Refusal → Configuration → Bytes → Deliberated
 refused q c lent = record {
-  answer = Refused q;
+  answer = Err q;
   count = 0;
   ending = DeliberationEnding.Spent;
   configuration = c;
@@ -102,8 +101,8 @@ refused q c lent = record {
 -- what then remains: the deliberation goes on from these numbers.
 unfoldable pub goes_on : Bytes → Bytes → List ℕ → Configuration → ℕ → Bytes → Deliberated
 goes_on b p ns c budget lent = elim (go_on_answer b p ns c) [
-  | Done ↦ deliberated (deliberate (agent b) (conditions 𝐁 (layout b) b) (entries_of p) budget ns (state_of c))
-  | Refused q ↦ refused q c lent
+  | Ok _ ↦ deliberated (deliberate (agent b) (conditions 𝐁 (layout b) b) (entries_of p) budget ns (state_of c))
+  | Err q ↦ refused q c lent
 ]
 
 -- 02, Wish 6, of a card, a program, a configuration and a budget: from the whole program.

@@ -1,10 +1,9 @@
 -- What 000 proves of its interpreter (section 4), over our relation: Proposition 1, Lemma 1 and the finite part of Theorem 1.
-use Rattle.std.specs.Prelude.{◌≡◌, ◌↔◌, ◌⊎◌, List, [], ℕ}
+use Rattle.std.specs.Prelude.{◌≡◌, ◌↔◌, ◌⊎◌, List, [], ℕ, Ok}
 use Rattle.paper.specs.Language.{Revision, Agent, Config}
 use Rattle.paper.specs.Transitions.{Choice, Entry, Step}
 use Rattle.runs.specs.Run.{Chain}
 use Rattle.runs.specs.Weight.{is_selection, selections}
-use Rattle.meaning.specs.declared.Answer.TheVariants.{Done}
 use Rattle.meaning.specs.Card.{Bytes, agent}
 use Rattle.meaning.specs.Refusals.{card_answer}
 use Rattle.deliberation.specs.Programs.{execute, apply, select, ◌⨾◌, Rest, E, still}
@@ -17,7 +16,7 @@ NoReactiveRules A = (n : ℕ) (r : Revision) → Entry A.PR n r → r.πₕ ≡ 
 
 -- An accepted card has none.
 abbrev pub NoReactiveLaw : Type 0
-NoReactiveLaw = (b : Bytes) → card_answer b ≡ Done → NoReactiveRules (agent b)
+NoReactiveLaw = (b : Bytes) → card_answer b ≡ Ok tt → NoReactiveRules (agent b)
 
 -- 000's object level has no plan selection: a choice that is none.
 abbrev pub NoSelection : Choice → Type 0

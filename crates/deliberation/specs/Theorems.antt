@@ -1,5 +1,5 @@
 -- What is proved of deliberation (in proofs/).
-use Rattle.std.specs.Prelude.{◌≡◌, ◌↔◌, true, false, ℕ, ◌+◌, ◌*◌, ◌-◌, ◌≤◌, ◌<◌, length, take}
+use Rattle.std.specs.Prelude.{◌≡◌, ◌↔◌, true, false, ℕ, ◌+◌, ◌*◌, ◌-◌, ◌≤◌, ◌<◌, length, take, Ok, Err}
 use mathlib.Core.List.{List, [], ◌∷◌, ◌++◌, Memᴰ}
 use Rattle.std.proofs.Math.Option.{Option, none, some}
 use Rattle.paper.specs.Language.{𝐁, Query, Agent, Config}
@@ -11,7 +11,6 @@ use Rattle.runs.specs.Step.{after}
 use Rattle.runs.specs.Run.{Chain}
 use Rattle.runs.specs.Weight.{weigh, verdict, selections}
 use Rattle.meaning.specs.declared.Refusal.{Refusal}
-use Rattle.meaning.specs.declared.Answer.TheVariants.{Done, Refused}
 use Rattle.meaning.specs.declared.Node.{Node}
 use Rattle.meaning.specs.declared.Configuration.{Configuration}
 use Rattle.meaning.specs.Card.{Bytes, layout, condition, conditions, agent, weight, initial_plan}
@@ -112,7 +111,7 @@ pub record ProgramRules (b p : Bytes) : Type 0 where
 -- 02, Wish 6: "19 a program breaking these rules or naming an unknown rule or node": under every accepted card a program is good
 -- exactly if it keeps them.
 abbrev pub ProgramExactly : Type 0
-ProgramExactly = (b p : Bytes) → card_answer b ≡ Done → (program_good (containing 2 (layout b) b) (layout b) p ≡ true) ↔ ProgramRules b p
+ProgramExactly = (b p : Bytes) → card_answer b ≡ Ok tt → (program_good (containing 2 (layout b) b) (layout b) p ≡ true) ↔ ProgramRules b p
 
 -- ---- what entry numbers stand for
 
@@ -274,7 +273,7 @@ pub record WholeLaws (b p : Bytes) : Type 0 where
   -- it stands for the program that the bytes stand for
   pub stands_for : stand_for b p (whole p) ≡ still (whole_of b p)
   -- 02, Wish 6: "19 a program breaking these rules or naming an unknown rule or node": and for nothing else
-  pub refused_exactly : card_answer b ≡ Done → (c : Configuration)
+  pub refused_exactly : card_answer b ≡ Ok tt → (c : Configuration)
       → (answer_number (deliberate_answer b p c) ≡ 19) ↔ (program_good (containing 2 (layout b) b) (layout b) p ≡ false)
 
 abbrev pub WholeLaw : Type 0
@@ -282,7 +281,7 @@ WholeLaw = (b p : Bytes) → WholeLaws b p
 
 -- What the answer to an accepted card, program, numbers and configuration tells.
 pub record Tells (b p : Bytes) (ns : List ℕ) (c : Configuration) (budget : ℕ) (r : Deliberated) : Type 0 where
-  pub done : r.answer ≡ Done
+  pub done : r.answer ≡ Ok tt
   -- the labels of the moves that were made, and the program that then remains
   pub labels : List Label
   pub rest : Rest
@@ -307,7 +306,7 @@ pub record Tells (b p : Bytes) (ns : List ℕ) (c : Configuration) (budget : ℕ
 
 -- The same of every answer that meets the contract.
 abbrev pub TellsLaw : Type 0
-TellsLaw = (b p : Bytes) (ns : List ℕ) (c : Configuration) (budget : ℕ) (lent : Bytes) → go_on_answer b p ns c ≡ Done → (r : Deliberated)
+TellsLaw = (b p : Bytes) (ns : List ℕ) (c : Configuration) (budget : ℕ) (lent : Bytes) → go_on_answer b p ns c ≡ Ok tt → (r : Deliberated)
     → GoesOn b p ns c budget lent r → Tells b p ns c budget r
 
 -- 02, Wish 6: "Demand 3 holds for transitions that are not idle.": under a card that is graded bounded, from a plan that weighs W,
@@ -323,27 +322,27 @@ pub record BoundedMoves (b p : Bytes) (ns : List ℕ) (c : Configuration) (budge
 
 -- The same of every answer that meets the contract.
 abbrev pub BoundedMovesLaw : Type 0
-BoundedMovesLaw = (b p : Bytes) (ns : List ℕ) (c : Configuration) (budget : ℕ) (lent : Bytes) → go_on_answer b p ns c ≡ Done → (r : Deliberated)
+BoundedMovesLaw = (b p : Bytes) (ns : List ℕ) (c : Configuration) (budget : ℕ) (lent : Bytes) → go_on_answer b p ns c ≡ Ok tt → (r : Deliberated)
     → GoesOn b p ns c budget lent r → verdict (weight b) (agent b) (initial_plan b) ≡ Verdict.Bounded
     → weigh (weight b) (state_of c).mental.π ≤ heaviest_plan → BoundedMoves b p ns c budget r (weigh (weight b) (state_of c).mental.π)
 
 -- 02, Wish 6: "Refusals: 19 …, after 9 and before 13.", of every answer that meets the contract.
 pub record RefusalLaws (b p : Bytes) (ns : List ℕ) (c : Configuration) (lent : Bytes) (r : Deliberated) : Type 0 where
   -- "after 9": the card's own refusals
-  pub by_card : (q : Refusal) → card_answer b ≡ Refused q → r.answer ≡ Refused q
+  pub by_card : (q : Refusal) → card_answer b ≡ Err q → r.answer ≡ Err q
   -- "19 a program breaking these rules or naming an unknown rule or node", whatever the numbers and the configuration
-  pub by_program : card_answer b ≡ Done → program_good (containing 2 (layout b) b) (layout b) p ≡ false → answer_number r.answer ≡ 19
+  pub by_program : card_answer b ≡ Ok tt → program_good (containing 2 (layout b) b) (layout b) p ≡ false → answer_number r.answer ≡ 19
   -- the same of numbers that it cannot have left, whatever the configuration
-  pub by_numbers : card_answer b ≡ Done → numbers_good (entry_count p) ns ≡ false → answer_number r.answer ≡ 19
+  pub by_numbers : card_answer b ≡ Ok tt → numbers_good (entry_count p) ns ≡ false → answer_number r.answer ≡ 19
   -- "before 13"
-  pub by_configuration : card_answer b ≡ Done → program_good (containing 2 (layout b) b) (layout b) p ≡ true
+  pub by_configuration : card_answer b ≡ Ok tt → program_good (containing 2 (layout b) b) (layout b) p ≡ true
       → numbers_good (entry_count p) ns ≡ true → configuration_good (layout b) c ≡ false → answer_number r.answer ≡ 13
   -- "done" otherwise
-  pub otherwise : card_answer b ≡ Done → program_good (containing 2 (layout b) b) (layout b) p ≡ true
-      → numbers_good (entry_count p) ns ≡ true → configuration_good (layout b) c ≡ true → r.answer ≡ Done
+  pub otherwise : card_answer b ≡ Ok tt → program_good (containing 2 (layout b) b) (layout b) p ≡ true
+      → numbers_good (entry_count p) ns ≡ true → configuration_good (layout b) c ≡ true → r.answer ≡ Ok tt
   -- 00, demand 1: "A refusal hands back the configuration it was given"; 01, "Numbers the guide may answer": "Any count in a
   -- refusal is 0."; 02, Wish 6: "none when refused"; 00, demand 1: "writes to no lent buffer"
-  pub hands_back : (q : Refusal) → r.answer ≡ Refused q
+  pub hands_back : (q : Refusal) → r.answer ≡ Err q
       → (r.configuration ≡ c) × ((r.count ≡ 0) × ((r.remaining.length ≡ 0) × (r.remaining.numbers ≡ lent)))
 
 abbrev pub RefusalLaw : Type 0

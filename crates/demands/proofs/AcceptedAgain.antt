@@ -6,7 +6,7 @@ use Rattle.runs.specs.Order.{State}
 use Rattle.runs.specs.Step.{after}
 use Rattle.runs.specs.Run.{run}
 use Rattle.runs.proofs.Run.{run_law}
-use Rattle.meaning.specs.declared.Answer.TheVariants.{Done}
+use Rattle.std.specs.Prelude.{Ok}
 use Rattle.meaning.specs.declared.Configuration.{Configuration}
 use Rattle.meaning.specs.declared.Reply.{Reply}
 use Rattle.meaning.specs.declared.Graded.{Graded}
@@ -28,33 +28,33 @@ use Rattle.demands.proofs.Restoring.{restored_good, restored_known}
 use Rattle.demands.proofs.Ways.{Replying, Grading, Writing, Taking, Running, refused, is_closed, plan_full, no_room, done, loading, restoring, grading, listing, saving, taking, running}
 
 module _ (b : Bytes) where
-  pub accepted_again : card_answer b ≡ Done → (s : State) → Known (layout b) s → OnAccepted b (configuration_of s)
+  pub accepted_again : card_answer b ≡ Ok tt → (s : State) → Known (layout b) s → OnAccepted b (configuration_of s)
   accepted_again card s k = configuration_good_lem b (configuration_of s) card (known_good (layout b) s k)
 
   pub handed_in : (c : Configuration) → OnAccepted b c → Known (layout b) (state_of c)
   handed_in c on = known_of (layout b) c (passed_good b c on)
 
-  loaded : (r : Reply) → Replying (card_answer b) (start b) r → r.answer ≡ Done → OnAccepted b r.configuration
+  loaded : (r : Reply) → Replying (card_answer b) (start b) r → r.answer ≡ Ok tt → OnAccepted b r.configuration
   loaded r (done e) h = accepted_again e (start b) (known_start b e)
   loaded r (refused e) h = absurd (done≢refused (sym h))
 
-  graded : (r : Graded) → Grading b r → r.answer ≡ Done → OnAccepted b r.configuration
+  graded : (r : Graded) → Grading b r → r.answer ≡ Ok tt → OnAccepted b r.configuration
   unfolding empty
   graded r (done e) h = accepted_again e _ (known_empty (layout b))
   graded r (refused e) h = absurd (done≢refused (sym h))
 
-  wrote : (c : Configuration) (xs out left : List ℕ) (r : Written) → Writing b c xs out r left → r.answer ≡ Done → OnAccepted b r.configuration
+  wrote : (c : Configuration) (xs out left : List ℕ) (r : Written) → Writing b c xs out r left → r.answer ≡ Ok tt → OnAccepted b r.configuration
   wrote c xs out left r (refused e) h = absurd (done≢refused (sym h))
   wrote c xs out left r (no_room e l) h = absurd (done≢refused (sym h))
   wrote c xs out left r (done e l) h = e
 
-  restored : (p : Bytes) (r : Reply) → Replying (place_answer b p) (placed (layout b) p) r → r.answer ≡ Done → OnAccepted b r.configuration
+  restored : (p : Bytes) (r : Reply) → Replying (place_answer b p) (placed (layout b) p) r → r.answer ≡ Ok tt → OnAccepted b r.configuration
   restored p r (done e) h =
       let (card, table) = restored_good b p e in
       accepted_again card (placed (layout b) p) (restored_known (layout b) p (good_place (layout b) p table))
   restored p r (refused e) h = absurd (done≢refused (sym h))
 
-  took : (c : Configuration) (n : ℕ) (r : Reply) → Taking b c n r → r.answer ≡ Done → OnAccepted b r.configuration
+  took : (c : Configuration) (n : ℕ) (r : Reply) → Taking b c n r → r.answer ≡ Ok tt → OnAccepted b r.configuration
   took c n r (refused e) h = absurd (done≢refused (sym h))
   took c n r (is_closed on e w x) h = absurd (done≢refused (sym h))
   took c n r (plan_full on k c' m l) h = absurd (done≢refused (sym h))
@@ -62,7 +62,7 @@ module _ (b : Bytes) where
       let card = card_accepted b c on in
       accepted_again card (after (state_of c) k c') (known_after (known_agent b card) (state_of c) (handed_in c on) m.transition l)
 
-  ran_on : (c : Configuration) (budget : ℕ) (r : Ran) → Running b c budget r → r.answer ≡ Done → OnAccepted b r.configuration
+  ran_on : (c : Configuration) (budget : ℕ) (r : Ran) → Running b c budget r → r.answer ≡ Ok tt → OnAccepted b r.configuration
   ran_on c budget r (refused e) h = absurd (done≢refused (sym h))
   ran_on c budget r (done on) h =
       let card = card_accepted b c on in

@@ -8,8 +8,8 @@ use Prim.Native.Nat.{ℕ}
 use lib.Dec.{eqb}
 use borrow.Author.Tests.{eqb-true, eqb-false}
 use Rattle.paper.proofs.Relation.{both, false≢true}
-use Rattle.meaning.specs.declared.Answer.{Answer}
-use Rattle.meaning.specs.declared.Answer.TheVariants.{Done, Refused}
+use Rattle.meaning.specs.Answers.{Answer}
+use Rattle.std.specs.Prelude.{Ok, Err}
 use Rattle.meaning.specs.declared.Configuration.{Configuration}
 use Rattle.meaning.specs.Card.{Bytes, layout}
 use Rattle.meaning.specs.Refusals.{answer_number, Row, first_given, and_then, all, card_table, card_answer, place_table, place_answer, configuration_table, configuration_answer}
@@ -60,8 +60,8 @@ among (q ∷ rows) x = go (q.when x) refl (among rows x)
     go false h ih = rw (not_given q rows x h) (⊎_elim Memᴰ.head (λ m. Memᴰ.tail (Memᴰ.tail m)) (Memᴰ.cases_cons ih))
 
 pub and_then_among : (a a' : Answer) (ns : List ℕ) → Memᴰ (answer_number a) ns → Memᴰ (answer_number a') ns → Memᴰ (answer_number (and_then a a')) ns
-and_then_among Done a' ns h g = g
-and_then_among (Refused r) a' ns h g = h
+and_then_among (Ok _) a' ns h g = g
+and_then_among (Err r) a' ns h g = h
 
 -- the numbers of a table's rows, as they are listed
 pub listed : {X : Type 0} (rows : List (Row X)) (x : X) (ns : List ℕ) → row_numbers rows x ≡ ns → Memᴰ (answer_number (first_given rows x)) (0 ∷ ns)

@@ -13,14 +13,13 @@ use Rattle.runs.specs.Limits.{heaviest_plan}
 use Rattle.runs.specs.Run.{Chain, stay, ◌then◌}
 use Rattle.runs.specs.Weight.{weigh}
 use Rattle.meaning.specs.declared.Refusal.{Refusal}
-use Rattle.meaning.specs.declared.Answer.{Answer}
-use Rattle.meaning.specs.declared.Answer.TheVariants.{Done, Refused}
+use Rattle.meaning.specs.Answers.{Answer, BoundedAnswer}
+use Rattle.std.specs.Prelude.{Ok, Err}
 use Rattle.meaning.specs.declared.Configuration.{Configuration}
 use Rattle.meaning.specs.declared.Reply.{Reply}
 use Rattle.meaning.specs.declared.Graded.{Graded}
 use Rattle.meaning.specs.declared.Ran.{Ran}
 use Rattle.meaning.specs.declared.BoundedRefusal.{BoundedRefusal}
-use Rattle.meaning.specs.declared.BoundedAnswer.{BoundedAnswer}
 use Rattle.meaning.specs.declared.BoundedReply.{BoundedReply}
 use Rattle.meaning.specs.declared.BoundedRan.{BoundedRan}
 use Rattle.meaning.specs.Card.{Bytes, weight, agent, start}
@@ -62,58 +61,58 @@ bounded_among b c =
 -- what the calls have words for: 11 is not among them
 pub word_among : (a : BoundedAnswer) → Memᴰ (answer_number (as_answer a)) (done_or_card ++ (13 ∷ 22 ∷ 14 ∷ 15 ∷ 16 ∷ []))
 unfolding done_or_card answer_number number_of as_answer as_refusal
-word_among BoundedAnswer.Done = wider (0 ∷ []) _ refl (Memᴰ.head refl)
-word_among (BoundedAnswer.Refused BoundedRefusal.Short) = wider (1 ∷ []) _ refl (Memᴰ.head refl)
-word_among (BoundedAnswer.Refused BoundedRefusal.Mark) = wider (2 ∷ []) _ refl (Memᴰ.head refl)
-word_among (BoundedAnswer.Refused BoundedRefusal.Count) = wider (3 ∷ []) _ refl (Memᴰ.head refl)
-word_among (BoundedAnswer.Refused BoundedRefusal.Offsets) = wider (4 ∷ []) _ refl (Memᴰ.head refl)
-word_among (BoundedAnswer.Refused BoundedRefusal.Weight) = wider (5 ∷ []) _ refl (Memᴰ.head refl)
-word_among (BoundedAnswer.Refused BoundedRefusal.Node) = wider (6 ∷ []) _ refl (Memᴰ.head refl)
-word_among (BoundedAnswer.Refused BoundedRefusal.Rule) = wider (7 ∷ []) _ refl (Memᴰ.head refl)
-word_among (BoundedAnswer.Refused BoundedRefusal.ActionByte) = wider (8 ∷ []) _ refl (Memᴰ.head refl)
-word_among (BoundedAnswer.Refused BoundedRefusal.Atom) = wider (9 ∷ []) _ refl (Memᴰ.head refl)
-word_among (BoundedAnswer.Refused BoundedRefusal.Configuration) = wider (13 ∷ []) _ refl (Memᴰ.head refl)
-word_among (BoundedAnswer.Refused BoundedRefusal.OpenOrHeavy) = wider (22 ∷ []) _ refl (Memᴰ.head refl)
-word_among (BoundedAnswer.Refused BoundedRefusal.NoRule) = wider (14 ∷ []) _ refl (Memᴰ.head refl)
-word_among (BoundedAnswer.Refused BoundedRefusal.Front) = wider (15 ∷ []) _ refl (Memᴰ.head refl)
-word_among (BoundedAnswer.Refused (BoundedRefusal.Condition n)) = wider (16 ∷ []) _ refl (Memᴰ.head refl)
+word_among (Ok _) = wider (0 ∷ []) _ refl (Memᴰ.head refl)
+word_among (Err BoundedRefusal.Short) = wider (1 ∷ []) _ refl (Memᴰ.head refl)
+word_among (Err BoundedRefusal.Mark) = wider (2 ∷ []) _ refl (Memᴰ.head refl)
+word_among (Err BoundedRefusal.Count) = wider (3 ∷ []) _ refl (Memᴰ.head refl)
+word_among (Err BoundedRefusal.Offsets) = wider (4 ∷ []) _ refl (Memᴰ.head refl)
+word_among (Err BoundedRefusal.Weight) = wider (5 ∷ []) _ refl (Memᴰ.head refl)
+word_among (Err BoundedRefusal.Node) = wider (6 ∷ []) _ refl (Memᴰ.head refl)
+word_among (Err BoundedRefusal.Rule) = wider (7 ∷ []) _ refl (Memᴰ.head refl)
+word_among (Err BoundedRefusal.ActionByte) = wider (8 ∷ []) _ refl (Memᴰ.head refl)
+word_among (Err BoundedRefusal.Atom) = wider (9 ∷ []) _ refl (Memᴰ.head refl)
+word_among (Err BoundedRefusal.Configuration) = wider (13 ∷ []) _ refl (Memᴰ.head refl)
+word_among (Err BoundedRefusal.OpenOrHeavy) = wider (22 ∷ []) _ refl (Memᴰ.head refl)
+word_among (Err BoundedRefusal.NoRule) = wider (14 ∷ []) _ refl (Memᴰ.head refl)
+word_among (Err BoundedRefusal.Front) = wider (15 ∷ []) _ refl (Memᴰ.head refl)
+word_among (Err (BoundedRefusal.Condition n)) = wider (16 ∷ []) _ refl (Memᴰ.head refl)
 
 at_number : {a a' : Answer} (ns : List ℕ) → a ≡ a' → Memᴰ (answer_number a) ns → Memᴰ (answer_number a') ns
 at_number ns e m = rw e at m
 
 -- 22 is no number of a card, of a configuration, of take or of run
-not_of_take : (b : Bytes) (c : Configuration) (n : ℕ) → (takes b c n).answer ≡ Refused Refusal.OpenOrHeavy → ⊥
+not_of_take : (b : Bytes) (c : Configuration) (n : ℕ) → (takes b c n).answer ≡ Err Refusal.OpenOrHeavy → ⊥
 unfolding done_or_card answer_number number_of
 not_of_take b c n e = outside (done_or_card ++ (13 ∷ 14 ∷ 15 ∷ 16 ∷ 11 ∷ [])) 22 refl (rw e at (taken_among b c n (takes b c n) (taking b c n (takes b c n) refl)))
 
-not_of_run : (b : Bytes) (c : Configuration) (budget : ℕ) → (runs b c budget).answer ≡ Refused Refusal.OpenOrHeavy → ⊥
+not_of_run : (b : Bytes) (c : Configuration) (budget : ℕ) → (runs b c budget).answer ≡ Err Refusal.OpenOrHeavy → ⊥
 unfolding done_or_card answer_number number_of
 not_of_run b c budget e = outside (done_or_card ++ (13 ∷ [])) 22 refl (rw e at (ran_among b c budget (runs b c budget) (running b c budget (runs b c budget) refl)))
 
-not_of_configuration : (b : Bytes) (c : Configuration) → configuration_answer b c ≡ Refused Refusal.OpenOrHeavy → ⊥
+not_of_configuration : (b : Bytes) (c : Configuration) → configuration_answer b c ≡ Err Refusal.OpenOrHeavy → ⊥
 unfolding done_or_card answer_number number_of
 not_of_configuration b c e = outside (done_or_card ++ (13 ∷ [])) 22 refl (rw e at (configuration_among b c))
 
 -- a word that is 22 in the table is 22
-word_22 : {a : BoundedAnswer} → as_answer a ≡ Refused Refusal.OpenOrHeavy → a ≡ BoundedAnswer.Refused BoundedRefusal.OpenOrHeavy
+word_22 : {a : BoundedAnswer} → as_answer a ≡ Err Refusal.OpenOrHeavy → a ≡ Err BoundedRefusal.OpenOrHeavy
 unfolding as_answer as_refusal
 word_22 e = as_answer_one e
 
-as_22 : {a : BoundedAnswer} → a ≡ BoundedAnswer.Refused BoundedRefusal.OpenOrHeavy → as_answer a ≡ Refused Refusal.OpenOrHeavy
+as_22 : {a : BoundedAnswer} → a ≡ Err BoundedRefusal.OpenOrHeavy → as_answer a ≡ Err Refusal.OpenOrHeavy
 unfolding as_answer as_refusal
 as_22 e = ap as_answer e
 
-as_refused : {a : BoundedAnswer} {q : BoundedRefusal} → a ≡ BoundedAnswer.Refused q → as_answer a ≡ Refused (as_refusal q)
+as_refused : {a : BoundedAnswer} {q : BoundedRefusal} → a ≡ Err q → as_answer a ≡ Err (as_refusal q)
 unfolding as_answer
 as_refused e = ap as_answer e
 
 module _ (b : Bytes) (c : Configuration) where
   -- what both calls answer where 22 is to be given
-  refused_22 : OnAccepted b c → OpenOrHeavy b c → bounded_answer b c ≡ Refused Refusal.OpenOrHeavy
+  refused_22 : OnAccepted b c → OpenOrHeavy b c → bounded_answer b c ≡ Err Refusal.OpenOrHeavy
   refused_22 on h = bounded_heavy b c on (not_good b c on h)
 
   -- and back: where the card and the configuration are not refused before
-  why_22 : bounded_answer b c ≡ Refused Refusal.OpenOrHeavy → OnAccepted b c × OpenOrHeavy b c
+  why_22 : bounded_answer b c ≡ Err Refusal.OpenOrHeavy → OnAccepted b c × OpenOrHeavy b c
   why_22 e = go (configuration_answer b c) refl
     where
       good : OnAccepted b c → (t : Bool) → bounded_good b c ≡ t → OnAccepted b c × OpenOrHeavy b c
@@ -121,48 +120,48 @@ module _ (b : Bytes) (c : Configuration) where
       good on false h = (on, open_or_heavy b c on h)
 
       go : (a : Answer) → configuration_answer b c ≡ a → OnAccepted b c × OpenOrHeavy b c
-      go Done h = good h (bounded_good b c) refl
-      go (Refused q) h = absurd (not_of_configuration b c (h ∙ (sym (bounded_refused b c q h) ∙ e)))
+      go (Ok _) h = good h (bounded_good b c) refl
+      go (Err q) h = absurd (not_of_configuration b c (h ∙ (sym (bounded_refused b c q h) ∙ e)))
 
   module _ (n : ℕ) (r : BoundedReply) (w : BoundedTakes b c n r) where
     take_answer : as_answer r.answer ≡ (bounded_takes b c n).answer
     take_answer = ap (λ (x : Reply). x.answer) w
 
-    take_refused : (q : Refusal) → bounded_answer b c ≡ Refused q → as_reply r ≡ reply (Refused q) c
+    take_refused : (q : Refusal) → bounded_answer b c ≡ Err q → as_reply r ≡ reply (Err q) c
     take_refused q h = w ∙ bounded_takes_refused b c n q h
 
-    take_22 : as_answer r.answer ≡ Refused Refusal.OpenOrHeavy → bounded_answer b c ≡ Refused Refusal.OpenOrHeavy
+    take_22 : as_answer r.answer ≡ Err Refusal.OpenOrHeavy → bounded_answer b c ≡ Err Refusal.OpenOrHeavy
     take_22 e = go (bounded_answer b c) refl
       where
-        go : (a : Answer) → bounded_answer b c ≡ a → bounded_answer b c ≡ Refused Refusal.OpenOrHeavy
-        go Done h = absurd (not_of_take b c n (sym (ap (λ (x : Reply). x.answer) (w ∙ bounded_takes_done b c n h)) ∙ e))
-        go (Refused q) h = h ∙ (sym (ap (λ (x : Reply). x.answer) (take_refused q h)) ∙ e)
+        go : (a : Answer) → bounded_answer b c ≡ a → bounded_answer b c ≡ Err Refusal.OpenOrHeavy
+        go (Ok _) h = absurd (not_of_take b c n (sym (ap (λ (x : Reply). x.answer) (w ∙ bounded_takes_done b c n h)) ∙ e))
+        go (Err q) h = h ∙ (sym (ap (λ (x : Reply). x.answer) (take_refused q h)) ∙ e)
 
-    take_refused_exactly : (r.answer ≡ BoundedAnswer.Refused BoundedRefusal.OpenOrHeavy) ↔ (OnAccepted b c × OpenOrHeavy b c)
+    take_refused_exactly : (r.answer ≡ Err BoundedRefusal.OpenOrHeavy) ↔ (OnAccepted b c × OpenOrHeavy b c)
     take_refused_exactly = (
       λ e. why_22 (take_22 (as_22 e)),
       λ h. word_22 (ap (λ (x : Reply). x.answer) (take_refused Refusal.OpenOrHeavy (refused_22 h.0 h.1))),
     )
 
-    pub take_hands_back : (q : BoundedRefusal) → r.answer ≡ BoundedAnswer.Refused q → r.configuration ≡ c
+    pub take_hands_back : (q : BoundedRefusal) → r.answer ≡ Err q → r.configuration ≡ c
     take_hands_back q e = go (bounded_answer b c) refl
       where
         go : (a : Answer) → bounded_answer b c ≡ a → r.configuration ≡ c
-        go Done h = let z = w ∙ bounded_takes_done b c n h in taken_refused b c n (as_reply r) (taking b c n (as_reply r) z) (as_refusal q) (as_refused e)
-        go (Refused x) h = ap (λ (y : Reply). y.configuration) (take_refused x h)
+        go (Ok _) h = let z = w ∙ bounded_takes_done b c n h in taken_refused b c n (as_reply r) (taking b c n (as_reply r) z) (as_refusal q) (as_refused e)
+        go (Err x) h = ap (λ (y : Reply). y.configuration) (take_refused x h)
 
   module _ (budget : ℕ) (r : BoundedRan) (w : BoundedRuns b c budget r) where
-    run_refused : (q : Refusal) → bounded_answer b c ≡ Refused q → as_ran r ≡ refused_run q c
+    run_refused : (q : Refusal) → bounded_answer b c ≡ Err q → as_ran r ≡ refused_run q c
     run_refused q h = w ∙ bounded_runs_refused b c budget q h
 
-    run_22 : as_answer r.answer ≡ Refused Refusal.OpenOrHeavy → bounded_answer b c ≡ Refused Refusal.OpenOrHeavy
+    run_22 : as_answer r.answer ≡ Err Refusal.OpenOrHeavy → bounded_answer b c ≡ Err Refusal.OpenOrHeavy
     run_22 e = go (bounded_answer b c) refl
       where
-        go : (a : Answer) → bounded_answer b c ≡ a → bounded_answer b c ≡ Refused Refusal.OpenOrHeavy
-        go Done h = absurd (not_of_run b c budget (sym (ap (λ (x : Ran). x.answer) (w ∙ bounded_runs_done b c budget h)) ∙ e))
-        go (Refused q) h = h ∙ (sym (ap (λ (x : Ran). x.answer) (run_refused q h)) ∙ e)
+        go : (a : Answer) → bounded_answer b c ≡ a → bounded_answer b c ≡ Err Refusal.OpenOrHeavy
+        go (Ok _) h = absurd (not_of_run b c budget (sym (ap (λ (x : Ran). x.answer) (w ∙ bounded_runs_done b c budget h)) ∙ e))
+        go (Err q) h = h ∙ (sym (ap (λ (x : Ran). x.answer) (run_refused q h)) ∙ e)
 
-    run_refused_exactly : (r.answer ≡ BoundedAnswer.Refused BoundedRefusal.OpenOrHeavy) ↔ (OnAccepted b c × OpenOrHeavy b c)
+    run_refused_exactly : (r.answer ≡ Err BoundedRefusal.OpenOrHeavy) ↔ (OnAccepted b c × OpenOrHeavy b c)
     run_refused_exactly = (
       λ e. why_22 (run_22 (as_22 e)),
       λ h. word_22 (ap (λ (x : Ran). x.answer) (run_refused Refusal.OpenOrHeavy (refused_22 h.0 h.1))),
@@ -173,15 +172,15 @@ module _ (b : Bytes) (c : Configuration) where
     run_listed = go (bounded_answer b c) refl
       where
         go : (a : Answer) → bounded_answer b c ≡ a → Memᴰ (answer_number (as_answer r.answer)) (done_or_card ++ (13 ∷ 22 ∷ []))
-        go Done h = let z = w ∙ bounded_runs_done b c budget h in wider (done_or_card ++ (13 ∷ [])) _ refl (ran_among b c budget (as_ran r) (running b c budget (as_ran r) z))
-        go (Refused q) h = at_number _ (h ∙ sym (ap (λ (x : Ran). x.answer) (run_refused q h))) (bounded_among b c)
+        go (Ok _) h = let z = w ∙ bounded_runs_done b c budget h in wider (done_or_card ++ (13 ∷ [])) _ refl (ran_among b c budget (as_ran r) (running b c budget (as_ran r) z))
+        go (Err q) h = at_number _ (h ∙ sym (ap (λ (x : Ran). x.answer) (run_refused q h))) (bounded_among b c)
 
-    pub run_hands_back : (q : BoundedRefusal) → r.answer ≡ BoundedAnswer.Refused q → (r.configuration ≡ c) × (r.count ≡ 0)
+    pub run_hands_back : (q : BoundedRefusal) → r.answer ≡ Err q → (r.configuration ≡ c) × (r.count ≡ 0)
     run_hands_back q e = go (bounded_answer b c) refl
       where
         go : (a : Answer) → bounded_answer b c ≡ a → (r.configuration ≡ c) × (r.count ≡ 0)
-        go Done h = let z = w ∙ bounded_runs_done b c budget h in ran_refused b c budget (as_ran r) (running b c budget (as_ran r) z) (as_refusal q) (as_refused e)
-        go (Refused x) h = (ap (λ (y : Ran). y.configuration) (run_refused x h), ap (λ (y : Ran). y.count) (run_refused x h))
+        go (Ok _) h = let z = w ∙ bounded_runs_done b c budget h in ran_refused b c budget (as_ran r) (running b c budget (as_ran r) z) (as_refusal q) (as_refused e)
+        go (Err x) h = (ap (λ (y : Ran). y.configuration) (run_refused x h), ap (λ (y : Ran). y.count) (run_refused x h))
 
 -- ---- what is reached
 
@@ -201,12 +200,12 @@ module _ (b : Bytes) (c : Configuration) (on : OnBounded b c) where
   taken_again n r w = go r.answer refl
     where
       go : (a : Answer) → r.answer ≡ a → OnBounded b r.configuration
-      go Done d =
+      go (Ok _) d =
           let (k, (c', (m, l))) = (demand_2.taken_exactly b c on.accepted n r w).0 d in
           let x = demand_2.taken_to b c on.accepted n r w k c' m l in
           bounded_again b c r.configuration on (again.take b c n r w d)
           (subst (λ (s : State). Chain (agent b) (state_of c).mental (k ∷ []) s.mental) (sym x.stands_for) (after_one (agent b) (state_of c) m.transition))
-      go (Refused q) d = subst (OnBounded b) (sym (taken_refused b c n r (taking b c n r w) q d)) on
+      go (Err q) d = subst (OnBounded b) (sym (taken_refused b c n r (taking b c n r w) q d)) on
 
   ran_again : (budget : ℕ) (r : Ran) → Runs b c budget r → OnBounded b r.configuration
   ran_again budget r w =

@@ -3,8 +3,8 @@ use mathlib.Core.Path.{◌≡◌, refl, ap, ◌∙◌, sym, subst}
 use mathlib.Core.List.{List, [], ◌∷◌}
 use Prim.Native.Nat.{ℕ, ◌+◌, ◌≤◌}
 use native.Mathlib.Omega.{arith}
-use Rattle.meaning.specs.declared.Answer.{Answer}
-use Rattle.meaning.specs.declared.Answer.TheVariants.{Done, Refused}
+use Rattle.meaning.specs.Answers.{Answer}
+use Rattle.std.specs.Prelude.{Ok, Err}
 use Rattle.meaning.specs.declared.Configuration.{Configuration}
 use Rattle.meaning.specs.declared.Ran.{Ran}
 use Rattle.meaning.specs.declared.BoundedRan.{BoundedRan}
@@ -29,8 +29,8 @@ module _ (b : Bytes) where
   bounded_sized c j r w h = go (bounded_answer b c) refl
     where
       go : (a : Answer) → bounded_answer b c ≡ a → Sized b r.configuration
-      go Done e = run_sized b c j (as_ran r) (w ∙ bounded_runs_done b c j e) h
-      go (Refused q) e = subst (Sized b) (sym (ap (λ (x : Ran). x.configuration) (w ∙ bounded_runs_refused b c j q e))) h
+      go (Ok _) e = run_sized b c j (as_ran r) (w ∙ bounded_runs_done b c j e) h
+      go (Err q) e = subst (Sized b) (sym (ap (λ (x : Ran). x.configuration) (w ∙ bounded_runs_refused b c j q e))) h
 
   -- a run that is stopped, and goes on from what it reached
   module _ (c : Configuration) (keeps : Sized b c) (j k : ℕ) (least : 1 ≤ k) (first second one : BoundedRan) (w : BoundedRuns b c j first) (w' : BoundedRuns b first.configuration k second) (v : BoundedRuns b c (j + k) one) where
@@ -38,11 +38,11 @@ module _ (b : Bytes) where
     bounded_stopped = go (bounded_answer b c) refl
       where
         go : (a : Answer) → bounded_answer b c ≡ a → AsOneRun (as_ran second) (first.count + second.count) (as_ran one)
-        go Done e =
+        go (Ok _) e =
             let reached = bounded_accepts b first.configuration (run_again b c (on_bounded b c e) j first w) in
             stopped b c keeps j k least (as_ran first) (as_ran second) (as_ran one) (w ∙ bounded_runs_done b c j e)
             (w' ∙ bounded_runs_done b first.configuration k reached) (v ∙ bounded_runs_done b c (j + k) e)
-        go (Refused q) e =
+        go (Err q) e =
             let f : as_ran first ≡ refused_run q c = w ∙ bounded_runs_refused b c j q e in
             let s : as_ran second ≡ refused_run q c = w' ∙ ap (λ (x : Ran). bounded_runs b x.configuration k) f ∙ bounded_runs_refused b c k q e in
             let o : as_ran one ≡ refused_run q c = v ∙ bounded_runs_refused b c (j + k) q e in

@@ -3,13 +3,12 @@ use mathlib.Core.Path.{◌≡◌, refl, ap, ◌∙◌, sym}
 use Prim.Native.Nat.{ℕ}
 use Rattle.runs.specs.declared.Ending.{Ending}
 use Rattle.meaning.specs.declared.Refusal.{Refusal}
-use Rattle.meaning.specs.declared.Answer.{Answer}
-use Rattle.meaning.specs.declared.Answer.TheVariants.{Done, Refused}
+use Rattle.meaning.specs.Answers.{Answer}
+use Rattle.std.specs.Prelude.{Ok, Err}
 use Rattle.meaning.specs.declared.Configuration.{Configuration}
 use Rattle.meaning.specs.declared.Reply.{Reply}
 use Rattle.meaning.specs.declared.Ran.{Ran}
 use Rattle.meaning.specs.declared.BoundedRefusal.{BoundedRefusal}
-use Rattle.meaning.specs.declared.BoundedAnswer.{BoundedAnswer}
 use Rattle.meaning.specs.declared.BoundedEnding.{BoundedEnding}
 use Rattle.meaning.specs.declared.BoundedReply.{BoundedReply}
 use Rattle.meaning.specs.declared.BoundedRan.{BoundedRan}
@@ -27,9 +26,9 @@ use Rattle.demands.proofs.Ways.{Taking, Running, refused, is_closed, plan_full, 
 
 closed_word : {a : Answer} → IsClosed a → HasWord a
 unfolding as_answer as_refusal
-closed_word no_rule = (BoundedAnswer.Refused BoundedRefusal.NoRule, refl)
-closed_word front = (BoundedAnswer.Refused BoundedRefusal.Front, refl)
-closed_word (condition {node}) = (BoundedAnswer.Refused (BoundedRefusal.Condition node), refl)
+closed_word no_rule = (Err BoundedRefusal.NoRule, refl)
+closed_word front = (Err BoundedRefusal.Front, refl)
+closed_word (condition {node}) = (Err (BoundedRefusal.Condition node), refl)
 
 ending_word : (e : Ending) → (e ≡ Ending.Full → ⊥) → HasEnding e
 unfolding as_ending
@@ -43,12 +42,12 @@ at_word e w = (w.0, w.1 ∙ e)
 
 module _ (b : Bytes) (c : Configuration) (on : OnBounded b c) where
   module _ (n : ℕ) where
-    chosen_word : (r : Reply) → Taking b c n r → ((r.answer ≡ Refused Refusal.PlanFull) → ⊥) → HasWord r.answer
+    chosen_word : (r : Reply) → Taking b c n r → ((r.answer ≡ Err Refusal.PlanFull) → ⊥) → HasWord r.answer
     unfolding as_answer
     chosen_word r (refused h) f = at_word h (configuration_word b c)
     chosen_word r (is_closed h e w x) f = closed_word w
     chosen_word r (plan_full h k c' m l) f = absurd (f refl)
-    chosen_word r (done h k c' m l) f = (BoundedAnswer.Done, refl)
+    chosen_word r (done h k c' m l) f = (Ok tt, refl)
 
     pub taken_word : HasWord (takes b c n).answer
     taken_word =
@@ -75,8 +74,8 @@ module _ (b : Bytes) (c : Configuration) where
       made x (a, e) = (record { answer = a; configuration = x.configuration }, ap (λ y. reply y x.configuration) e)
 
       go : (a : Answer) → bounded_answer b c ≡ a → (r : BoundedReply) × BoundedTakes b c n r
-      go Done h = let (r, e) = made (takes b c n) (taken_word b c (on_bounded b c h) n) in (r, e ∙ sym (bounded_takes_done b c n h))
-      go (Refused q) h = let (r, e) = made (reply (Refused q) c) (at_word h (bounded_word b c)) in (r, e ∙ sym (bounded_takes_refused b c n q h))
+      go (Ok _) h = let (r, e) = made (takes b c n) (taken_word b c (on_bounded b c h) n) in (r, e ∙ sym (bounded_takes_done b c n h))
+      go (Err q) h = let (r, e) = made (reply (Err q) c) (at_word h (bounded_word b c)) in (r, e ∙ sym (bounded_takes_refused b c n q h))
 
   pub run_has_answer : (budget : ℕ) → (r : BoundedRan) × BoundedRuns b c budget r
   unfolding as_ending
@@ -89,10 +88,10 @@ module _ (b : Bytes) (c : Configuration) where
       )
 
       go : (a : Answer) → bounded_answer b c ≡ a → (r : BoundedRan) × BoundedRuns b c budget r
-      go Done h =
+      go (Ok _) h =
           let on = on_bounded b c h in
           let (r, e) = made (runs b c budget) (ran_word b c on budget) (ran_ending b c on budget) in
           (r, e ∙ sym (bounded_runs_done b c budget h))
-      go (Refused q) h =
+      go (Err q) h =
           let (r, e) = made (refused_run q c) (at_word h (bounded_word b c)) (BoundedEnding.Spent, refl) in
           (r, e ∙ sym (bounded_runs_refused b c budget q h))

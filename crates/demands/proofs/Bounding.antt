@@ -13,7 +13,7 @@ use Rattle.runs.specs.Run.{Chain, stay, ◌then◌}
 use Rattle.runs.specs.Weight.{weigh, Bounded, verdict}
 use Rattle.runs.specs.Theorems as Runs
 use Rattle.meaning.specs.declared.Refusal.{Refusal}
-use Rattle.meaning.specs.declared.Answer.TheVariants.{Done, Refused}
+use Rattle.std.specs.Prelude.{Ok, Err}
 use Rattle.meaning.specs.declared.Configuration.{Configuration}
 use Rattle.meaning.specs.declared.Reply.{Reply}
 use Rattle.meaning.specs.declared.Graded.{Graded}
@@ -35,26 +35,26 @@ spent≢full : Ending.Spent ≡ Ending.Full → ⊥
 spent≢full e = let z : ◌≡◌ {A = ℕ} 0 1 = cc in omega arith
 
 -- neither the card nor the configuration is refused with 11
-never_by_configuration : (b : Bytes) (c : Configuration) → configuration_answer b c ≡ Refused Refusal.PlanFull → ⊥
+never_by_configuration : (b : Bytes) (c : Configuration) → configuration_answer b c ≡ Err Refusal.PlanFull → ⊥
 unfolding done_or_card answer_number number_of
 never_by_configuration b c e = outside (done_or_card ++ (13 ∷ [])) 11 refl (rw e at (configuration_among b c))
 
-pub graded_exactly : (b : Bytes) → card_answer b ≡ Done → (g : Graded) → Grading b g → (g.verdict ≡ Verdict.Bounded) ↔ Bounded (weight b) (agent b) (initial_plan b)
+pub graded_exactly : (b : Bytes) → card_answer b ≡ Ok tt → (g : Graded) → Grading b g → (g.verdict ≡ Verdict.Bounded) ↔ Bounded (weight b) (agent b) (initial_plan b)
 graded_exactly b e g (done h) = (card_laws b h).graded.exactly
 graded_exactly b e g (refused h) = absurd (done≢refused (sym e ∙ h))
 
-pub refused_never : (b : Bytes) (g : Graded) → Grading b g → (q : Refusal) → g.answer ≡ Refused q → g.verdict ≡ Verdict.Bounded → ⊥
+pub refused_never : (b : Bytes) (g : Graded) → Grading b g → (q : Refusal) → g.answer ≡ Err q → g.verdict ≡ Verdict.Bounded → ⊥
 refused_never b g (done h) q e v = done≢refused e
 refused_never b g (refused h) q e v = open≢bounded v
 
 -- a card that is graded bounded is accepted, and its verdict is that of the definition
 its_verdict : (b : Bytes) (g : Graded) → Grading b g → g.verdict ≡ Verdict.Bounded
-    → (card_answer b ≡ Done) × (verdict (weight b) (agent b) (initial_plan b) ≡ Verdict.Bounded)
+    → (card_answer b ≡ Ok tt) × (verdict (weight b) (agent b) (initial_plan b) ≡ Verdict.Bounded)
 its_verdict b g (done h) v = (h, v)
 its_verdict b g (refused h) v = absurd (open≢bounded v)
 
 module _ (b : Bytes) (g : Graded) (e : Grades b g) (v : g.verdict ≡ Verdict.Bounded) where
-  accepted : card_answer b ≡ Done
+  accepted : card_answer b ≡ Ok tt
   accepted = (its_verdict b g (grading b g e) v).0
 
   pub bounded : verdict (weight b) (agent b) (initial_plan b) ≡ Verdict.Bounded
@@ -89,7 +89,7 @@ module _ (b : Bytes) (g : Graded) (e : Grades b g) (v : g.verdict ≡ Verdict.Bo
         counted t.choices r (subst (Runs.Guided (agent b) (state_of c) t.choices) back t.guided)
         (subst (λ (s : State). Chain (agent b) (state_of c).mental t.choices s.mental) back t.chain) (tells.count ∙ t.counted)
 
-    pub never_plan_full : (n : ℕ) (r : Reply) → Taking b c n r → r.answer ≡ Refused Refusal.PlanFull → ⊥
+    pub never_plan_full : (n : ℕ) (r : Reply) → Taking b c n r → r.answer ≡ Err Refusal.PlanFull → ⊥
     never_plan_full n r (refused h) f = never_by_configuration b c (h ∙ f)
     never_plan_full n r (is_closed h e w l) f = closed≢full (subst IsClosed f w)
     never_plan_full n r (plan_full h k c' m l) f =

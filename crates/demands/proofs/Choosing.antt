@@ -11,8 +11,8 @@ use Rattle.paper.proofs.Relation.{some_inj, sound}
 use Rattle.runs.specs.Order.{State}
 use Rattle.runs.specs.Step.{after}
 use Rattle.meaning.specs.declared.Refusal.{Refusal}
-use Rattle.meaning.specs.declared.Answer.{Answer}
-use Rattle.meaning.specs.declared.Answer.TheVariants.{Done, Refused}
+use Rattle.meaning.specs.Answers.{Answer}
+use Rattle.std.specs.Prelude.{Ok, Err}
 use Rattle.meaning.specs.declared.Configuration.{Configuration}
 use Rattle.meaning.specs.declared.Reply.{Reply}
 use Rattle.meaning.specs.Card.{Bytes, agent}
@@ -31,11 +31,11 @@ closed_number no_rule = omega arith
 closed_number front = omega arith
 closed_number condition = omega arith
 
-pub closed≢done : IsClosed Done → ⊥
+pub closed≢done : IsClosed (Ok tt) → ⊥
 unfolding answer_number
 closed≢done h = let n = closed_number h in omega arith
 
-pub closed≢full : IsClosed (Refused Refusal.PlanFull) → ⊥
+pub closed≢full : IsClosed (Err Refusal.PlanFull) → ⊥
 unfolding answer_number number_of
 closed≢full h = let n = closed_number h in omega arith
 
@@ -62,7 +62,7 @@ module _ (b : Bytes) (c : Configuration) (on : OnAccepted b c) (n : ℕ) where
   never_both : {k j : Choice} {c' c'' : Config} → ChosenMove b c n k c' → length c'.π ≤ 1024 → ChosenMove b c n j c'' → 1024 < length c''.π → ⊥
   never_both {c' = c'} {c''} p f q l = let e : length c'.π ≡ length c''.π = ap (λ (x : Config). length x.π) (one_move p q).1 in omega arith
 
-  pub taken_exactly : (r : Reply) → Taking b c n r → (r.answer ≡ Done) ↔ Fitting b c n
+  pub taken_exactly : (r : Reply) → Taking b c n r → (r.answer ≡ Ok tt) ↔ Fitting b c n
   taken_exactly r (refused h) = absurd (done≢refused (sym on ∙ h))
   taken_exactly r (is_closed h e w x) = (λ e. absurd (done≢refused (sym e)), λ (k, (c', (m, f))). absurd (x k c' m))
   taken_exactly r (plan_full h j c'' q l) = (λ e. absurd (done≢refused (sym e)), λ (k, (c', (m, f))). absurd (never_both m f q l))
@@ -81,7 +81,7 @@ module _ (b : Bytes) (c : Configuration) (on : OnAccepted b c) (n : ℕ) where
   closed_exactly r (plan_full h k c' m l) = (λ e. absurd (closed≢full e), λ x. absurd (x k c' m))
   closed_exactly r (done h k c' m f) = (λ e. absurd (closed≢done e), λ x. absurd (x k c' m))
 
-  pub plan_full_exactly : (r : Reply) → Taking b c n r → (r.answer ≡ Refused Refusal.PlanFull) ↔ TooLong b c n
+  pub plan_full_exactly : (r : Reply) → Taking b c n r → (r.answer ≡ Err Refusal.PlanFull) ↔ TooLong b c n
   plan_full_exactly r (refused h) = absurd (done≢refused (sym on ∙ h))
   plan_full_exactly r (is_closed h e w x) = (λ e. absurd (closed≢full (subst IsClosed e w)), λ (k, (c', (m, l))). absurd (x k c' m))
   plan_full_exactly r (plan_full h k c' m l) = (λ e. (k, (c', (m, l))), λ x. refl)

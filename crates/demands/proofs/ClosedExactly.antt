@@ -14,8 +14,8 @@ use Rattle.paper.specs.Next.{is_empty, starts_with, is_prefix, can_select, selec
 use Rattle.paper.proofs.Relation.{false≢true, none≢some, some_inj, prefix_split, outcome_no, sound}
 use Rattle.runs.specs.Order.{code}
 use Rattle.meaning.specs.declared.Refusal.{Refusal}
-use Rattle.meaning.specs.declared.Answer.{Answer}
-use Rattle.meaning.specs.declared.Answer.TheVariants.{Refused}
+use Rattle.meaning.specs.Answers.{Answer}
+use Rattle.std.specs.Prelude.{Err}
 use Rattle.meaning.specs.declared.Configuration.{Configuration}
 use Rattle.meaning.specs.declared.Reply.{Reply}
 use Rattle.meaning.specs.Card.{Bytes, layout, specification_at, selection_at, revision_at, agent}
@@ -151,7 +151,7 @@ module _ (b : Bytes) (c : Configuration) (on : OnAccepted b c) (n : ℕ) where
   same : {k j : Choice} → code k ≡ n → Has (agent b) k → code j ≡ n → Has (agent b) j → k ≡ j
   same {k} {j} p h q i = some_inj (sym (rw p at (has_read b c on h)) ∙ (rw q at (has_read b c on i)))
 
-  by_reason : {q : Refusal} → Reason b c n q → ClosedExactly b c n (record { answer = Refused q; configuration = c })
+  by_reason : {q : Refusal} → Reason b c n q → ClosedExactly b c n (record { answer = Err q; configuration = c })
   unfolding answer_number number_of answer_carried carried
   by_reason (none_such x) = record {
     no_rule = (λ e. x, λ y. refl);
@@ -172,7 +172,7 @@ module _ (b : Bytes) (c : Configuration) (on : OnAccepted b c) (n : ℕ) where
   by_reason (is_false {node} f) = record {
     no_rule = (λ e. absurd (differ _ _ (λ z. omega arith) e), λ x. absurd (x f.chosen f.coded (false_has (agent b) _ f.is_false)));
     front = (λ e. absurd (differ _ _ (λ z. omega arith) e), λ (k, (p, u)). absurd (never k p u));
-    condition = λ node'. (λ e. (let z : node ≡ node' = ap answer_carried e in rw z at f), λ g. ap (λ x. Refused (Refusal.Condition x)) (one g));
+    condition = λ node'. (λ e. (let z : node ≡ node' = ap answer_carried e in rw z at f), λ g. ap (λ x. Err (Refusal.Condition x)) (one g));
   }
     where
       never : (k : Choice) → code k ≡ n → UnfitFront (agent b) (state_of c).mental.π k → ⊥

@@ -9,7 +9,7 @@ use Rattle.paper.specs.Transitions.{Choice, select, act, revise, Step, execute, 
 use Rattle.paper.proofs.Relation.{none≢some, some_inj}
 use Rattle.runs.specs.Order.{kind, number, code}
 use Rattle.runs.proofs.Order.{entry_lt}
-use Rattle.meaning.specs.declared.Answer.TheVariants.{Done}
+use Rattle.std.specs.Prelude.{Ok}
 use Rattle.meaning.specs.Card.{Bytes, layout, agent_of, agent_for, agent}
 use Rattle.meaning.specs.declared.Configuration.{Configuration}
 use Rattle.meaning.specs.Refusals.{first_given, card_answer, configuration_table, configuration_answer}
@@ -67,7 +67,7 @@ moved (apply_PS e p q) = selection e
 moved (apply_PR π e p) = revision e
 
 -- 00, the machine: "256 action specifications, 256 rules for choosing a plan and 256 for revising one"
-pub most_rules : (b : Bytes) → card_answer b ≡ Done → (k : Choice) → rules (agent b) k ≤ 256
+pub most_rules : (b : Bytes) → card_answer b ≡ Ok tt → (k : Choice) → rules (agent b) k ≤ 256
 unfolding agent agent_for agent_of
 most_rules b e (select n) = (card_laws b e).numbered.selections
 most_rules b e (act n) = (card_laws b e).numbered.specifications
@@ -75,7 +75,7 @@ most_rules b e (revise n) = rw (length-entries _ (layout b).revisions) (counts (
 
 -- ---- the code of a move, on an accepted card and configuration
 
-pub card_accepted : (b : Bytes) (c : Configuration) → OnAccepted b c → card_answer b ≡ Done
+pub card_accepted : (b : Bytes) (c : Configuration) → OnAccepted b c → card_answer b ≡ Ok tt
 unfolding configuration_answer
 card_accepted b c e = (and_then_done (card_answer b) (first_given (configuration_table (layout b)) c) e).0
 

@@ -13,7 +13,7 @@ use Rattle.runs.specs.Run.{run}
 use Rattle.runs.specs.Theorems.{Guided, ends, goes}
 use Rattle.runs.proofs.Finished.{finished_most}
 use Rattle.runs.proofs.Run.{run_law}
-use Rattle.meaning.specs.declared.Answer.TheVariants.{Done}
+use Rattle.std.specs.Prelude.{Ok}
 use Rattle.meaning.specs.declared.Layout.{Layout}
 use Rattle.meaning.specs.declared.Configuration.{Configuration}
 use Rattle.meaning.specs.declared.Reply.{Reply}
@@ -31,7 +31,7 @@ use Rattle.demands.proofs.Saving.{Kept, Sized, handed_out}
 use Rattle.demands.proofs.Ways.{Taking, Running, refused, is_closed, plan_full, done}
 
 -- what a card starts with
-pub kept_start : (b : Bytes) → card_answer b ≡ Done → Kept (layout b) (start b)
+pub kept_start : (b : Bytes) → card_answer b ≡ Ok tt → Kept (layout b) (start b)
 unfolding start
 kept_start b card =
     let l = layout b in

@@ -24,7 +24,7 @@ use Rattle.runs.proofs.Numbers.{made_entry, made_none}
 use Rattle.meaning.specs.declared.Layout.{Layout}
 use Rattle.meaning.specs.declared.Section.{Section}
 use Rattle.meaning.specs.declared.Span.{Span}
-use Rattle.meaning.specs.declared.Answer.TheVariants.{Done}
+use Rattle.std.specs.Prelude.{Ok}
 use Rattle.meaning.specs.declared.Configuration.{Configuration}
 use Rattle.meaning.specs.Sizes.{edition2_set, set_bytes, most_atoms, specification_bytes}
 use Rattle.meaning.specs.Card.{Bytes, layout, part, byte, plan, entry_at, entries, conditions, specification_at, selection_at, revision_at, specification_of, selection_of, revision_of, agent_of, agent_for, agent, initial_plan, initial_beliefs, initial_goals, start}
@@ -162,7 +162,7 @@ span_inside l least s e = leb-true (s.start + s.length) l.pool.count (both (with
 span_fits : (l : Layout) (least : ℕ) (s : Span) → span_good l least s ≡ true → s.length ≤ 1024
 span_fits l least s e = within_high least 1024 s.length (both (within least 1024 s.length) _ e).0
 
-module _ (b : Bytes) (card : card_answer b ≡ Done) where
+module _ (b : Bytes) (card : card_answer b ≡ Ok tt) where
   abbrev l : Layout
   l = layout b
 

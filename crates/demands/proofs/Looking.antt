@@ -5,8 +5,8 @@ use Prim.Native.Nat.{ℕ, ◌≤◌}
 use native.Mathlib.Omega.{arith}
 use Rattle.paper.specs.Transitions.{select, act, revise}
 use Rattle.meaning.specs.declared.Refusal.{Refusal}
-use Rattle.meaning.specs.declared.Answer.{Answer}
-use Rattle.meaning.specs.declared.Answer.TheVariants.{Done, Refused}
+use Rattle.meaning.specs.Answers.{Answer}
+use Rattle.std.specs.Prelude.{Ok, Err}
 use Rattle.meaning.specs.declared.Configuration.{Configuration}
 use Rattle.meaning.specs.declared.Listed.{Listed}
 use Rattle.meaning.specs.Card.{Bytes, agent}
@@ -27,26 +27,26 @@ module _ (b : Bytes) (c : Configuration) (out left : List ℕ) (r : Listed) (h :
   goals_by : (a : Answer) → r.answer ≡ a → r.goals ≡ number_by a (goals_open (state_of c).mental)
   goals_by a e = lists_goals b c out r h.0 ∙ ap (λ x. number_by x (goals_open (state_of c).mental)) e
 
-  pub looks_refused : (q : Refusal) → r.answer ≡ Refused q → (r.judged ≡ 0) × (r.goals ≡ 0)
-  looks_refused q e = (judged_by (Refused q) e, goals_by (Refused q) e)
+  pub looks_refused : (q : Refusal) → r.answer ≡ Err q → (r.judged ≡ 0) × (r.goals ≡ 0)
+  looks_refused q e = (judged_by (Err q) e, goals_by (Err q) e)
 
   looks_most : r.judged ≤ 512
   looks_most = go (configuration_answer b c) refl
     where
       by : (a : Answer) → r.answer ≡ a → conditions_judged (agent b) (state_of c).mental ≤ 512 → r.judged ≤ 512
-      by Done e m = let j = judged_by Done e in omega arith
-      by (Refused q) e m = let (j, g) = looks_refused q e in omega arith
+      by (Ok _) e m = let j = judged_by (Ok tt) e in omega arith
+      by (Err q) e m = let (j, g) = looks_refused q e in omega arith
 
       go : (a : Answer) → configuration_answer b c ≡ a → r.judged ≤ 512
-      go Done e =
+      go (Ok _) e =
           let rules = most_rules b (card_accepted b c e) in
           by r.answer refl (most (agent b) (state_of c).mental (rules (select 0)) (rules (act 0)) (rules (revise 0)))
-      go (Refused q) e = let j = ap (λ (x : Listed). x.judged) (h.0 ∙ (lists_refused b c out q e).0) in omega arith
+      go (Err q) e = let j = ap (λ (x : Listed). x.judged) (h.0 ∙ (lists_refused b c out q e).0) in omega arith
 
 pub how_much : HowMuch
 unfolding goals_open size state_of
 how_much = record {
-  judged = λ b c out left r h e. judged_by b c out left r h Done e;
+  judged = λ b c out left r h e. judged_by b c out left r h (Ok tt) e;
   most = looks_most;
-  goals = λ b c out left r h e. goals_by b c out left r h Done e;
+  goals = λ b c out left r h e. goals_by b c out left r h (Ok tt) e;
 }

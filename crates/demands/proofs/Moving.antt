@@ -10,7 +10,7 @@ use lib.Seq.{take-append_seam, drop-append_seam}
 use Rattle.runs.specs.Order.{enabled_codes}
 use Rattle.runs.specs.Theorems.{Rising, no_number, one_number, more_numbers}
 use Rattle.runs.proofs.Listing.{list_laws}
-use Rattle.meaning.specs.declared.Answer.TheVariants.{Done}
+use Rattle.std.specs.Prelude.{Ok}
 use Rattle.meaning.specs.declared.Configuration.{Configuration}
 use Rattle.meaning.specs.declared.Written.{Written}
 use Rattle.meaning.specs.Card.{Bytes, agent}
@@ -83,7 +83,7 @@ module _ (b : Bytes) (c : Configuration) (on : OnAccepted b c) where
       let l = list_laws (agent b) (state_of c).mental in
       record { none_missing = l.has; none_added = l.only; rising = l.rising (card_laws b (card_accepted b c on)).numbered }
 
-  pub listed : (out left : List ℕ) (r : Written) → Writing b c (enabled_codes (agent b) (state_of c).mental) out r left → r.answer ≡ Done
+  pub listed : (out left : List ℕ) (r : Written) → Writing b c (enabled_codes (agent b) (state_of c).mental) out r left → r.answer ≡ Ok tt
       → ListedMoves b c out left r.count
   listed out left r (refused h) e = absurd (done≢refused (sym e))
   listed out left r (no_room h l) e = absurd (done≢refused (sym e))

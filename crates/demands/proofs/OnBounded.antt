@@ -11,9 +11,8 @@ use Rattle.runs.specs.Run.{Chain}
 use Rattle.runs.specs.Weight.{light, verdict}
 use Rattle.runs.proofs.Weight.{open≢bounded}
 use Rattle.meaning.specs.declared.Refusal.{Refusal}
-use Rattle.meaning.specs.declared.Answer.{Answer}
-use Rattle.meaning.specs.declared.Answer.TheVariants.{Done, Refused}
-use Rattle.meaning.specs.declared.BoundedAnswer.{BoundedAnswer}
+use Rattle.meaning.specs.Answers.{Answer, BoundedAnswer}
+use Rattle.std.specs.Prelude.{Ok, Err}
 use Rattle.meaning.specs.declared.BoundedReply.{BoundedReply}
 use Rattle.meaning.specs.declared.BoundedRan.{BoundedRan}
 use Rattle.meaning.specs.declared.Reply.{Reply}
@@ -36,7 +35,7 @@ use Rattle.demands.proofs.Bounding.{bounded, law}
 use Rattle.demands.proofs.Codes.{card_accepted}
 
 -- an accepted card's verdict is what grade says
-module _ (b : Bytes) (card : card_answer b ≡ Done) where
+module _ (b : Bytes) (card : card_answer b ≡ Ok tt) where
   said : (g : Graded) → Grades b g → g.verdict ≡ verdict (weight b) (agent b) (initial_plan b)
   said g e = ap (λ (x : Graded). x.verdict) (e ∙ grades_good b card)
 
@@ -44,10 +43,10 @@ module _ (b : Bytes) (c : Configuration) where
   its_verdict : OnBounded b c → verdict (weight b) (agent b) (initial_plan b) ≡ Verdict.Bounded
   its_verdict on = bounded b (grades b) refl (on.bounded (grades b) refl)
 
-  pub bounded_accepts : OnBounded b c → bounded_answer b c ≡ Done
+  pub bounded_accepts : OnBounded b c → bounded_answer b c ≡ Ok tt
   bounded_accepts on = bounded_good_lem b c on.accepted (both_good b c (its_verdict on) on.light)
 
-  pub on_bounded : bounded_answer b c ≡ Done → OnBounded b c
+  pub on_bounded : bounded_answer b c ≡ Ok tt → OnBounded b c
   on_bounded e =
       let (on, good) = bounded_done b c e in
       let (v, w) = good_both b c good in
@@ -88,40 +87,40 @@ bounded_again b c d on accepted chain =
 
 pub data BoundedTaking (b : Bytes) (c : Configuration) (n : ℕ) (r : BoundedReply) : Type 0 where
   as_take : OnBounded b c → Takes b c n (as_reply r) → BoundedTaking b c n r
-  refused : (q : Refusal) → bounded_answer b c ≡ Refused q → as_reply r ≡ reply (Refused q) c → BoundedTaking b c n r
+  refused : (q : Refusal) → bounded_answer b c ≡ Err q → as_reply r ≡ reply (Err q) c → BoundedTaking b c n r
 
 pub bounded_taking : (b : Bytes) (c : Configuration) (n : ℕ) (r : BoundedReply) → BoundedTakes b c n r → BoundedTaking b c n r
 bounded_taking b c n r w = go (bounded_answer b c) refl
   where
     go : (a : Answer) → bounded_answer b c ≡ a → BoundedTaking b c n r
-    go Done e = as_take (on_bounded b c e) (w ∙ bounded_takes_done b c n e)
-    go (Refused q) e = refused q e (w ∙ bounded_takes_refused b c n q e)
+    go (Ok _) e = as_take (on_bounded b c e) (w ∙ bounded_takes_done b c n e)
+    go (Err q) e = refused q e (w ∙ bounded_takes_refused b c n q e)
 
 pub data BoundedRunning (b : Bytes) (c : Configuration) (budget : ℕ) (r : BoundedRan) : Type 0 where
   as_run : OnBounded b c → Runs b c budget (as_ran r) → BoundedRunning b c budget r
-  refused : (q : Refusal) → bounded_answer b c ≡ Refused q → as_ran r ≡ refused_run q c → BoundedRunning b c budget r
+  refused : (q : Refusal) → bounded_answer b c ≡ Err q → as_ran r ≡ refused_run q c → BoundedRunning b c budget r
 
 pub bounded_running : (b : Bytes) (c : Configuration) (budget : ℕ) (r : BoundedRan) → BoundedRuns b c budget r → BoundedRunning b c budget r
 bounded_running b c budget r w = go (bounded_answer b c) refl
   where
     go : (a : Answer) → bounded_answer b c ≡ a → BoundedRunning b c budget r
-    go Done e = as_run (on_bounded b c e) (w ∙ bounded_runs_done b c budget e)
-    go (Refused q) e = refused q e (w ∙ bounded_runs_refused b c budget q e)
+    go (Ok _) e = as_run (on_bounded b c e) (w ∙ bounded_runs_done b c budget e)
+    go (Err q) e = refused q e (w ∙ bounded_runs_refused b c budget q e)
 
 -- what is done is not refused
-pub as_done : {a : BoundedAnswer} → a ≡ BoundedAnswer.Done → as_answer a ≡ Done
+pub as_done : {a : BoundedAnswer} → a ≡ Ok tt → as_answer a ≡ Ok tt
 unfolding as_answer
 as_done e = ap as_answer e
 
 module _ (b : Bytes) (c : Configuration) where
-  pub take_done : (n : ℕ) (r : BoundedReply) → BoundedTakes b c n r → r.answer ≡ BoundedAnswer.Done → OnBounded b c × Takes b c n (as_reply r)
+  pub take_done : (n : ℕ) (r : BoundedReply) → BoundedTakes b c n r → r.answer ≡ Ok tt → OnBounded b c × Takes b c n (as_reply r)
   take_done n r w d = go (bounded_taking b c n r w)
     where
       go : BoundedTaking b c n r → OnBounded b c × Takes b c n (as_reply r)
       go (as_take on t) = (on, t)
       go (refused q e h) = absurd (done≢refused (sym (as_done d) ∙ ap (λ (x : Reply). x.answer) h))
 
-  pub run_done : (budget : ℕ) (r : BoundedRan) → BoundedRuns b c budget r → r.answer ≡ BoundedAnswer.Done → OnBounded b c × Runs b c budget (as_ran r)
+  pub run_done : (budget : ℕ) (r : BoundedRan) → BoundedRuns b c budget r → r.answer ≡ Ok tt → OnBounded b c × Runs b c budget (as_ran r)
   run_done budget r w d = go (bounded_running b c budget r w)
     where
       go : BoundedRunning b c budget r → OnBounded b c × Runs b c budget (as_ran r)

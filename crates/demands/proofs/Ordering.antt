@@ -16,7 +16,7 @@ use Rattle.runs.specs.Run.{Outcome, run}
 use Rattle.runs.specs.Theorems.{AtRest, Guided, ends, goes}
 use Rattle.runs.specs.Theorems as Runs
 use Rattle.runs.proofs.Run.{run_law}
-use Rattle.meaning.specs.declared.Answer.TheVariants.{Done}
+use Rattle.std.specs.Prelude.{Ok}
 use Rattle.meaning.specs.declared.Configuration.{Configuration}
 use Rattle.meaning.specs.declared.Ran.{Ran}
 use Rattle.meaning.specs.Card.{Bytes, layout, agent}
@@ -33,7 +33,7 @@ use Rattle.demands.proofs.Ways.{Running, refused, done}
 pub passed_good : (b : Bytes) (c : Configuration) → OnAccepted b c → configuration_good (layout b) c ≡ true
 unfolding configuration_answer configuration_table
 passed_good b c e =
-    let t : first_given (configuration_table (layout b)) c ≡ Done = (and_then_done (card_answer b) (first_given (configuration_table (layout b)) c) e).1 in
+    let t : first_given (configuration_table (layout b)) c ≡ Ok tt = (and_then_done (card_answer b) (first_given (configuration_table (layout b)) c) e).1 in
     not-false _ (passes _ _ c t).0
 
 pub plan_fits : (b : Bytes) (c : Configuration) → OnAccepted b c → length (state_of c).mental.π ≤ 1024

@@ -3,10 +3,9 @@ use mathlib.Core.Path.{◌≡◌, refl}
 use mathlib.Core.List.{List, [], ◌∷◌, ◌++◌, Memᴰ}
 use Prim.Native.Nat.{ℕ}
 use Rattle.meaning.specs.declared.Refusal.{Refusal}
-use Rattle.meaning.specs.declared.Answer.{Answer}
-use Rattle.meaning.specs.declared.Answer.TheVariants.{Refused}
+use Rattle.meaning.specs.Answers.{Answer, Checked}
+use Rattle.std.specs.Prelude.{Err}
 use Rattle.meaning.specs.declared.Configuration.{Configuration}
-use Rattle.meaning.specs.declared.Checked.{Checked}
 use Rattle.meaning.specs.declared.Reply.{Reply}
 use Rattle.meaning.specs.declared.Graded.{Graded}
 use Rattle.meaning.specs.declared.Written.{Written}
@@ -66,7 +65,7 @@ ran_among b c budget r (done h) = at_answer _ h (configuration_among b c)
 
 -- ---- a refusal
 
-pub replied_refused : (a : Answer) (s : State) (r : Reply) → Replying a s r → (q : Refusal) → r.answer ≡ Refused q → r.configuration ≡ empty
+pub replied_refused : (a : Answer) (s : State) (r : Reply) → Replying a s r → (q : Refusal) → r.answer ≡ Err q → r.configuration ≡ empty
 replied_refused a s r (done h) q e = absurd (done≢refused e)
 replied_refused a s r (refused h) q e = refl
 
@@ -74,19 +73,19 @@ pub graded_empty : (b : Bytes) (r : Graded) → Grading b r → r.configuration 
 graded_empty b r (done h) = refl
 graded_empty b r (refused h) = refl
 
-pub written_refused : (b : Bytes) (c : Configuration) (xs out left : List ℕ) (r : Written) → Writing b c xs out r left → (q : Refusal) → r.answer ≡ Refused q
+pub written_refused : (b : Bytes) (c : Configuration) (xs out left : List ℕ) (r : Written) → Writing b c xs out r left → (q : Refusal) → r.answer ≡ Err q
     → (left ≡ out) × ((r.configuration ≡ c) × (r.count ≡ 0))
 written_refused b c xs out left r (refused h) q e = (refl, (refl, refl))
 written_refused b c xs out left r (no_room h l) q e = (refl, (refl, refl))
 written_refused b c xs out left r (done h l) q e = absurd (done≢refused e)
 
-pub taken_refused : (b : Bytes) (c : Configuration) (n : ℕ) (r : Reply) → Taking b c n r → (q : Refusal) → r.answer ≡ Refused q → r.configuration ≡ c
+pub taken_refused : (b : Bytes) (c : Configuration) (n : ℕ) (r : Reply) → Taking b c n r → (q : Refusal) → r.answer ≡ Err q → r.configuration ≡ c
 taken_refused b c n r (refused h) q e = refl
 taken_refused b c n r (is_closed h k w l) q e = refl
 taken_refused b c n r (plan_full h k c' m l) q e = refl
 taken_refused b c n r (done h k c' m l) q e = absurd (done≢refused e)
 
-pub ran_refused : (b : Bytes) (c : Configuration) (budget : ℕ) (r : Ran) → Running b c budget r → (q : Refusal) → r.answer ≡ Refused q
+pub ran_refused : (b : Bytes) (c : Configuration) (budget : ℕ) (r : Ran) → Running b c budget r → (q : Refusal) → r.answer ≡ Err q
     → (r.configuration ≡ c) × (r.count ≡ 0)
 ran_refused b c budget r (refused h) q e = (refl, refl)
 ran_refused b c budget r (done h) q e = absurd (done≢refused e)

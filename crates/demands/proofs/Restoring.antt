@@ -5,7 +5,7 @@ use native.Mathlib.Omega.{arith}
 use lib.ListN.{length, take, drop, length-drop}
 use lib.Seq.{take-append_seam, drop-append_seam}
 use Rattle.paper.specs.Theorems.{AreBytes}
-use Rattle.meaning.specs.declared.Answer.TheVariants.{Done}
+use Rattle.std.specs.Prelude.{Ok}
 use Rattle.meaning.specs.declared.Layout.{Layout}
 use Rattle.meaning.specs.declared.Configuration.{Configuration}
 use Rattle.meaning.specs.declared.Reply.{Reply}
@@ -45,18 +45,18 @@ restored_known l p g = record {
 
 -- p is written where there is room
 resaved : (b : Bytes) (c : Configuration) (p out left : Bytes) (r : Written) → OnAccepted b c → length p ≤ length out → Writing b c p out r left
-    → (r.answer ≡ Done) × ((r.count ≡ length p) × ((take (length p) left ≡ p) × (drop (length p) left ≡ drop (length p) out)))
+    → (r.answer ≡ Ok tt) × ((r.count ≡ length p) × ((take (length p) left ≡ p) × (drop (length p) left ≡ drop (length p) out)))
 resaved b c p out left r on h (refused w) = absurd (done≢refused (sym on ∙ w))
 resaved b c p out left r on h (no_room w l) = absurd (omega arith)
 resaved b c p out left r on h (done w l) = (refl, (refl, (take-append_seam p (drop (length p) out), drop-append_seam p (drop (length p) out))))
 
-pub restored_good : (b p : Bytes) → place_answer b p ≡ Done → (card_answer b ≡ Done) × (first_given (place_table (layout b)) p ≡ Done)
+pub restored_good : (b p : Bytes) → place_answer b p ≡ Ok tt → (card_answer b ≡ Ok tt) × (first_given (place_table (layout b)) p ≡ Ok tt)
 unfolding place_answer
 restored_good b p e = and_then_done (card_answer b) (first_given (place_table (layout b)) p) e
 
-pub restored_saved : (b p : Bytes) → AreBytes p → (r : Reply) → Replying (place_answer b p) (placed (layout b) p) r → r.answer ≡ Done
+pub restored_saved : (b p : Bytes) → AreBytes p → (r : Reply) → Replying (place_answer b p) (placed (layout b) p) r → r.answer ≡ Ok tt
     → (out left : Bytes) → length p ≤ length out → (r' : Written) → Saves b r.configuration out r' left
-    → (r'.answer ≡ Done) × ((r'.count ≡ length p) × ((take (length p) left ≡ p) × (drop (length p) left ≡ drop (length p) out)))
+    → (r'.answer ≡ Ok tt) × ((r'.count ≡ length p) × ((take (length p) left ≡ p) × (drop (length p) left ≡ drop (length p) out)))
 restored_saved b p bytes r (refused h) e out left room r' w = absurd (done≢refused (sym e))
 restored_saved b p bytes r (done h) e out left room r' w =
     let (card, table) = restored_good b p h in

@@ -10,7 +10,7 @@ use lib.Seq.{take-append_seam, drop-append_seam}
 use borrow.Author.Tests.{le-leb, eq-eqb}
 use Rattle.runs.specs.Limits.{most_finished}
 use Rattle.runs.specs.Order.{State}
-use Rattle.meaning.specs.declared.Answer.TheVariants.{Done}
+use Rattle.std.specs.Prelude.{Ok}
 use Rattle.meaning.specs.declared.Layout.{Layout}
 use Rattle.meaning.specs.declared.Configuration.{Configuration}
 use Rattle.meaning.specs.declared.Reply.{Reply}
@@ -40,10 +40,10 @@ use Rattle.demands.proofs.Ways.{Writing, refused, no_room, done}
 -- ---- a table whose rows are passed
 
 module _ {X : Type 0} where
-  row_passed : (q : Row X) (rows : List (Row X)) (x : X) → q.when x ≡ false → first_given rows x ≡ Done → first_given (q ∷ rows) x ≡ Done
+  row_passed : (q : Row X) (rows : List (Row X)) (x : X) → q.when x ≡ false → first_given rows x ≡ Ok tt → first_given (q ∷ rows) x ≡ Ok tt
   row_passed q rows x h e = not_given q rows x h ∙ e
 
-  no_row : (x : X) → first_given [] x ≡ Done
+  no_row : (x : X) → first_given [] x ≡ Ok tt
   unfolding first_given
   no_row x = refl
 
@@ -125,7 +125,7 @@ module _ (l : Layout) (s : State) (k : Kept l s) where
   goals_good : set_good l.atoms (set_at l (place l s) (place_goals_at (set_bytes l))) ≡ true
   goals_good = rw goals_at k.known.goals
 
-  pub place_done : l.edition ≤ 2 → first_given (place_table l) (place l s) ≡ Done
+  pub place_done : l.edition ≤ 2 → first_given (place_table l) (place l s) ≡ Ok tt
   unfolding place_table
   place_done h =
       row_passed _ _ (place l s) (ap not has_edition_lem)
@@ -137,7 +137,7 @@ module _ (l : Layout) (s : State) (k : Kept l s) where
       (row_passed _ _ (place l s) (ap not (both_true _ _ beliefs_good goals_good))
       (no_row (place l s))))))))
 
-place_accepted : (b : Bytes) (s : State) → card_answer b ≡ Done → Kept (layout b) s → place_answer b (place (layout b) s) ≡ Done
+place_accepted : (b : Bytes) (s : State) → card_answer b ≡ Ok tt → Kept (layout b) s → place_answer b (place (layout b) s) ≡ Ok tt
 unfolding place_answer
 place_accepted b s e k =
     ap (λ a. and_then a (first_given (place_table (layout b)) (place (layout b) s))) e ∙ place_done (layout b) s k (edition_known b (accepted b e).marked)
@@ -175,15 +175,15 @@ handed_out b s k =
 -- ---- so it is restored as it was
 
 pub saved_restored : (b : Bytes) (c : Configuration) → Sized b c → (out left : Bytes) (r : Written) → Writing b c (place (layout b) (state_of c)) out r left
-    → r.answer ≡ Done → (r' : Reply) → Restores b (take r.count left) r' → (r'.answer ≡ Done) × (r'.configuration ≡ c)
+    → r.answer ≡ Ok tt → (r' : Reply) → Restores b (take r.count left) r' → (r'.answer ≡ Ok tt) × (r'.configuration ≡ c)
 saved_restored b c h out left r (refused w) e r' f = absurd (done≢refused (sym e))
 saved_restored b c h out left r (no_room w l) e r' f = absurd (done≢refused (sym e))
 saved_restored b c h out left r (done on l) e r' f =
     let p = place (layout b) (state_of c) in
     let k = h.keeps on in
     let t : take (length p) (over p out) ≡ p = take-append_seam p (drop (length p) out) in
-    let a : place_answer b p ≡ Done = place_accepted b (state_of c) (card_accepted b c on) k in
-    let z : r' ≡ reply Done (configuration_of (placed (layout b) p)) = f ∙ ap (restores b) t ∙ restores_good b p a in
+    let a : place_answer b p ≡ Ok tt = place_accepted b (state_of c) (card_accepted b c on) k in
+    let z : r' ≡ reply (Ok tt) (configuration_of (placed (layout b) p)) = f ∙ ap (restores b) t ∙ restores_good b p a in
     let y : configuration_of (placed (layout b) p) ≡ c = ap configuration_of (same (layout b) (state_of c) k) ∙ h.whole on in
     (ap (λ (x : Reply). x.answer) z, ap (λ (x : Reply). x.configuration) z ∙ y)
 
@@ -199,7 +199,7 @@ pub saved_room : (b : Bytes) (c : Configuration) → Sized b c → OnAccepted b 
     → RoomFor (plan_at (set_bytes (layout b)) + c.mind.length) out r.answer
 saved_room b c h on out left r w = rw (saved_length b c h on) at (room_for b c on _ out left r w)
 
-pub saved : (b : Bytes) (c : Configuration) → Sized b c → (out left : Bytes) (r : Written) → Writing b c (place (layout b) (state_of c)) out r left → r.answer ≡ Done
+pub saved : (b : Bytes) (c : Configuration) → Sized b c → (out left : Bytes) (r : Written) → Writing b c (place (layout b) (state_of c)) out r left → r.answer ≡ Ok tt
     → (r.count ≡ plan_at (set_bytes (layout b)) + c.mind.length) × (drop r.count left ≡ drop r.count out)
 saved b c h out left r (refused w) e = absurd (done≢refused (sym e))
 saved b c h out left r (no_room w l) e = absurd (done≢refused (sym e))

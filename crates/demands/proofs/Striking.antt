@@ -14,7 +14,7 @@ use Rattle.runs.specs.Step.{after}
 use Rattle.runs.specs.Run.{stay, ◌then◌}
 use Rattle.runs.proofs.Run.{run_law}
 use Rattle.runs.proofs.Goals.{goal_law}
-use Rattle.meaning.specs.declared.Answer.TheVariants.{Done}
+use Rattle.std.specs.Prelude.{Ok}
 use Rattle.meaning.specs.declared.Configuration.{Configuration}
 use Rattle.meaning.specs.declared.Reply.{Reply}
 use Rattle.meaning.specs.declared.Graded.{Graded}
@@ -44,7 +44,7 @@ action_goals : {A : Agent} {c c' : Config} {n : ℕ} → Step A c (act n) c' →
 action_goals (execute {σ = σ} {γ = γ} {s = s} e p) k = rw (∈-γ' k σ γ s) (kept_goal (k ∈ γ) (k ∈ σ' σ s))
 
 module _ (b : Bytes) where
-  loaded : (r : Reply) → Replying (card_answer b) (start b) r → r.answer ≡ Done
+  loaded : (r : Reply) → Replying (card_answer b) (start b) r → r.answer ≡ Ok tt
       → (r.configuration.mind.beliefs ≡ initial_beliefs (layout b) b) × ((k : ℕ) → (k ∈ r.configuration.mind.goals ≡ true)
       ↔ ((k ∈ initial_goals (layout b) b ≡ true) × (k ∈ r.configuration.mind.beliefs ≡ false)))
   unfolding configuration_of start
@@ -64,12 +64,12 @@ module _ (b : Bytes) where
   wrote c xs out left r (no_room e l) u = u
   wrote c xs out left r (done e l) u = u
 
-  restored : (p : Bytes) (r : Reply) → Replying (place_answer b p) (placed (layout b) p) r → r.answer ≡ Done → r.configuration.mind.goals ≡ (placed (layout b) p).mental.γ
+  restored : (p : Bytes) (r : Reply) → Replying (place_answer b p) (placed (layout b) p) r → r.answer ≡ Ok tt → r.configuration.mind.goals ≡ (placed (layout b) p).mental.γ
   unfolding configuration_of placed
   restored p r (done e) h = refl
   restored p r (refused e) h = absurd (done≢refused (sym h))
 
-  acted : (c : Configuration) (n i : ℕ) → choice n ≡ some (act i) → (r : Reply) → Taking b c n r → r.answer ≡ Done
+  acted : (c : Configuration) (n i : ℕ) → choice n ≡ some (act i) → (r : Reply) → Taking b c n r → r.answer ≡ Ok tt
       → (k : ℕ) → (k ∈ r.configuration.mind.goals ≡ true) ↔ ((k ∈ c.mind.goals ≡ true) × (k ∈ r.configuration.mind.beliefs ≡ false))
   unfolding state_of configuration_of after
   acted c n i q r (refused e) h = absurd (done≢refused (sym h))

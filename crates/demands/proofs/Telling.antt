@@ -13,8 +13,8 @@ use Rattle.runs.specs.Theorems.{AtRest}
 use Rattle.runs.proofs.Order.{rests}
 use Rattle.runs.proofs.Run.{OwnStep, own_rest, own_full, own_to, own_step, run_rests, run_is_full, run_goes_on}
 use Rattle.meaning.specs.declared.Refusal.{Refusal}
-use Rattle.meaning.specs.declared.Answer.{Answer}
-use Rattle.meaning.specs.declared.Answer.TheVariants.{Done, Refused}
+use Rattle.meaning.specs.Answers.{Answer}
+use Rattle.std.specs.Prelude.{Ok, Err}
 use Rattle.meaning.specs.declared.Configuration.{Configuration}
 use Rattle.meaning.specs.declared.Ran.{Ran}
 use Rattle.meaning.specs.declared.Coming.{Coming}
@@ -121,7 +121,7 @@ module _ (b : Bytes) (c : Configuration) (keeps : Sized b c) (on : OnAccepted b 
   -- ---- next beside a run with budget 1
 
   abbrev Beside : Coming → Ran → Type 0
-  Beside n one = BesideOne b c (record { answer = Done; coming = n; configuration = c }) one
+  Beside n one = BesideOne b c (record { answer = Ok tt; coming = n; configuration = c }) one
 
   beside_rest : AtRest B x.mental → (one : Ran) → one ≡ ran_to 0 Ending.Rest c → Beside Coming.Rest one
   unfolding ending_number
@@ -183,11 +183,11 @@ module _ (b : Bytes) (c : Configuration) (keeps : Sized b c) (on : OnAccepted b 
 -- ---- every answer of next
 
 module _ (b : Bytes) (c : Configuration) (r : Next) (v : Nexts b c r) where
-  answered_by : (a : Answer) → configuration_answer b c ≡ a → (r.answer ≡ a) × ((r.configuration ≡ c) × ((q : Refusal) → a ≡ Refused q → r.coming ≡ Coming.Rest))
-  answered_by Done e =
+  answered_by : (a : Answer) → configuration_answer b c ≡ a → (r.answer ≡ a) × ((r.configuration ≡ c) × ((q : Refusal) → a ≡ Err q → r.coming ≡ Coming.Rest))
+  answered_by (Ok _) e =
       let n = v ∙ nexts_good b c e in
       (ap (λ (x : Next). x.answer) n, (ap (λ (x : Next). x.configuration) n, λ q h. absurd (done≢refused h)))
-  answered_by (Refused z) e =
+  answered_by (Err z) e =
       let n = v ∙ nexts_refused b c z e in
       (ap (λ (x : Next). x.answer) n, (ap (λ (x : Next). x.configuration) n, λ q h. ap (λ (x : Next). x.coming) n))
 
@@ -197,11 +197,11 @@ module _ (b : Bytes) (c : Configuration) (r : Next) (v : Nexts b c r) where
   pub unchanged : r.configuration ≡ c
   unchanged = (answered_by (configuration_answer b c) refl).1.0
 
-  refused : (q : Refusal) → r.answer ≡ Refused q → r.coming ≡ Coming.Rest
+  refused : (q : Refusal) → r.answer ≡ Err q → r.coming ≡ Coming.Rest
   refused q h = (answered_by (configuration_answer b c) refl).1.1 q (sym answered ∙ h)
 
   -- what is answered is accepted again, and no goal of it is believed
-  pub accepted_again : r.answer ≡ Done → OnAccepted b r.configuration
+  pub accepted_again : r.answer ≡ Ok tt → OnAccepted b r.configuration
   accepted_again h = ap (configuration_answer b) unchanged ∙ sym answered ∙ h
 
   pub unbelieved : Unbelieved c → Unbelieved r.configuration

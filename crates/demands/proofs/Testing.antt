@@ -4,8 +4,8 @@ use mathlib.Core.Bool.{false}
 use mathlib.Core.List.{List}
 use Prim.Native.Nat.{ℕ}
 use Rattle.meaning.specs.declared.Refusal.{Refusal}
-use Rattle.meaning.specs.declared.Answer.{Answer}
-use Rattle.meaning.specs.declared.Answer.TheVariants.{Done, Refused}
+use Rattle.meaning.specs.Answers.{Answer}
+use Rattle.std.specs.Prelude.{Ok, Err}
 use Rattle.meaning.specs.declared.Configuration.{Configuration}
 use Rattle.meaning.specs.declared.Reply.{Reply}
 use Rattle.meaning.specs.declared.Graded.{Graded}
@@ -18,32 +18,32 @@ use Rattle.meaning.proofs.Calls.{checks_refused, loads_refused, grades_refused, 
 use Rattle.demands.specs.CallContracts.{Lists, Takes, Runs, Saves, Restores}
 use Rattle.demands.specs.TestOrder.{CardFirst, ConfigurationNext, TestOrder}
 
-module _ (b : Bytes) (c : Configuration) (q : Refusal) (e : configuration_answer b c ≡ Refused q) where
-  listed : (out left : List ℕ) (r : Listed) → Lists b c out r left → r.answer ≡ Refused q
+module _ (b : Bytes) (c : Configuration) (q : Refusal) (e : configuration_answer b c ≡ Err q) where
+  listed : (out left : List ℕ) (r : Listed) → Lists b c out r left → r.answer ≡ Err q
   listed out left r w = ap (λ (x : Listed). x.answer) (w.0 ∙ (lists_refused b c out q e).0)
 
-  taken : (n : ℕ) (r : Reply) → Takes b c n r → r.answer ≡ Refused q
+  taken : (n : ℕ) (r : Reply) → Takes b c n r → r.answer ≡ Err q
   taken n r w = ap (λ (x : Reply). x.answer) (w ∙ takes_refused b c n q e)
 
-  ran : (budget : ℕ) (r : Ran) → Runs b c budget r → r.answer ≡ Refused q
+  ran : (budget : ℕ) (r : Ran) → Runs b c budget r → r.answer ≡ Err q
   ran budget r w = ap (λ (x : Ran). x.answer) (w ∙ runs_refused b c budget q e)
 
-  saved : (out left : Bytes) (r : Written) → Saves b c out r left → r.answer ≡ Refused q
+  saved : (out left : Bytes) (r : Written) → Saves b c out r left → r.answer ≡ Err q
   saved out left r w = ap (λ (x : Written). x.answer) (w.0 ∙ (saves_refused b c out q e).0)
 
-restored : (b p : Bytes) (q : Refusal) → place_answer b p ≡ Refused q → (r : Reply) → Restores b p r → r.answer ≡ Refused q
+restored : (b p : Bytes) (q : Refusal) → place_answer b p ≡ Err q → (r : Reply) → Restores b p r → r.answer ≡ Err q
 restored b p q e r w = ap (λ (x : Reply). x.answer) (w ∙ restores_refused b p q e)
 
-module _ (b : Bytes) (q : Refusal) (e : card_answer b ≡ Refused q) where
+module _ (b : Bytes) (q : Refusal) (e : card_answer b ≡ Err q) where
   -- what comes after the card is not asked
-  not_asked : (a : Answer) → and_then (card_answer b) a ≡ Refused q
+  not_asked : (a : Answer) → and_then (card_answer b) a ≡ Err q
   not_asked a = ap (λ x. and_then x a) e
 
-  with_configuration : (c : Configuration) → configuration_answer b c ≡ Refused q
+  with_configuration : (c : Configuration) → configuration_answer b c ≡ Err q
   unfolding configuration_answer
   with_configuration c = not_asked (first_given (configuration_table (layout b)) c)
 
-  with_place : (p : Bytes) → place_answer b p ≡ Refused q
+  with_place : (p : Bytes) → place_answer b p ≡ Err q
   unfolding place_answer
   with_place p = not_asked (first_given (place_table (layout b)) p)
 
@@ -59,11 +59,11 @@ module _ (b : Bytes) (q : Refusal) (e : card_answer b ≡ Refused q) where
     restore = λ p. restored b p q (with_place p);
   }
 
-place_next : (b p : Bytes) (q : Refusal) → card_answer b ≡ Done → first_given (place_table (layout b)) p ≡ Refused q → (r : Reply) → Restores b p r → r.answer ≡ Refused q
+place_next : (b p : Bytes) (q : Refusal) → card_answer b ≡ Ok tt → first_given (place_table (layout b)) p ≡ Err q → (r : Reply) → Restores b p r → r.answer ≡ Err q
 unfolding place_answer
 place_next b p q card e = restored b p q (ap (λ a. and_then a (first_given (place_table (layout b)) p)) card ∙ e)
 
-configuration_next : (b : Bytes) (c : Configuration) → card_answer b ≡ Done → configuration_good (layout b) c ≡ false → ConfigurationNext b c
+configuration_next : (b : Bytes) (c : Configuration) → card_answer b ≡ Ok tt → configuration_good (layout b) c ≡ false → ConfigurationNext b c
 configuration_next b c card bad =
     let e = configuration_refused b c card bad in
     record {

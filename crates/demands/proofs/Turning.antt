@@ -9,8 +9,8 @@ use Rattle.runs.specs.Run.{Outcome, run}
 use Rattle.runs.specs.Theorems.{counted}
 use Rattle.runs.proofs.Run.{stop_law}
 use Rattle.meaning.specs.declared.Refusal.{Refusal}
-use Rattle.meaning.specs.declared.Answer.{Answer}
-use Rattle.meaning.specs.declared.Answer.TheVariants.{Done, Refused}
+use Rattle.meaning.specs.Answers.{Answer}
+use Rattle.std.specs.Prelude.{Ok, Err}
 use Rattle.meaning.specs.declared.Configuration.{Configuration}
 use Rattle.meaning.specs.declared.Reply.{Reply}
 use Rattle.meaning.specs.declared.Written.{Written}
@@ -32,30 +32,30 @@ use Rattle.demands.proofs.Ways.{running, saving}
 -- ---- a turn
 
 -- what no bytes are answered with, as a place: the card's refusal, or 1
-no_place : (b : Bytes) → place_answer b [] ≡ and_then (card_answer b) (Refused Refusal.Short)
+no_place : (b : Bytes) → place_answer b [] ≡ and_then (card_answer b) (Err Refusal.Short)
 unfolding place_answer place_table first_given has_edition
 no_place b = refl
 
-nothing_restored : (b : Bytes) → restores b [] ≡ reply (and_then (card_answer b) (Refused Refusal.Short)) empty
+nothing_restored : (b : Bytes) → restores b [] ≡ reply (and_then (card_answer b) (Err Refusal.Short)) empty
 nothing_restored b = go (card_answer b) refl
   where
-    go : (a : Answer) → card_answer b ≡ a → restores b [] ≡ reply (and_then (card_answer b) (Refused Refusal.Short)) empty
-    go Done h = let e = no_place b ∙ ap (λ a. and_then a (Refused Refusal.Short)) h in rw h (restores_refused b [] Refusal.Short e)
-    go (Refused q) h = let e = no_place b ∙ ap (λ a. and_then a (Refused Refusal.Short)) h in rw h (restores_refused b [] q e)
+    go : (a : Answer) → card_answer b ≡ a → restores b [] ≡ reply (and_then (card_answer b) (Err Refusal.Short)) empty
+    go (Ok _) h = let e = no_place b ∙ ap (λ a. and_then a (Err Refusal.Short)) h in rw h (restores_refused b [] Refusal.Short e)
+    go (Err q) h = let e = no_place b ∙ ap (λ a. and_then a (Err Refusal.Short)) h in rw h (restores_refused b [] q e)
 
-refused_then : (a : Answer) (z : Refusal) → (q : Refusal) × (and_then a (Refused z) ≡ Refused q)
-refused_then Done z = (z, refl)
-refused_then (Refused q) z = (q, refl)
+refused_then : (a : Answer) (z : Refusal) → (q : Refusal) × (and_then a (Err z) ≡ Err q)
+refused_then (Ok _) z = (z, refl)
+refused_then (Err q) z = (q, refl)
 
 module _ (b : Bytes) (c : Configuration) (t : Turn b c) where
   pub turn_done : OnAccepted b c → Sized b c → TurnDone c t
   turn_done on h =
       let v = saving b c t.out t.left t.saved t.saves in
-      let s : t.saved.answer ≡ Done = (saved_room b c h on t.out t.left t.saved v).done_exactly.1 t.room in
+      let s : t.saved.answer ≡ Ok tt = (saved_room b c h on t.out t.left t.saved v).done_exactly.1 t.room in
       let (r, w) = saved_restored b c h t.out t.left t.saved v s t.restored t.restores in
       record { save = s; restore = r; whole = w }
 
-  turn_refused : (q : Refusal) → configuration_answer b c ≡ Refused q → TurnRefused q c t
+  turn_refused : (q : Refusal) → configuration_answer b c ≡ Err q → TurnRefused q c t
   turn_refused q e =
       let (s, f) = saves_refused b c t.out q e in
       let n : t.saved.count ≡ 0 = ap (λ (x : Written). x.count) (t.saves.0 ∙ s) in
@@ -78,19 +78,19 @@ module _ (b : Bytes) (c : Configuration) (t : Turn b c) where
   same_held h = go (configuration_answer b c) refl
     where
       go : (a : Answer) → configuration_answer b c ≡ a → held t ≡ c
-      go Done e = held_done (turn_done e h)
-      go (Refused q) e = held_refused q (turn_refused q e)
+      go (Ok _) e = held_done (turn_done e h)
+      go (Err q) e = held_refused q (turn_refused q e)
 
 -- ---- a run
 
 module _ (b : Bytes) (c : Configuration) (j : ℕ) (r : Ran) (w : Runs b c j r) where
-  run_done : OnAccepted b c → r.answer ≡ Done
+  run_done : OnAccepted b c → r.answer ≡ Ok tt
   run_done on = ap (λ (x : Ran). x.answer) (w ∙ runs_good b c on j)
 
   pub run_accepted : OnAccepted b c → OnAccepted b r.configuration
   run_accepted on = again.run b c j r w (run_done on)
 
-  run_refused : (q : Refusal) → configuration_answer b c ≡ Refused q → r ≡ refused_run q c
+  run_refused : (q : Refusal) → configuration_answer b c ≡ Err q → r ≡ refused_run q c
   run_refused q e = w ∙ runs_refused b c j q e
 
   pub run_sized : Sized b c → Sized b r.configuration
@@ -114,7 +114,7 @@ module _ (b : Bytes) (c : Configuration) (keeps : Sized b c) (j k : ℕ) (least 
       let g : one ≡ ran (counted (run (agent b) j (state_of c)).count (run (agent b) k reached)) = v ∙ runs_good b c on (j + k) ∙ ap (λ (o : Outcome). ran o) (stop_law (agent b) j k (state_of c) least) in
       joined (run (agent b) j (state_of c)) (run (agent b) k reached) first second one e f g
 
-  stopped_refused : (q : Refusal) → configuration_answer b c ≡ Refused q → AsOneRun second (first.count + second.count) one
+  stopped_refused : (q : Refusal) → configuration_answer b c ≡ Err q → AsOneRun second (first.count + second.count) one
   stopped_refused q h =
       let e = run_refused b c j first w q h in
       let f : second ≡ refused_run q c = w' ∙ ap (λ (x : Ran). runs b x.configuration k) e ∙ runs_refused b c k q h in
@@ -124,8 +124,8 @@ module _ (b : Bytes) (c : Configuration) (keeps : Sized b c) (j k : ℕ) (least 
   stopped = go (configuration_answer b c) refl
     where
       go : (a : Answer) → configuration_answer b c ≡ a → AsOneRun second (first.count + second.count) one
-      go Done h = stopped_done h
-      go (Refused q) h = stopped_refused q h
+      go (Ok _) h = stopped_done h
+      go (Err q) h = stopped_refused q h
 
 -- ---- runs with turns between them
 
@@ -153,7 +153,7 @@ module _ (b : Bytes) where
       (stopped b c keeps j (k + sum ks) (omega arith) r second one w (ap (λ x. runs b x (k + sum ks)) same) v)
 
   each_done : {c : Configuration} {j n : ℕ} {ks : List ℕ} {last : Ran} → Sized b c → OnAccepted b c → (runs : TurnedRuns b c j ks last n)
-      → Each (λ r. r.answer ≡ Done) TurnDone runs
+      → Each (λ r. r.answer ≡ Ok tt) TurnDone runs
   each_done keeps on (last_run {c} {j} r w) = run_done b c j r w on
   each_done keeps on (run_turned {c} {j} r w t least rest) =
       let reached = run_sized b c j r w keeps in
@@ -161,7 +161,7 @@ module _ (b : Bytes) where
       let same = sym (held_done b r.configuration t turned) in
       (run_done b c j r w on, (turned, each_done (subst (Sized b) same reached) (subst (OnAccepted b) same (run_accepted b c j r w on)) rest))
 
-  each_refused : {c : Configuration} {j n : ℕ} {ks : List ℕ} {last : Ran} (c₀ : Configuration) (q : Refusal) → configuration_answer b c₀ ≡ Refused q → c ≡ c₀
+  each_refused : {c : Configuration} {j n : ℕ} {ks : List ℕ} {last : Ran} (c₀ : Configuration) (q : Refusal) → configuration_answer b c₀ ≡ Err q → c ≡ c₀
       → (runs : TurnedRuns b c j ks last n) → Each (λ r. r ≡ refused_run q c₀) (TurnRefused q) runs
   each_refused c₀ q e same (last_run {c} {j} r w) = w ∙ ap (λ x. runs b x j) same ∙ runs_refused b c₀ j q e
   each_refused c₀ q e same (run_turned {c} {j} r w t least rest) =

@@ -21,10 +21,9 @@ use Rattle.runs.specs.Weight.{verdict}
 use Rattle.runs.proofs.Step.{StepsTo, none_there, too_long, taken, steps_to}
 use Rattle.meaning.specs.declared.Layout.{Layout}
 use Rattle.meaning.specs.declared.Refusal.{Refusal}
-use Rattle.meaning.specs.declared.Answer.{Answer}
-use Rattle.meaning.specs.declared.Answer.TheVariants.{Done, Refused}
+use Rattle.meaning.specs.Answers.{Answer, Checked}
+use Rattle.std.specs.Prelude.{Ok, Err}
 use Rattle.meaning.specs.declared.Configuration.{Configuration}
-use Rattle.meaning.specs.declared.Checked.{Checked}
 use Rattle.meaning.specs.declared.Reply.{Reply}
 use Rattle.meaning.specs.declared.Graded.{Graded}
 use Rattle.meaning.specs.declared.Written.{Written}
@@ -45,63 +44,63 @@ use Rattle.demands.proofs.Codes.{coded, chosen}
 -- ---- check, load, grade, restore
 
 pub data Checking (b : Bytes) : Checked → Type 0 where
-  good : card_answer b ≡ Done → Checking b (Checked.Good (layout b))
-  refused : {q : Refusal} → card_answer b ≡ Refused q → Checking b (Checked.Refused q)
+  good : card_answer b ≡ Ok tt → Checking b (Ok (layout b))
+  refused : {q : Refusal} → card_answer b ≡ Err q → Checking b (Err q)
 
 pub checking : (b : Bytes) (r : Checked) → Checks b r → Checking b r
 checking b r e = go (card_answer b) refl
   where
     go : (a : Answer) → card_answer b ≡ a → Checking b r
-    go Done h = rw (e ∙ checks_good b h) (good h)
-    go (Refused q) h = rw (e ∙ checks_refused b q h) (refused h)
+    go (Ok _) h = rw (e ∙ checks_good b h) (good h)
+    go (Err q) h = rw (e ∙ checks_refused b q h) (refused h)
 
 -- an answer with a configuration that comes from nothing but bytes: the one reached, or the empty one
 pub data Replying (a : Answer) (s : State) : Reply → Type 0 where
-  done : a ≡ Done → Replying a s (reply Done (configuration_of s))
-  refused : {q : Refusal} → a ≡ Refused q → Replying a s (reply (Refused q) empty)
+  done : a ≡ Ok tt → Replying a s (reply (Ok tt) (configuration_of s))
+  refused : {q : Refusal} → a ≡ Err q → Replying a s (reply (Err q) empty)
 
 pub loading : (b : Bytes) (r : Reply) → Loads b r → Replying (card_answer b) (start b) r
 loading b r e = go (card_answer b) refl
   where
     go : (a : Answer) → card_answer b ≡ a → Replying (card_answer b) (start b) r
-    go Done h = rw (e ∙ loads_good b h) (done h)
-    go (Refused q) h = rw (e ∙ loads_refused b q h) (refused h)
+    go (Ok _) h = rw (e ∙ loads_good b h) (done h)
+    go (Err q) h = rw (e ∙ loads_refused b q h) (refused h)
 
 pub restoring : (b p : Bytes) (r : Reply) → Restores b p r → Replying (place_answer b p) (placed (layout b) p) r
 restoring b p r e = go (place_answer b p) refl
   where
     go : (a : Answer) → place_answer b p ≡ a → Replying (place_answer b p) (placed (layout b) p) r
-    go Done h = rw (e ∙ restores_good b p h) (done h)
-    go (Refused q) h = rw (e ∙ restores_refused b p q h) (refused h)
+    go (Ok _) h = rw (e ∙ restores_good b p h) (done h)
+    go (Err q) h = rw (e ∙ restores_refused b p q h) (refused h)
 
 pub data Grading (b : Bytes) : Graded → Type 0 where
-  done : card_answer b ≡ Done → Grading b (graded Done (verdict (weight b) (agent b) (initial_plan b)))
-  refused : {q : Refusal} → card_answer b ≡ Refused q → Grading b (graded (Refused q) (Verdict.Open Offender.InitialPlan))
+  done : card_answer b ≡ Ok tt → Grading b (graded (Ok tt) (verdict (weight b) (agent b) (initial_plan b)))
+  refused : {q : Refusal} → card_answer b ≡ Err q → Grading b (graded (Err q) (Verdict.Open Offender.InitialPlan))
 
 pub grading : (b : Bytes) (r : Graded) → Grades b r → Grading b r
 grading b r e = go (card_answer b) refl
   where
     go : (a : Answer) → card_answer b ≡ a → Grading b r
-    go Done h = rw (e ∙ grades_good b h) (done h)
-    go (Refused q) h = rw (e ∙ grades_refused b q h) (refused h)
+    go (Ok _) h = rw (e ∙ grades_good b h) (done h)
+    go (Err q) h = rw (e ∙ grades_refused b q h) (refused h)
 
 -- ---- list and save: xs is to be written to out
 
 pub data Writing (b : Bytes) (c : Configuration) (xs out : List ℕ) : Written → List ℕ → Type 0 where
-  refused : {q : Refusal} → configuration_answer b c ≡ Refused q → Writing b c xs out (written (Refused q) 0 c) out
-  no_room : configuration_answer b c ≡ Done → length out < length xs → Writing b c xs out (written (Refused Refusal.NoRoom) 0 c) out
-  done : configuration_answer b c ≡ Done → length xs ≤ length out → Writing b c xs out (written Done (length xs) c) (over xs out)
+  refused : {q : Refusal} → configuration_answer b c ≡ Err q → Writing b c xs out (written (Err q) 0 c) out
+  no_room : configuration_answer b c ≡ Ok tt → length out < length xs → Writing b c xs out (written (Err Refusal.NoRoom) 0 c) out
+  done : configuration_answer b c ≡ Ok tt → length xs ≤ length out → Writing b c xs out (written (Ok tt) (length xs) c) (over xs out)
 
 writing : (b : Bytes) (c : Configuration) (xs out left : List ℕ) (r : Written) → r ≡ writes b c xs out → left ≡ leaves b c xs out → Writing b c xs out r left
 writing b c xs out left r e f = go (configuration_answer b c) refl
   where
-    room : (t : Bool) → leb (length xs) (length out) ≡ t → configuration_answer b c ≡ Done → Writing b c xs out r left
+    room : (t : Bool) → leb (length xs) (length out) ≡ t → configuration_answer b c ≡ Ok tt → Writing b c xs out r left
     room true h k = let (p, q) = writes_room b c xs out k h in rw (e ∙ p, f ∙ q) (done k (leb-true _ _ h))
     room false h k = let (p, q) = writes_no_room b c xs out k h in rw (e ∙ p, f ∙ q) (no_room k (leb-false _ _ h))
 
     go : (a : Answer) → configuration_answer b c ≡ a → Writing b c xs out r left
-    go Done h = room (leb (length xs) (length out)) refl h
-    go (Refused z) h = let (p, q) = writes_refused b c xs out z h in rw (e ∙ p, f ∙ q) (refused h)
+    go (Ok _) h = room (leb (length xs) (length out)) refl h
+    go (Err z) h = let (p, q) = writes_refused b c xs out z h in rw (e ∙ p, f ∙ q) (refused h)
 
 pub listing : (b : Bytes) (c : Configuration) (out left : List ℕ) (r : Listed) → Lists b c out r left → Writing b c (enabled_codes (agent b) (state_of c).mental) out (written_of r) left
 unfolding list_leaves
@@ -113,21 +112,21 @@ saving b c out left r (e, f) = writing b c (place (layout b) (state_of c)) out l
 
 -- ---- take
 
-rule_first_lem : (t : Bool) {q : Refusal} → IsClosed (Refused q) → IsClosed (Refused (rule_first t q))
+rule_first_lem : (t : Bool) {q : Refusal} → IsClosed (Err q) → IsClosed (Err (rule_first t q))
 rule_first_lem true h = h
 rule_first_lem false h = no_rule
 
-front_first_lem : (t : Bool) {q : Refusal} → IsClosed (Refused q) → IsClosed (Refused (front_first t q))
+front_first_lem : (t : Bool) {q : Refusal} → IsClosed (Err q) → IsClosed (Err (front_first t q))
 front_first_lem true h = h
 front_first_lem false h = front
 
-false_of_lem : (t : Bool) (n m : ℕ) → IsClosed (Refused (false_of t n m))
+false_of_lem : (t : Bool) (n m : ℕ) → IsClosed (Err (false_of t n m))
 false_of_lem true n m = condition
 false_of_lem false n m = condition
 
 -- whatever closes a choice is one of the three
 module _ (l : Layout) (b : Bytes) (c : Config) where
-  why_closed_lem : (o : Option Choice) → IsClosed (Refused (why_closed l b c o))
+  why_closed_lem : (o : Option Choice) → IsClosed (Err (why_closed l b c o))
   unfolding why
   why_closed_lem none = no_rule
   why_closed_lem (some (select n)) =
@@ -139,11 +138,11 @@ module _ (l : Layout) (b : Bytes) (c : Config) where
   why_closed_lem (some (revise n)) = rule_first_lem (ltb n l.revisions.count) (front_first_lem (is_prefix (plan l b (revision_at l b n).head) c.π) condition)
 
 pub data Taking (b : Bytes) (c : Configuration) (n : ℕ) : Reply → Type 0 where
-  refused : {q : Refusal} → configuration_answer b c ≡ Refused q → Taking b c n (reply (Refused q) c)
-  is_closed : OnAccepted b c → {q : Refusal} → q ≡ why_closed (layout b) b (state_of c).mental (choice n) → IsClosed (Refused q) → ((k : Choice) (c' : Config) → ChosenMove b c n k c' → ⊥) → Taking b c n (reply (Refused q) c)
-  plan_full : OnAccepted b c → (k : Choice) (c' : Config) → ChosenMove b c n k c' → 1024 < length c'.π → Taking b c n (reply (Refused Refusal.PlanFull) c)
+  refused : {q : Refusal} → configuration_answer b c ≡ Err q → Taking b c n (reply (Err q) c)
+  is_closed : OnAccepted b c → {q : Refusal} → q ≡ why_closed (layout b) b (state_of c).mental (choice n) → IsClosed (Err q) → ((k : Choice) (c' : Config) → ChosenMove b c n k c' → ⊥) → Taking b c n (reply (Err q) c)
+  plan_full : OnAccepted b c → (k : Choice) (c' : Config) → ChosenMove b c n k c' → 1024 < length c'.π → Taking b c n (reply (Err Refusal.PlanFull) c)
   done : OnAccepted b c → (k : Choice) (c' : Config) → ChosenMove b c n k c' → length c'.π ≤ 1024
-      → Taking b c n (reply Done (configuration_of (after (state_of c) k c')))
+      → Taking b c n (reply (Ok tt) (configuration_of (after (state_of c) k c')))
 
 pub taking : (b : Bytes) (c : Configuration) (n : ℕ) (r : Reply) → Takes b c n r → Taking b c n r
 taking b c n r e = go (configuration_answer b c) refl
@@ -158,19 +157,19 @@ taking b c n r e = go (configuration_answer b c) refl
     read on (some k) h = by on k h (ap (step_by (agent b) (state_of c)) h) (steps_to (agent b) (state_of c) k)
 
     go : (a : Answer) → configuration_answer b c ≡ a → Taking b c n r
-    go Done h = read h (choice n) refl
-    go (Refused q) h = rw (e ∙ takes_refused b c n q h) (refused h)
+    go (Ok _) h = read h (choice n) refl
+    go (Err q) h = rw (e ∙ takes_refused b c n q h) (refused h)
 
 -- ---- run
 
 pub data Running (b : Bytes) (c : Configuration) (budget : ℕ) : Ran → Type 0 where
-  refused : {q : Refusal} → configuration_answer b c ≡ Refused q
-      → Running b c budget (record { answer = Refused q; count = 0; ending = Ending.Spent; configuration = c })
-  done : configuration_answer b c ≡ Done → Running b c budget (ran (run (agent b) budget (state_of c)))
+  refused : {q : Refusal} → configuration_answer b c ≡ Err q
+      → Running b c budget (record { answer = Err q; count = 0; ending = Ending.Spent; configuration = c })
+  done : configuration_answer b c ≡ Ok tt → Running b c budget (ran (run (agent b) budget (state_of c)))
 
 pub running : (b : Bytes) (c : Configuration) (budget : ℕ) (r : Ran) → Runs b c budget r → Running b c budget r
 running b c budget r e = go (configuration_answer b c) refl
   where
     go : (a : Answer) → configuration_answer b c ≡ a → Running b c budget r
-    go Done h = rw (e ∙ runs_good b c h budget) (done h)
-    go (Refused q) h = rw (e ∙ runs_refused b c budget q h) (refused h)
+    go (Ok _) h = rw (e ∙ runs_good b c h budget) (done h)
+    go (Err q) h = rw (e ∙ runs_refused b c budget q h) (refused h)

@@ -1,19 +1,17 @@
 -- A chosen move and a run for bounded cards (02, Wish 10), beside take and run, of every answer that meets a call's contract
 -- (proved in proofs/). b is the card, c a configuration. What is so of every call is said of these two in every_call.
-use Rattle.std.specs.Prelude.{◌≡◌, ◌↔◌, ℕ, ◌≤◌, ◌<◌}
+use Rattle.std.specs.Prelude.{◌≡◌, ◌↔◌, ℕ, ◌≤◌, ◌<◌, Err}
 use Rattle.runs.specs.Limits.{heaviest_plan}
 use Rattle.runs.specs.declared.Offender.{Offender}
 use Rattle.runs.specs.declared.Verdict.{Verdict}
 use Rattle.runs.specs.Weight.{weigh}
 use Rattle.meaning.specs.declared.Refusal.{Refusal}
-use Rattle.meaning.specs.declared.Answer.TheVariants.{Refused}
 use Rattle.meaning.specs.declared.Configuration.{Configuration}
 use Rattle.meaning.specs.declared.Reply.{Reply}
 use Rattle.meaning.specs.declared.Graded.{Graded}
 use Rattle.meaning.specs.declared.Written.{Written}
 use Rattle.meaning.specs.declared.Ran.{Ran}
 use Rattle.meaning.specs.declared.BoundedRefusal.{BoundedRefusal}
-use Rattle.meaning.specs.declared.BoundedAnswer.{BoundedAnswer}
 use Rattle.meaning.specs.declared.BoundedReply.{BoundedReply}
 use Rattle.meaning.specs.declared.BoundedRan.{BoundedRan}
 use Rattle.meaning.specs.Card.{Bytes, weight}
@@ -73,17 +71,17 @@ pub record BoundedCalls : Type 0 where
   pub run_has_answer : (b : Bytes) (c : Configuration) (budget : ℕ) → (r : BoundedRan) × BoundedRuns b c budget r
   -- 02, Wish 10: "22 the card is open or the plan too heavy": exactly then
   pub take_refused_exactly : (b : Bytes) (c : Configuration) (n : ℕ) (r : BoundedReply) → BoundedTakes b c n r
-      → (r.answer ≡ BoundedAnswer.Refused BoundedRefusal.OpenOrHeavy) ↔ (OnAccepted b c × OpenOrHeavy b c)
+      → (r.answer ≡ Err BoundedRefusal.OpenOrHeavy) ↔ (OnAccepted b c × OpenOrHeavy b c)
   pub run_refused_exactly : (b : Bytes) (c : Configuration) (budget : ℕ) (r : BoundedRan) → BoundedRuns b c budget r
-      → (r.answer ≡ BoundedAnswer.Refused BoundedRefusal.OpenOrHeavy) ↔ (OnAccepted b c × OpenOrHeavy b c)
+      → (r.answer ≡ Err BoundedRefusal.OpenOrHeavy) ↔ (OnAccepted b c × OpenOrHeavy b c)
   -- 02, Wish 10: "22 …, after 13": 1 to 9 and 13 first, as take and run have them
-  pub before_22 : (b : Bytes) (c : Configuration) (q : Refusal) → configuration_answer b c ≡ Refused q
-      → ((n : ℕ) (r : BoundedReply) → BoundedTakes b c n r → as_reply r ≡ reply (Refused q) c)
+  pub before_22 : (b : Bytes) (c : Configuration) (q : Refusal) → configuration_answer b c ≡ Err q
+      → ((n : ℕ) (r : BoundedReply) → BoundedTakes b c n r → as_reply r ≡ reply (Err q) c)
       × ((budget : ℕ) (r : BoundedRan) → BoundedRuns b c budget r → as_ran r ≡ refused_run q c)
   -- what is refused with 22 is refused with nothing else, whatever the code and the budget: the configuration comes back as it came
   -- in
   pub by_22 : (b : Bytes) (c : Configuration) → OnAccepted b c → OpenOrHeavy b c
-      → ((n : ℕ) (r : BoundedReply) → BoundedTakes b c n r → as_reply r ≡ reply (Refused Refusal.OpenOrHeavy) c)
+      → ((n : ℕ) (r : BoundedReply) → BoundedTakes b c n r → as_reply r ≡ reply (Err Refusal.OpenOrHeavy) c)
       × ((budget : ℕ) (r : BoundedRan) → BoundedRuns b c budget r → as_ran r ≡ refused_run Refusal.OpenOrHeavy c)
   -- after such a call the plan still weighs at most 1,024, and the same card is bounded: closed under both calls, done or refused
   pub take_again : (b : Bytes) (c : Configuration) → OnBounded b c → (n : ℕ) (r : BoundedReply) → BoundedTakes b c n r

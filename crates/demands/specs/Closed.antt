@@ -1,11 +1,10 @@
 -- Why a chosen move is closed, exactly (02, Wish 1), by the rules and specifications of the card's agent: of every answer that
 -- meets take's contract, on an accepted card and configuration (proved in proofs/).
-use Rattle.std.specs.Prelude.{◌≡◌, ◌↔◌, true, false, [], ◌∷◌, ◌++◌, ℕ}
+use Rattle.std.specs.Prelude.{◌≡◌, ◌↔◌, true, false, [], ◌∷◌, ◌++◌, ℕ, Err}
 use Rattle.paper.specs.Language.{BasicAction, Plan, Letter, 𝐁, 𝐆, Specification, Selection, Revision, Agent, Config}
 use Rattle.paper.specs.Transitions.{◌⊨◌, Choice, select, act, revise, Entry}
 use Rattle.runs.specs.Order.{code}
 use Rattle.meaning.specs.declared.Refusal.{Refusal}
-use Rattle.meaning.specs.declared.Answer.TheVariants.{Refused}
 use Rattle.meaning.specs.declared.Configuration.{Configuration}
 use Rattle.meaning.specs.declared.Reply.{Reply}
 use Rattle.meaning.specs.Card.{Bytes, layout, agent}
@@ -64,11 +63,11 @@ pub record FalseAt (b : Bytes) (c : Configuration) (n node : ℕ) : Type 0 where
 -- 02, Wish 1: "Refusals: 10 gives way to three in its place and this order", each exactly when.
 pub record ClosedExactly (b : Bytes) (c : Configuration) (n : ℕ) (r : Reply) : Type 0 where
   -- 02, Wish 1: "14 no such rule or specification"
-  pub no_rule : (r.answer ≡ Refused Refusal.NoRule) ↔ ((k : Choice) → code k ≡ n → Has (agent b) k → ⊥)
+  pub no_rule : (r.answer ≡ Err Refusal.NoRule) ↔ ((k : Choice) → code k ≡ n → Has (agent b) k → ⊥)
   -- 02, Wish 1: "15 the plan's front doesn't fit (empty, not empty, other first action, other head)"
-  pub front : (r.answer ≡ Refused Refusal.Front) ↔ ((k : Choice) × ((code k ≡ n) × UnfitFront (agent b) (state_of c).mental.π k))
+  pub front : (r.answer ≡ Err Refusal.Front) ↔ ((k : Choice) × ((code k ≡ n) × UnfitFront (agent b) (state_of c).mental.π k))
   -- 02, Wish 1: "16 a condition is false, with the node, the belief condition before the goal condition."
-  pub condition : (node : ℕ) → (r.answer ≡ Refused (Refusal.Condition node)) ↔ FalseAt b c n node
+  pub condition : (node : ℕ) → (r.answer ≡ Err (Refusal.Condition node)) ↔ FalseAt b c n node
 
 -- The same of every answer that take may give.
 abbrev pub ClosedLaw : Type 0

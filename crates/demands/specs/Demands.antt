@@ -1,6 +1,6 @@
 -- The letter's three demands over the eight calls' own contracts, and that a contract leaves one answer: of every answer that
 -- meets the contract (proved in proofs/).
-use Rattle.std.specs.Prelude.{◌≡◌, ◌↔◌, ℕ, ◌+◌, ◌*◌, ◌≤◌, ◌<◌, length, take, drop}
+use Rattle.std.specs.Prelude.{◌≡◌, ◌↔◌, ℕ, ◌+◌, ◌*◌, ◌≤◌, ◌<◌, length, take, drop, Ok, Err}
 use mathlib.Core.List.{List, [], ◌∷◌, ◌++◌, Memᴰ}
 use Rattle.std.proofs.Math.Option.{some}
 use Rattle.paper.specs.Language.{Config}
@@ -16,10 +16,8 @@ use Rattle.runs.specs.Weight.{weigh, Bounded, selections}
 use Rattle.runs.specs.Theorems.{AtRest, Rising}
 use Rattle.runs.specs.Theorems as Runs
 use Rattle.meaning.specs.declared.Refusal.{Refusal}
-use Rattle.meaning.specs.declared.Answer.{Answer}
-use Rattle.meaning.specs.declared.Answer.TheVariants.{Done, Refused}
+use Rattle.meaning.specs.Answers.{Answer, Checked}
 use Rattle.meaning.specs.declared.Configuration.{Configuration}
-use Rattle.meaning.specs.declared.Checked.{Checked}
 use Rattle.meaning.specs.declared.Reply.{Reply}
 use Rattle.meaning.specs.declared.Graded.{Graded}
 use Rattle.meaning.specs.declared.Written.{Written}
@@ -57,28 +55,28 @@ pub record Demand1 : Type 0 where
   -- 00, demand 1: "A refusal hands back the configuration it was given"; 01, "Numbers the guide may answer": "Any count in a
   -- refusal is 0."
   pub list_hands_back : (b : Bytes) (c : Configuration) (out left : List ℕ) (r : Listed) → Lists b c out r left
-      → (q : Refusal) → r.answer ≡ Refused q → (r.configuration ≡ c) × (r.count ≡ 0) × (r.judged ≡ 0) × (r.goals ≡ 0)
+      → (q : Refusal) → r.answer ≡ Err q → (r.configuration ≡ c) × (r.count ≡ 0) × (r.judged ≡ 0) × (r.goals ≡ 0)
   pub take_hands_back : (b : Bytes) (c : Configuration) (n : ℕ) (r : Reply) → Takes b c n r
-      → (q : Refusal) → r.answer ≡ Refused q → r.configuration ≡ c
+      → (q : Refusal) → r.answer ≡ Err q → r.configuration ≡ c
   pub run_hands_back : (b : Bytes) (c : Configuration) (budget : ℕ) (r : Ran) → Runs b c budget r
-      → (q : Refusal) → r.answer ≡ Refused q → (r.configuration ≡ c) × (r.count ≡ 0)
+      → (q : Refusal) → r.answer ≡ Err q → (r.configuration ≡ c) × (r.count ≡ 0)
   pub save_hands_back : (b : Bytes) (c : Configuration) (out left : Bytes) (r : Written) → Saves b c out r left
-      → (q : Refusal) → r.answer ≡ Refused q → (r.configuration ≡ c) × (r.count ≡ 0)
+      → (q : Refusal) → r.answer ≡ Err q → (r.configuration ≡ c) × (r.count ≡ 0)
   -- 00, demand 1: "or the empty one where it was given none"
-  pub load_hands_empty : (b : Bytes) (r : Reply) → Loads b r → (q : Refusal) → r.answer ≡ Refused q → r.configuration ≡ empty
-  pub grade_hands_empty : (b : Bytes) (r : Graded) → Grades b r → (q : Refusal) → r.answer ≡ Refused q → r.configuration ≡ empty
-  pub restore_hands_empty : (b p : Bytes) (r : Reply) → Restores b p r → (q : Refusal) → r.answer ≡ Refused q → r.configuration ≡ empty
+  pub load_hands_empty : (b : Bytes) (r : Reply) → Loads b r → (q : Refusal) → r.answer ≡ Err q → r.configuration ≡ empty
+  pub grade_hands_empty : (b : Bytes) (r : Graded) → Grades b r → (q : Refusal) → r.answer ≡ Err q → r.configuration ≡ empty
+  pub restore_hands_empty : (b p : Bytes) (r : Reply) → Restores b p r → (q : Refusal) → r.answer ≡ Err q → r.configuration ≡ empty
   -- 00, demand 1: "and writes to no lent buffer"
   pub list_leaves : (b : Bytes) (c : Configuration) (out left : List ℕ) (r : Listed) → Lists b c out r left
-      → (q : Refusal) → r.answer ≡ Refused q → left ≡ out
+      → (q : Refusal) → r.answer ≡ Err q → left ≡ out
   pub save_leaves : (b : Bytes) (c : Configuration) (out left : Bytes) (r : Written) → Saves b c out r left
-      → (q : Refusal) → r.answer ≡ Refused q → left ≡ out
+      → (q : Refusal) → r.answer ≡ Err q → left ≡ out
 
 -- ---- demand 2
 
 -- 00, demand 2: "On an accepted card and configuration": rows 1 to 9 and 13 do not hold.
 abbrev pub OnAccepted : Bytes → Configuration → Type 0
-OnAccepted b c = configuration_answer b c ≡ Done
+OnAccepted b c = configuration_answer b c ≡ Ok tt
 
 -- 00, demand 2: "moves are those of Definitions 8 to 11 of source document 004": from the configuration handed in, by the
 -- card's agent.
@@ -107,9 +105,9 @@ pub record ListedMoves (b : Bytes) (c : Configuration) (out left : List ℕ) (co
 -- 01, "Numbers the guide may answer", row 12: "the lent list or place buffer is too short": for n entries.
 pub record RoomFor (n : ℕ) (out : List ℕ) (a : Answer) : Type 0 where
   -- 01, "Numbers the guide may answer", row 0: "none below holds"
-  pub done_exactly : (a ≡ Done) ↔ (n ≤ length out)
+  pub done_exactly : (a ≡ Ok tt) ↔ (n ≤ length out)
   -- 01, "Numbers the guide may answer", row 12: "too short"
-  pub no_room_exactly : (a ≡ Refused Refusal.NoRoom) ↔ (length out < n)
+  pub no_room_exactly : (a ≡ Err Refusal.NoRoom) ↔ (length out < n)
 
 -- 00, demand 2: "A chosen move … such a transition": the one that the code n stands for. 01, "A configuration and its
 -- transitions": "A choice is coded as 256 times the kind (0 selection, 1 action, 2 revision) plus the number".
@@ -120,11 +118,11 @@ pub record ChosenMove (b : Bytes) (c : Configuration) (n : ℕ) (k : Choice) (c'
 -- 02, Wish 1: "10 gives way to three in its place": what a choice that is closed is answered with.
 pub data IsClosed : Answer → Type 0 where
   -- 02, Wish 1: "14 no such rule or specification"
-  no_rule : IsClosed (Refused Refusal.NoRule)
+  no_rule : IsClosed (Err Refusal.NoRule)
   -- 02, Wish 1: "15 the plan's front doesn't fit"
-  front : IsClosed (Refused Refusal.Front)
+  front : IsClosed (Err Refusal.Front)
   -- 02, Wish 1: "16 a condition is false, with the node"
-  condition : {node : ℕ} → IsClosed (Refused (Refusal.Condition node))
+  condition : {node : ℕ} → IsClosed (Err (Refusal.Condition node))
 
 -- The configuration answered is the one that is handed out for a state, and stands for that state.
 pub record StandsFor (c : Configuration) (s : State) : Type 0 where
@@ -134,7 +132,7 @@ pub record StandsFor (c : Configuration) (s : State) : Type 0 where
 -- 01, "A configuration and its transitions": "answers the configuration reached, how many transitions were taken, and one of
 -- three endings": those of a run's outcome.
 pub record Tells (r : Ran) (o : Outcome) : Type 0 where
-  pub done : r.answer ≡ Done
+  pub done : r.answer ≡ Ok tt
   -- 01, "A configuration and its transitions": "the configuration reached"
   pub reached : StandsFor r.configuration o.state
   -- 01, "A configuration and its transitions": "how many transitions were taken"
@@ -147,7 +145,7 @@ pub record Demand2 : Type 0 where
   -- 00, demand 2: "On an accepted card and configuration, moves are those of Definitions 8 to 11 of source document 004, with
   -- document 01's limits, none missing and none added."
   pub moves : (b : Bytes) (c : Configuration) → OnAccepted b c → (out left : List ℕ) (r : Listed) → Lists b c out r left
-      → r.answer ≡ Done → ListedMoves b c out left r.count
+      → r.answer ≡ Ok tt → ListedMoves b c out left r.count
   -- 01, "Numbers the guide may answer", row 12: "the lent list … is too short" for the moves, and no other refusal.
   pub moves_room : (b : Bytes) (c : Configuration) → OnAccepted b c → (out left : List ℕ) (r : Listed) → Lists b c out r left
       → (ns : List ℕ) × (AllMoves b c ns × RoomFor (length ns) out r.answer)
@@ -155,7 +153,7 @@ pub record Demand2 : Type 0 where
   pub moves_one : (b : Bytes) (c : Configuration) (ns ms : List ℕ) → AllMoves b c ns → AllMoves b c ms → ns ≡ ms
   -- 00, demand 2: "A chosen move is taken exactly if it is such a transition and its plan fits."
   pub taken_exactly : (b : Bytes) (c : Configuration) → OnAccepted b c → (n : ℕ) (r : Reply) → Takes b c n r
-      → (r.answer ≡ Done) ↔ ((k : Choice) × ((c' : Config) × (ChosenMove b c n k c' × (length c'.π ≤ longest_plan))))
+      → (r.answer ≡ Ok tt) ↔ ((k : Choice) × ((c' : Config) × (ChosenMove b c n k c' × (length c'.π ≤ longest_plan))))
   -- The configuration it leads to: 01, "A configuration and its transitions", The guide's order: "After any transition, the
   -- guide's or a chosen one, the phase is the kind taken plus 1, modulo 3."
   pub taken_to : (b : Bytes) (c : Configuration) → OnAccepted b c → (n : ℕ) (r : Reply) → Takes b c n r
@@ -166,13 +164,13 @@ pub record Demand2 : Type 0 where
       → IsClosed r.answer ↔ ((k : Choice) (c' : Config) → ChosenMove b c n k c' → ⊥)
   -- 01, "Numbers the guide may answer", row 11: "the choice is enabled, but leaves more than 1,024 actions"
   pub plan_full_exactly : (b : Bytes) (c : Configuration) → OnAccepted b c → (n : ℕ) (r : Reply) → Takes b c n r
-      → (r.answer ≡ Refused Refusal.PlanFull) ↔ ((k : Choice) × ((c' : Config) × (ChosenMove b c n k c' × (longest_plan < length c'.π))))
+      → (r.answer ≡ Err Refusal.PlanFull) ↔ ((k : Choice) × ((c' : Config) × (ChosenMove b c n k c' × (longest_plan < length c'.π))))
   -- 01, "A configuration and its transitions": "A choice is coded as …": a code in the list is read as the choice it stands for.
   pub read_back : (b : Bytes) (c : Configuration) → OnAccepted b c → (k : Choice) (c' : Config) → Transition b c k c'
       → choice (code k) ≡ some k
   -- 01, "Numbers the guide may answer", row 10: "the code is no enabled choice": none of "The list of enabled choices".
   pub offered : (b : Bytes) (c : Configuration) → OnAccepted b c → (out left : List ℕ) (r : Listed) → Lists b c out r left
-      → r.answer ≡ Done → (n : ℕ) (r' : Reply) → Takes b c n r'
+      → r.answer ≡ Ok tt → (n : ℕ) (r' : Reply) → Takes b c n r'
       → Memᴰ n (take r.count left) ↔ (IsClosed r'.answer → ⊥)
   -- 00, demand 2: "The guide's own order is document 01's.": which move is the guide's, from any state.
   pub own_move : (b : Bytes) (s : State) → Runs.OrderLaws (agent b) s
@@ -186,16 +184,16 @@ pub record Demand2 : Type 0 where
   pub saved_room : (b : Bytes) (c : Configuration) → Shaped c → OnAccepted b c → (out left : Bytes) (r : Written) → Saves b c out r left
       → RoomFor (plan_at (set_bytes (layout b)) + c.mind.length) out r.answer
   -- 01, "Numbers the guide may answer": "Saving writes 44 + L bytes and no others."; in edition 2 76 + L.
-  pub saved : (b : Bytes) (c : Configuration) → Shaped c → (out left : Bytes) (r : Written) → Saves b c out r left → r.answer ≡ Done
+  pub saved : (b : Bytes) (c : Configuration) → Shaped c → (out left : Bytes) (r : Written) → Saves b c out r left → r.answer ≡ Ok tt
       → (r.count ≡ plan_at (set_bytes (layout b)) + c.mind.length) × (drop r.count left ≡ drop r.count out)
   -- 00, demand 2: "A place saved and restored is the same configuration", "under one card and with room to save".
   pub saved_restored : (b : Bytes) (c : Configuration) → Shaped c → (out left : Bytes) (r : Written) → Saves b c out r left
-      → r.answer ≡ Done → (r' : Reply) → Restores b (take r.count left) r'
-      → (r'.answer ≡ Done) × (r'.configuration ≡ c)
+      → r.answer ≡ Ok tt → (r' : Reply) → Restores b (take r.count left) r'
+      → (r'.answer ≡ Ok tt) × (r'.configuration ≡ c)
   -- 00, demand 2: "an accepted place, restored and saved, is the same bytes, under one card and with room to save."
-  pub restored_saved : (b p : Bytes) → AreBytes p → (r : Reply) → Restores b p r → r.answer ≡ Done
+  pub restored_saved : (b p : Bytes) → AreBytes p → (r : Reply) → Restores b p r → r.answer ≡ Ok tt
       → (out left : Bytes) → length p ≤ length out → (r' : Written) → Saves b r.configuration out r' left
-      → (r'.answer ≡ Done) × ((r'.count ≡ length p) × ((take (length p) left ≡ p) × (drop (length p) left ≡ drop (length p) out)))
+      → (r'.answer ≡ Ok tt) × ((r'.count ≡ length p) × ((take (length p) left ≡ p) × (drop (length p) left ≡ drop (length p) out)))
 
 -- ---- demand 3
 
@@ -219,10 +217,10 @@ pub record BoundedCount (b : Bytes) (c : Configuration) (w : ℕ) (r : Ran) : Ty
 pub record Demand3 : Type 0 where
   -- 00, demand 3: "A card is graded bounded exactly if its starting plans weigh at most 1,024 and each revision lowers the
   -- weight."
-  pub exactly : (b : Bytes) → card_answer b ≡ Done → (g : Graded) → Grades b g
+  pub exactly : (b : Bytes) → card_answer b ≡ Ok tt → (g : Graded) → Grades b g
       → (g.verdict ≡ Verdict.Bounded) ↔ Bounded (weight b) (agent b) (initial_plan b)
   -- the same sentence of a refused card: it is never called bounded.
-  pub refused_never : (b : Bytes) (g : Graded) → Grades b g → (q : Refusal) → g.answer ≡ Refused q
+  pub refused_never : (b : Bytes) (g : Graded) → Grades b g → (q : Refusal) → g.answer ≡ Err q
       → g.verdict ≡ Verdict.Bounded → ⊥
   -- 00, demand 3: "Under such a card, from a configuration whose plan weighs W, at most 1,024, no run of more than W
   -- transitions without a plan selection exists, whoever chooses"
@@ -249,7 +247,7 @@ pub record Demand3 : Type 0 where
   -- "plan full" is never its answer.
   pub never_plan_full : (b : Bytes) (g : Graded) → Grades b g → g.verdict ≡ Verdict.Bounded
       → (c : Configuration) → weigh (weight b) (state_of c).mental.π ≤ heaviest_plan
-      → (n : ℕ) (r : Reply) → Takes b c n r → r.answer ≡ Refused Refusal.PlanFull → ⊥
+      → (n : ℕ) (r : Reply) → Takes b c n r → r.answer ≡ Err Refusal.PlanFull → ⊥
 
 -- ---- one answer
 

@@ -1,6 +1,6 @@
 -- What comes next, beside what a run does; and the rule for an app that shows it: of every answer that meets a call's contract
 -- (proved in proofs/). b is the card, c a configuration.
-use Rattle.std.specs.Prelude.{◌≡◌, ◌↔◌, ℕ, suc, ◌<◌}
+use Rattle.std.specs.Prelude.{◌≡◌, ◌↔◌, ℕ, suc, ◌<◌, Ok, Err}
 use mathlib.Core.List.{[], ◌∷◌, ◌++◌, Memᴰ}
 use Rattle.std.proofs.Math.Option.{some}
 use Rattle.paper.specs.Transitions.{Choice}
@@ -8,7 +8,6 @@ use Rattle.runs.specs.declared.Ending.{Ending}
 use Rattle.runs.specs.Order.{code, guide}
 use Rattle.runs.specs.Theorems.{AtRest}
 use Rattle.meaning.specs.declared.Refusal.{Refusal}
-use Rattle.meaning.specs.declared.Answer.TheVariants.{Done, Refused}
 use Rattle.meaning.specs.declared.Configuration.{Configuration}
 use Rattle.meaning.specs.declared.Reply.{Reply}
 use Rattle.meaning.specs.declared.Written.{Written}
@@ -34,25 +33,25 @@ pub record OwnChoice (b : Bytes) (c : Configuration) (n : ℕ) : Type 0 where
 
 -- A run that is done: its count, its ending and the configuration reached.
 abbrev pub ran_to : ℕ → Ending → Configuration → Ran
-ran_to n e c = record { answer = Done; count = n; ending = e; configuration = c }
+ran_to n e c = record { answer = Ok tt; count = n; ending = e; configuration = c }
 
 -- A move is told, by its code n: it is the one that a run with budget 1 makes, and taking it leads where that run leads.
 pub record MoveTold (b : Bytes) (c : Configuration) (n : ℕ) (one : Ran) : Type 0 where
   pub own : OwnChoice b c n
   pub run : one ≡ ran_to 1 Ending.Spent one.configuration
-  pub taken : (t : Reply) → Takes b c n t → t ≡ reply Done one.configuration
+  pub taken : (t : Reply) → Takes b c n t → t ≡ reply (Ok tt) one.configuration
 
 -- Full is told, with the code n that does not fit: 01, "A configuration and its transitions": "full when the transition to be taken
 -- would leave more than 1,024 actions, which is then not taken"; 01, "Numbers the guide may answer", row 11, of the same choice.
 pub record FullTold (b : Bytes) (c : Configuration) (n : ℕ) (one : Ran) : Type 0 where
   pub own : OwnChoice b c n
   pub run : one ≡ ran_to 0 Ending.Full c
-  pub refused : (t : Reply) → Takes b c n t → t ≡ reply (Refused Refusal.PlanFull) c
+  pub refused : (t : Reply) → Takes b c n t → t ≡ reply (Err Refusal.PlanFull) c
 
 -- What next answers on an accepted card and configuration, beside a run with budget 1: each of the three exactly where the run
 -- says so.
 pub record BesideOne (b : Bytes) (c : Configuration) (r : Next) (one : Ran) : Type 0 where
-  pub done : r.answer ≡ Done
+  pub done : r.answer ≡ Ok tt
   pub move_exactly : ((n : ℕ) × (r.coming ≡ Coming.Move n)) ↔ (one.count ≡ 1)
   pub move : (n : ℕ) → r.coming ≡ Coming.Move n → MoveTold b c n one
   pub full_exactly : ((n : ℕ) × (r.coming ≡ Coming.Full n)) ↔ (one.ending ≡ Ending.Full)
@@ -71,7 +70,7 @@ pub record NextLaws : Type 0 where
   pub answered : (b : Bytes) (c : Configuration) (r : Next) → Nexts b c r → r.answer ≡ configuration_answer b c
   pub listed : (b : Bytes) (c : Configuration) (r : Next) → Nexts b c r → Memᴰ (answer_number r.answer) (done_or_card ++ (13 ∷ []))
   -- a refusal says rest, and no move
-  pub refused : (b : Bytes) (c : Configuration) (r : Next) → Nexts b c r → (q : Refusal) → r.answer ≡ Refused q → r.coming ≡ Coming.Rest
+  pub refused : (b : Bytes) (c : Configuration) (r : Next) → Nexts b c r → (q : Refusal) → r.answer ≡ Err q → r.coming ≡ Coming.Rest
   -- nothing is changed: 00, demand 1: "A refusal hands back the configuration it was given", and so where it is done
   pub unchanged : (b : Bytes) (c : Configuration) (r : Next) → Nexts b c r → r.configuration ≡ c
   -- 01, "What the contracts settle": "the contract determines the answer"
@@ -100,7 +99,7 @@ pub data Woven (b : Bytes) (c₀ : Configuration) : ℕ → Configuration → Ty
 -- Every move that was told is taken, and every turn of the screen is done.
 abbrev pub EachDone : {b : Bytes} {c₀ c : Configuration} {n : ℕ} → Woven b c₀ n c → Type 0
 EachDone begun = Unit
-EachDone (made w r v k e t u) = (t.answer ≡ Done) × EachDone w
+EachDone (made w r v k e t u) = (t.answer ≡ Ok tt) × EachDone w
 EachDone (saved w out left r v) = EachDone w
 EachDone (turned {c = c} w t) = TurnDone c t × EachDone w
 

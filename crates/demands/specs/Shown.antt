@@ -1,10 +1,9 @@
 -- What take shows of a condition that closes a choice, on an accepted card and configuration (proved in proofs/).
-use Rattle.std.specs.Prelude.{◌≡◌, false, ℕ, ◌<◌}
+use Rattle.std.specs.Prelude.{◌≡◌, false, ℕ, ◌<◌, Err}
 use Rattle.std.proofs.Math.Option.{some}
 use Rattle.paper.specs.Language.{Letter, 𝐁, 𝐆}
 use Rattle.paper.specs.Transitions.{◌⊨◌, Choice, select, act, revise}
 use Rattle.meaning.specs.declared.Refusal.{Refusal}
-use Rattle.meaning.specs.declared.Answer.TheVariants.{Refused}
 use Rattle.meaning.specs.declared.Layout.{Layout}
 use Rattle.meaning.specs.declared.Configuration.{Configuration}
 use Rattle.meaning.specs.declared.Reply.{Reply}
@@ -39,4 +38,4 @@ pub record Shown (b : Bytes) (c : Configuration) (n node : ℕ) : Type 0 where
 -- The same of every answer 16 that take may give.
 abbrev pub ShownLaw : Type 0
 ShownLaw = (b : Bytes) (c : Configuration) → OnAccepted b c → (n : ℕ) (r : Reply) → Takes b c n r
-    → (node : ℕ) → r.answer ≡ Refused (Refusal.Condition node) → Shown b c n node
+    → (node : ℕ) → r.answer ≡ Err (Refusal.Condition node) → Shown b c n node

@@ -1,10 +1,9 @@
 -- Goals are struck by the beliefs (02, Wish 5), of every answer that meets a call's contract (proved in proofs/).
-use Rattle.std.specs.Prelude.{◌≡◌, ◌↔◌, true, false, List, ℕ}
+use Rattle.std.specs.Prelude.{◌≡◌, ◌↔◌, true, false, List, ℕ, Ok}
 use Rattle.std.proofs.Math.Option.{some}
 use Rattle.paper.specs.Atoms.{◌∈◌}
 use Rattle.paper.specs.Transitions.{act}
 use Rattle.runs.specs.Theorems.{NoneBelieved}
-use Rattle.meaning.specs.declared.Answer.TheVariants.{Done}
 use Rattle.meaning.specs.declared.Configuration.{Configuration}
 use Rattle.meaning.specs.declared.Reply.{Reply}
 use Rattle.meaning.specs.declared.Graded.{Graded}
@@ -23,11 +22,11 @@ Unbelieved c = NoneBelieved (state_of c).mental
 
 pub record Struck : Type 0 where
   -- 02, Wish 5: "the goals are those not believed, and at load likewise": of the card's own goals; the beliefs are the card's own.
-  pub load : (b : Bytes) (r : Reply) → Loads b r → r.answer ≡ Done
+  pub load : (b : Bytes) (r : Reply) → Loads b r → r.answer ≡ Ok tt
       → (r.configuration.mind.beliefs ≡ initial_beliefs (layout b) b) × ((k : ℕ) → (k ∈ r.configuration.mind.goals ≡ true)
       ↔ ((k ∈ initial_goals (layout b) b ≡ true) × (k ∈ r.configuration.mind.beliefs ≡ false)))
   -- 02, Wish 5: "after an action the goals are those not believed": the code is that of a specification, and the move is taken.
-  pub action : (b : Bytes) (c : Configuration) (n i : ℕ) → choice n ≡ some (act i) → (r : Reply) → Takes b c n r → r.answer ≡ Done
+  pub action : (b : Bytes) (c : Configuration) (n i : ℕ) → choice n ≡ some (act i) → (r : Reply) → Takes b c n r → r.answer ≡ Ok tt
       → (k : ℕ) → (k ∈ r.configuration.mind.goals ≡ true)
       ↔ ((k ∈ c.mind.goals ≡ true) × (k ∈ r.configuration.mind.beliefs ≡ false))
   -- 01, "What the guide does": "grade the card": the empty configuration has no goal
@@ -40,4 +39,4 @@ pub record Struck : Type 0 where
   pub save : (b : Bytes) (c : Configuration) (out left : Bytes) (r : Written) → Saves b c out r left → Unbelieved c
       → Unbelieved r.configuration
   -- 02, Wish 5: "Restore strikes nothing.": the goals are those of the place.
-  pub restore : (b p : Bytes) (r : Reply) → Restores b p r → r.answer ≡ Done → r.configuration.mind.goals ≡ (placed (layout b) p).mental.γ
+  pub restore : (b p : Bytes) (r : Reply) → Restores b p r → r.answer ≡ Ok tt → r.configuration.mind.goals ≡ (placed (layout b) p).mental.γ

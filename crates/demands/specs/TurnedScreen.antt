@@ -1,9 +1,8 @@
 -- The turned screen (02, Wish 7), of every answer that meets a call's contract (proved in proofs/). b is the card, c a
 -- configuration.
-use Rattle.std.specs.Prelude.{◌≡◌, List, [], ◌∷◌, ℕ, ◌+◌, ◌≤◌, length, take}
+use Rattle.std.specs.Prelude.{◌≡◌, List, [], ◌∷◌, ℕ, ◌+◌, ◌≤◌, length, take, Ok, Err}
 use Rattle.runs.specs.declared.Ending.{Ending}
 use Rattle.meaning.specs.declared.Refusal.{Refusal}
-use Rattle.meaning.specs.declared.Answer.TheVariants.{Done, Refused}
 use Rattle.meaning.specs.declared.Configuration.{Configuration}
 use Rattle.meaning.specs.declared.Reply.{Reply}
 use Rattle.meaning.specs.declared.Written.{Written}
@@ -36,21 +35,21 @@ pub record Turn (b : Bytes) (c : Configuration) : Type 0 where
 -- What a caller goes on with: what restore answered; where that is refused, what save handed back. 00, demand 1: "A refusal
 -- hands back the configuration it was given".
 abbrev pub held : {b : Bytes} {c : Configuration} → Turn b c → Configuration
-held t = elim t.restored.answer [ Done ↦ t.restored.configuration | Refused q ↦ t.saved.configuration ]
+held t = elim t.restored.answer [ Ok _ ↦ t.restored.configuration | Err q ↦ t.saved.configuration ]
 
 -- Both calls are done, and what was saved is restored, all of it.
 pub record TurnDone {b : Bytes} (c : Configuration) (t : Turn b c) : Type 0 where
-  pub save : t.saved.answer ≡ Done
-  pub restore : t.restored.answer ≡ Done
+  pub save : t.saved.answer ≡ Ok tt
+  pub restore : t.restored.answer ≡ Ok tt
   pub whole : t.restored.configuration ≡ c
 
 -- Both calls are refused, save with q: 01, "Numbers the guide may answer": "A refusal answers the number and the configuration
 -- as it came in". "Any count in a refusal is 0. No lent buffer is written." So restore is given no bytes: it answers what the
 -- card is refused with, and 1 under a card that is accepted: 02, Wish 9: "a file under 4 bytes is 1".
 pub record TurnRefused {b : Bytes} (q : Refusal) (c : Configuration) (t : Turn b c) : Type 0 where
-  pub save : t.saved ≡ written (Refused q) 0 c
+  pub save : t.saved ≡ written (Err q) 0 c
   pub left : t.left ≡ t.out
-  pub restore : t.restored ≡ reply (and_then (card_answer b) (Refused Refusal.Short)) empty
+  pub restore : t.restored ≡ reply (and_then (card_answer b) (Err Refusal.Short)) empty
 
 -- ---- runs, with a turn of the screen between any two
 
@@ -81,15 +80,15 @@ pub record AsOneRun (last : Ran) (counts : ℕ) (one : Ran) : Type 0 where
 
 -- A run that is refused with q (docs/DECISIONS.md, "What a refused run says beside its number").
 abbrev pub refused_run : Refusal → Configuration → Ran
-refused_run q c = record { answer = Refused q; count = 0; ending = Ending.Spent; configuration = c }
+refused_run q c = record { answer = Err q; count = 0; ending = Ending.Spent; configuration = c }
 
 -- Runs with turns beside one run. Where the card and the configuration are accepted every call is done; where one of the two is
 -- refused every call is refused alike.
 pub record Together {b : Bytes} {c : Configuration} {j n : ℕ} {ks : List ℕ} {last : Ran} (runs : TurnedRuns b c j ks last n) (one : Ran)
     : Type 0 where
   pub as_one_run : AsOneRun last n one
-  pub all_done : OnAccepted b c → Each (λ r. r.answer ≡ Done) TurnDone runs × (one.answer ≡ Done)
-  pub refused_alike : (q : Refusal) → configuration_answer b c ≡ Refused q
+  pub all_done : OnAccepted b c → Each (λ r. r.answer ≡ Ok tt) TurnDone runs × (one.answer ≡ Ok tt)
+  pub refused_alike : (q : Refusal) → configuration_answer b c ≡ Err q
       → Each (λ r. r ≡ refused_run q c) (TurnRefused q) runs × (one ≡ refused_run q c)
 
 -- A sum of budgets. Serves TurnedScreen.

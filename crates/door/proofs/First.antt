@@ -12,14 +12,17 @@ use mathlib.Core.Option.{some}
 use Rattle.paper.specs.Next.{enabled}
 use Rattle.runs.proofs.Numbers.{made_next}
 use Rattle.runs.specs.Order.{numbers, of_kind, in_turn, first}
-use Rattle.runs.specs.Order as Order
-use Rattle.runs.proofs.Order.{each_kind, first_yes, first_no}
+use Rattle.runs.specs.declared.Kind.{Kind}
+use Rattle.runs.specs.Kinds.{kind_number}
+use Rattle.runs.proofs.Order.{first_yes, first_no}
 use Rattle.meaning.specs.declared.Layout.{Layout}
 use Rattle.meaning.specs.Card.{Bytes, agent_of, agent_for}
 use Rattle.meaning.proofs.Accepted.{length-entries}
 use Rattle.layout.specs.Entries.{count_of}
-use Rattle.door.specs.declared.asked.Chosen.{Chosen}
+use Rattle.std.specs.Prelude.{Some, None}
+use Rattle.door.specs.declared.asked.Choice as Told
 use Rattle.door.specs.Asking.{choice_at, chosen}
+use Rattle.door.proofs.Told.{Chosen, told_at}
 use Rattle.meaning.proofs.AgentEntries.{selection_for, specification_for, revision_for}
 
 -- the first enabled of some choices, as the code tells it
@@ -27,8 +30,8 @@ abbrev pub first_enabled : Agent → Config → List Choice → Chosen
 first_enabled A c ks = chosen (first (enabled A c) ks)
 
 abbrev or_else : Chosen → Chosen → Chosen
-or_else (Chosen.At k n) b = Chosen.At k n
-or_else Chosen.Nothing b = b
+or_else (Some k) b = Some k
+or_else None b = b
 
 module _ (A : Agent) (c : Config) where
   here : (k : Choice) (ks : List Choice) → enabled A c k ≡ true → first_enabled A c (k ∷ ks) ≡ chosen (some k)
@@ -52,7 +55,7 @@ module _ (A : Agent) (c : Config) where
     left_found : (i : ℕ) → i < n → enabled A c (f i) ≡ true → Left i → chosen (some (f i)) ≡ first_enabled A c (map f (numbers 0 n))
     left_found i h g e = sym (ap (first_enabled A c) (made_next f i n h) ∙ here (f i) (map f (numbers (i + 1) (n - (i + 1)))) g) ∙ e
 
-    left_none : (i : ℕ) → n ≤ i → Left i → Chosen.Nothing ≡ first_enabled A c (map f (numbers 0 n))
+    left_none : (i : ℕ) → n ≤ i → Left i → None ≡ first_enabled A c (map f (numbers 0 n))
     unfolding numbers
     left_none i h e = let z : n - i ≡ 0 = omega arith in sym (rw z) ∙ e
 
@@ -76,21 +79,20 @@ module _ (l : Layout) (b : Bytes) where
   of_kind_lem (suc zero) = ap (λ n. map act (numbers 0 n)) (length-entries (specification_for l b) l.specifications)
   of_kind_lem (suc (suc kind)) = ap (λ n. map revise (numbers 0 n)) (length-entries (revision_for l b) l.revisions)
 
-chosen_at : (kind i : ℕ) → kind < 3 → Chosen.At kind i ≡ chosen (some (choice_at kind i))
-unfolding Order.kind Order.number
-chosen_at kind i = each_kind (λ k. Chosen.At k i ≡ chosen (some (choice_at k i))) refl refl refl kind
-
 -- ---- the numbers of a kind, one after the other
 
-module _ (l : Layout) (b : Bytes) (c : Config) (kind : ℕ) where
+module _ (l : Layout) (b : Bytes) (c : Config) (κ : Kind) where
+  abbrev kind : ℕ
+  kind = kind_number κ
+
   abbrev pub LeftOf : ℕ → Type 0
   LeftOf i = Left (agent_for l b) c (choice_at kind) (count_of l kind) i
 
-  pub found_of_kind : (i : ℕ) → kind < 3 → i < count_of l kind → enabled (agent_for l b) c (choice_at kind i) ≡ true → LeftOf i
-      → Chosen.At kind i ≡ first_enabled (agent_for l b) c (of_kind (agent_for l b) kind)
-  found_of_kind i k h g e = chosen_at kind i k ∙ left_found (agent_for l b) c (choice_at kind) (count_of l kind) i h g e ∙ ap (first_enabled (agent_for l b) c) (sym (of_kind_lem l b kind))
+  pub found_of_kind : (i : ℕ) → i < count_of l kind → enabled (agent_for l b) c (choice_at kind i) ≡ true → LeftOf i
+      → Some (record { kind = κ; number = i }) ≡ first_enabled (agent_for l b) c (of_kind (agent_for l b) kind)
+  found_of_kind i h g e = ap Some (sym (told_at κ i)) ∙ left_found (agent_for l b) c (choice_at kind) (count_of l kind) i h g e ∙ ap (first_enabled (agent_for l b) c) (sym (of_kind_lem l b kind))
 
-  pub none_of_kind : (i : ℕ) → count_of l kind ≤ i → LeftOf i → Chosen.Nothing ≡ first_enabled (agent_for l b) c (of_kind (agent_for l b) kind)
+  pub none_of_kind : (i : ℕ) → count_of l kind ≤ i → LeftOf i → None ≡ first_enabled (agent_for l b) c (of_kind (agent_for l b) kind)
   none_of_kind i h e = left_none (agent_for l b) c (choice_at kind) (count_of l kind) i h e ∙ ap (first_enabled (agent_for l b) c) (sym (of_kind_lem l b kind))
 
 -- ---- the three kinds in turn
@@ -116,26 +118,26 @@ module _ (A : Agent) (c : Config) (p : ℕ) where
 
   -- the kinds before the t-th have nothing
   abbrev pub Tried : ℕ → Type 0
-  Tried t = (k : ℕ) → k < t → nth k ≡ Chosen.Nothing
+  Tried t = (k : ℕ) → k < t → nth k ≡ None
 
   nth_first : nth 0 ≡ first_kind
   nth_first = ap (λ n. first_enabled A c (of_kind A (n % 3))) (add-zero p)
 
-  past_first : nth 0 ≡ Chosen.Nothing → or_else second_kind third_kind ≡ first_enabled A c (in_turn A p)
+  past_first : nth 0 ≡ None → or_else second_kind third_kind ≡ first_enabled A c (in_turn A p)
   past_first e = ap (λ x. or_else x (or_else second_kind third_kind)) (sym e ∙ nth_first) ∙ sym in_turn_lem
 
-  past_second : nth 0 ≡ Chosen.Nothing → second_kind ≡ Chosen.Nothing → third_kind ≡ first_enabled A c (in_turn A p)
+  past_second : nth 0 ≡ None → second_kind ≡ None → third_kind ≡ first_enabled A c (in_turn A p)
   past_second e f = ap (λ x. or_else x third_kind) (sym f) ∙ past_first e
 
-  pub found_in_turn : (t : ℕ) → t < 3 → Tried t → (a : Chosen) → a ≡ nth t → (k n : ℕ) → a ≡ Chosen.At k n → a ≡ first_enabled A c (in_turn A p)
-  found_in_turn zero h tried a e k n f = f ∙ ap (λ x. or_else x (or_else second_kind third_kind)) (sym f ∙ e ∙ nth_first) ∙ sym in_turn_lem
-  found_in_turn (suc zero) h tried a e k n f = f ∙ ap (λ x. or_else x third_kind) (sym f ∙ e) ∙ past_first (tried 0 (omega arith))
-  found_in_turn (suc (suc zero)) h tried a e k n f = e ∙ past_second (tried 0 (omega arith)) (tried 1 (omega arith))
-  found_in_turn (suc (suc (suc t))) h tried a e k n f = absurd (omega arith)
+  pub found_in_turn : (t : ℕ) → t < 3 → Tried t → (a : Chosen) → a ≡ nth t → (x : Told.Choice) → a ≡ Some x → a ≡ first_enabled A c (in_turn A p)
+  found_in_turn zero h tried a e x f = f ∙ ap (λ x. or_else x (or_else second_kind third_kind)) (sym f ∙ e ∙ nth_first) ∙ sym in_turn_lem
+  found_in_turn (suc zero) h tried a e x f = f ∙ ap (λ x. or_else x third_kind) (sym f ∙ e) ∙ past_first (tried 0 (omega arith))
+  found_in_turn (suc (suc zero)) h tried a e x f = e ∙ past_second (tried 0 (omega arith)) (tried 1 (omega arith))
+  found_in_turn (suc (suc (suc t))) h tried a e x f = absurd (omega arith)
 
-  pub none_in_turn : Tried 3 → Chosen.Nothing ≡ first_enabled A c (in_turn A p)
+  pub none_in_turn : Tried 3 → None ≡ first_enabled A c (in_turn A p)
   none_in_turn tried = sym (tried 2 (omega arith)) ∙ past_second (tried 0 (omega arith)) (tried 1 (omega arith))
 
   -- one kind more
-  pub tried_more : (t : ℕ) → Tried t → nth t ≡ Chosen.Nothing → Tried (t + 1)
-  tried_more t tried e = below_more (λ (k : ℕ). nth k ≡ Chosen.Nothing) t tried e
+  pub tried_more : (t : ℕ) → Tried t → nth t ≡ None → Tried (t + 1)
+  tried_more t tried e = below_more (λ (k : ℕ). nth k ≡ None) t tried e

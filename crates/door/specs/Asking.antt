@@ -1,20 +1,22 @@
 -- What judging a condition and asking for a choice answer, and the guide's own choice, as the code tells them.
-use Rattle.std.specs.Prelude.{Bool, not, ◌&&◌, ℕ, ltb}
+use Rattle.std.specs.Prelude.{Bool, not, ◌&&◌, ℕ, ltb, Ok, Err, Some, None}
+use Rattle.std.specs.Prelude as Std
 use Rattle.std.proofs.Math.Option.{Option, none, some}
 use Rattle.paper.specs.Language.{Letter, 𝐁, 𝐆, Config}
 use Rattle.paper.specs.Transitions.{◌⊨◌, Choice, select, act, revise}
 use Rattle.paper.specs.Next.{if, is_empty, starts_with, is_prefix, enabled}
-use Rattle.runs.specs.Order.{kind, number, by_kind, of_kind, first}
+use Rattle.runs.specs.declared.Kind.{Kind}
+use Rattle.runs.specs.Kinds.{kind_number}
+use Rattle.runs.specs.Order.{by_kind, of_kind, first}
 use Rattle.meaning.specs.declared.Refusal.{Refusal}
-use Rattle.meaning.specs.declared.Answer.{Answer}
-use Rattle.meaning.specs.declared.Answer.TheVariants.{Done, Refused}
+use Rattle.meaning.specs.Answers.{Answer}
 use Rattle.meaning.specs.declared.Layout.{Layout}
 use Rattle.meaning.specs.declared.Configuration.{Configuration}
 use Rattle.meaning.specs.Card.{Bytes, conditions, condition, plan, specification_at, selection_at, revision_at, agent_for}
 use Rattle.meaning.specs.Why.{settler}
 use Rattle.meaning.specs.Configurations.{state_of}
 use Rattle.door.specs.declared.asked.Asked.{Asked}
-use Rattle.door.specs.declared.asked.Chosen.{Chosen}
+use Rattle.door.specs.declared.asked.Choice as Told
 
 -- 02, Wish 1: "Judging a condition should also name the atom that settled it": the value of the condition of node n, read by a
 -- letter, and the node that settled it
@@ -56,20 +58,30 @@ asked l b c k = asked_by (is_there l k) (front_fits l b c k) (conditions_of l b 
 
 -- 02, Wish 1: "only a refused choice shows it": done where a choice that was asked for is enabled, else its refusal
 abbrev pub answer_asked : Asked → Answer
-answer_asked Asked.Enabled = Done
-answer_asked Asked.NoRule = Refused Refusal.NoRule
-answer_asked Asked.Front = Refused Refusal.Front
-answer_asked (Asked.Condition n) = Refused (Refusal.Condition n)
+answer_asked Asked.Enabled = Ok tt
+answer_asked Asked.NoRule = Err Refusal.NoRule
+answer_asked Asked.Front = Err Refusal.Front
+answer_asked (Asked.Condition n) = Err (Refusal.Condition n)
 
 -- the choice of a kind and a number
 abbrev pub choice_at : ℕ → ℕ → Choice
 choice_at k n = by_kind k (select n) (act n) (revise n)
 
--- a choice, if there is one, by its kind and its number
-abbrev pub chosen : Option Choice → Chosen
-chosen none = Chosen.Nothing
-chosen (some k) = Chosen.At (kind k) (number k)
+-- a choice as the code tells it
+abbrev pub choice_of : Told.Choice → Choice
+choice_of t = choice_at (kind_number t.kind) t.number
+
+-- the same, told of a choice
+abbrev pub told : Choice → Told.Choice
+told (select n) = record { kind = Kind.Selection; number = n }
+told (act n) = record { kind = Kind.Action; number = n }
+told (revise n) = record { kind = Kind.Revision; number = n }
+
+-- a choice, if there is one, as the code tells it
+abbrev pub chosen : Option Choice → Std.Option Told.Choice
+chosen none = None
+chosen (some k) = Some (told k)
 
 -- the lowest enabled choice of a kind
-abbrev pub first_of_kind : Layout → Bytes → Configuration → ℕ → Chosen
+abbrev pub first_of_kind : Layout → Bytes → Configuration → ℕ → Std.Option Told.Choice
 first_of_kind l b c k = chosen (first (enabled (agent_for l b) (state_of c).mental) (of_kind (agent_for l b) k))

@@ -1,26 +1,23 @@
 // The door of a call that is handed a card and a configuration: "They are tested in the table's order, the card first".
-ghost use Rattle.std.specs.Prelude.{◌≡◌};
-ghost use Rattle.meaning.specs.declared.Layout.{Layout};
-ghost use Rattle.meaning.specs.declared.Checked.{Checked};
 ghost use Rattle.layout.specs.PlaceParts.{configured};
-ghost use Rattle.door.specs.Admitted.{admitted};
-ghost use Rattle.door.specs.Ready.{Ready};
+ghost use Rattle.door.specs.Admitted.{Admitted};
 
-use crate::configuration::configuration_good;
-use card::check::check;
-use meaning::{Checked, Plan, Refusal, Set, Standing};
+use crate::configuration::judge_configuration;
+use card::check::accept;
+use layout::card::Card;
+use meaning::{Plan, Refusal, Set, Standing};
 
-// The layout of an accepted card, where the configuration is accepted too, or the refusal: rows 1 to 9, then row 13.
-pub fn admit(card: &[u8], beliefs: &Set, goals: &Set, m: Standing, plan: &Plan) -> Checked
-    ensures value { result ≡ admitted card.now (configured beliefs.now goals.now m plan.now) }
-    ensures ready { (l : Layout) → result ≡ Checked.Good l
-        → Ready l card.now (configured beliefs.now goals.now m plan.now) }
+// An accepted card, where the configuration is accepted too, or the refusal: rows 1 to 9, then row 13.
+pub fn admit<'a>(
+    card: &'a [u8],
+    beliefs: &Set,
+    goals: &Set,
+    m: Standing,
+    plan: &Plan,
+) -> Result<Card<'a>, Refusal>
+    ensures { Admitted card.now (configured beliefs.now goals.now m plan.now) result }
 {
-    let checked = check(card);
-    if let Checked::Good(l) = checked {
-        if !configuration_good(l, beliefs, goals, m, plan) {
-            return Checked::Refused(Refusal::Configuration);
-        }
-    }
-    checked
+    let card = accept(card)?;
+    judge_configuration(card.layout, beliefs, goals, m, plan)?;
+    Ok(card)
 }

@@ -1,7 +1,8 @@
 // What a call answers where sets and plan are lent: all of `Reply`, `Written` and `Ran` but what these hold.
 ghost use Rattle.std.specs.Prelude.{◌≡◌};
+ghost use Rattle.door.specs.InPlace.{written_by};
 
-use meaning::{Answer, Standing};
+use meaning::{Answer, Refusal, Standing};
 use runs::Ending;
 
 // Of `Reply`.
@@ -25,6 +26,19 @@ pub fn refused_write(answer: Answer) -> WrittenInPlace
     WrittenInPlace {
         answer: answer,
         count: 0,
+    }
+}
+
+// How many bytes were written, or the refusal.
+pub fn written(r: Result<u16, Refusal>) -> WrittenInPlace
+    ensures { result ≡ written_by r }
+{
+    match r {
+        Ok(count) => WrittenInPlace {
+            answer: Ok(()),
+            count,
+        },
+        Err(refusal) => refused_write(Err(refusal)),
     }
 }
 

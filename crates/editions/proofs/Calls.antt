@@ -9,7 +9,7 @@ use Rattle.runs.specs.Order.{State, enabled_codes}
 use Rattle.runs.specs.Step.{Reached, nothing, full, to, step_by}
 use Rattle.runs.specs.Run.{run}
 use Rattle.runs.specs.Weight.{verdict}
-use Rattle.meaning.specs.declared.Answer.TheVariants.{Done, Refused}
+use Rattle.std.specs.Prelude.{Ok, Err}
 use Rattle.meaning.specs.Card.{Bytes, layout, agent, initial_plan}
 use Rattle.meaning.specs.Configurations.{state_of, configuration_of}
 use Rattle.meaning.specs.Place.{place}
@@ -32,7 +32,7 @@ why_same : (b : Bytes) (s : State) (o : Option Choice) → why_closed (layout b)
 why_same b s none = refl
 why_same b s (some k) = closed_as_before (layout b) b s.mental k
 
-module _ (b : Bytes) (d : edition1_answer b ≡ Done) where
+module _ (b : Bytes) (d : edition1_answer b ≡ Ok tt) where
   before : CardAsBefore b
   before = card_as_before b d
 
@@ -44,7 +44,7 @@ module _ (b : Bytes) (d : edition1_answer b ≡ Done) where
     fit : SetsFit s.mental
     fit = let (l, r) = h in (omega arith, omega arith)
 
-    now_good : configuration_answer b (handed s) ≡ Done
+    now_good : configuration_answer b (handed s) ≡ Ok tt
     now_good = configuration_good_lem b (handed s) before.accepted ((place_as_before (layout b) e1).configurations s h ∙ g)
 
     -- what is handed in stands for the state
@@ -74,7 +74,7 @@ module _ (b : Bytes) (d : edition1_answer b ≡ Done) where
     taken code = go (step_by (edition1_agent b) s (choice code)) (step_same (choice code))
       where
         go : (r : Reached) → step_by (agent b) (state_of (handed s)) (choice code) ≡ widened_reached r → takes b (handed s) code ≡ taken_reply b s code r
-        go nothing e = takes_nothing b (handed s) now_good code e ∙ ap (λ r. reply (Refused r) (handed s)) (ap (λ t. why_closed (layout b) b t.mental (choice code)) stands ∙ why_same b s (choice code))
+        go nothing e = takes_nothing b (handed s) now_good code e ∙ ap (λ r. reply (Err r) (handed s)) (ap (λ t. why_closed (layout b) b t.mental (choice code)) stands ∙ why_same b s (choice code))
         go full e = takes_full b (handed s) now_good code e
         go (to k t) e = takes_to b (handed s) now_good code k (widened_state t) e
 
@@ -89,7 +89,7 @@ module _ (b : Bytes) (d : edition1_answer b ≡ Done) where
       list_leaves_lem = λ out. ap (λ xs. leaves b (handed s) xs out) codes;
       take = taken;
       run = λ n. runs_good b (handed s) now_good n ∙ ap ran (ap₂ (λ A t. run A n t) before.same_agent stands ∙ (card_moves b).ran s n fit);
-      next = nexts_good b (handed s) now_good ∙ ap (λ c. record { answer = Done; coming = c; configuration = handed s }) (ap₂ coming before.same_agent stands ∙ (card_moves b).told s fit);
+      next = nexts_good b (handed s) now_good ∙ ap (λ c. record { answer = Ok tt; coming = c; configuration = handed s }) (ap₂ coming before.same_agent stands ∙ (card_moves b).told s fit);
       save = λ out. ap (λ xs. writes b (handed s) xs out) saved;
       save_leaves_lem = λ out. ap (λ xs. leaves b (handed s) xs out) saved;
     }
@@ -101,9 +101,9 @@ module _ (b : Bytes) (d : edition1_answer b ≡ Done) where
       let c = before.accepted in
       record {
         check = checks_good b c;
-        load = loads_good b c ∙ ap (λ s. reply Done (configuration_of s)) before.same_start;
-        grade = grades_good b c ∙ ap (graded Done) (ap₂ (λ w A. verdict w A (initial_plan b)) (λ i a. before.weights a i) before.same_agent ∙ (card_moves b).graded (edition1_weight b) (initial_plan b));
-        restore = λ p a. restores_good b p (ap (λ x. and_then x (first_given (place_table l) p)) c ∙ (place_as_before l e1).accepted p a) ∙ ap (λ s. reply Done (configuration_of s)) ((place_as_before l e1).restored p);
+        load = loads_good b c ∙ ap (λ s. reply (Ok tt) (configuration_of s)) before.same_start;
+        grade = grades_good b c ∙ ap (graded (Ok tt)) (ap₂ (λ w A. verdict w A (initial_plan b)) (λ i a. before.weights a i) before.same_agent ∙ (card_moves b).graded (edition1_weight b) (initial_plan b));
+        restore = λ p a. restores_good b p (ap (λ x. and_then x (first_given (place_table l) p)) c ∙ (place_as_before l e1).accepted p a) ∙ ap (λ s. reply (Ok tt) (configuration_of s)) ((place_as_before l e1).restored p);
         refused = λ s h g. configuration_refused b (handed s) c ((place_as_before l e1).configurations s h ∙ g);
         state = state_calls;
       }

@@ -9,7 +9,7 @@ use lib.Dec.{leb, eqb}
 use lib.ListN.{length, drop}
 use Rattle.paper.proofs.Relation.{both, false≢true}
 use Rattle.meaning.specs.declared.Refusal.{Refusal}
-use Rattle.meaning.specs.declared.Answer.TheVariants.{Done, Refused}
+use Rattle.std.specs.Prelude.{Ok, Err}
 use Rattle.meaning.specs.Card.{Bytes, number_at, layout}
 use Rattle.meaning.specs.Refusals.{first_given, marked, has_edition, card_mark_good, card_long_enough, card_table, card_answer}
 use Rattle.meaning.proofs.Tables.{done≢refused, row_passed}
@@ -94,10 +94,10 @@ module _ (b : Bytes) where
       go true f = f
       go false f = refl
 
-  pub new_edition : OfEdition2 b → (edition1_answer b ≡ Refused Refusal.Short) ⊎ (edition1_answer b ≡ Refused Refusal.Mark)
+  pub new_edition : OfEdition2 b → (edition1_answer b ≡ Err Refusal.Short) ⊎ (edition1_answer b ≡ Err Refusal.Mark)
   new_edition (m, e) = ⊎_elim (λ f. inl (is_old ∙ f)) (λ f. inr (is_old ∙ f)) (old_wrong (edition1_long_enough b) (edition1_mark_good b) (first_given (drop 2 edition1_table) b) (not-before e))
 
-  pub wrong_and_short : WrongAndShort b → (edition1_answer b ≡ Refused Refusal.Short) × (card_answer b ≡ Refused Refusal.Mark)
+  pub wrong_and_short : WrongAndShort b → (edition1_answer b ≡ Err Refusal.Short) × (card_answer b ≡ Err Refusal.Mark)
   unfolding has_edition
   wrong_and_short (f, (s, m)) =
       (is_old ∙ old_short (edition1_long_enough b) (edition1_mark_good b) (first_given (drop 2 edition1_table) b) (lt-leb 64 (length b) s), is_new ∙ new_wrong (has_edition b) (card_mark_good b) (card_long_enough b) (first_given (drop 3 card_table) b) (le-leb 4 (length b) f) m)
@@ -128,7 +128,7 @@ module _ (b : Bytes) where
   }
 
   -- what document 01 accepts is of edition 1
-  pub was_edition1 : edition1_answer b ≡ Done → number_at b 2 ≡ 1
+  pub was_edition1 : edition1_answer b ≡ Ok tt → number_at b 2 ≡ 1
   unfolding edition1_answer edition1_table
   was_edition1 d =
       let m : edition1_mark_good b ≡ true = not-false _ (row_passed b edition1_table d 1) in

@@ -10,8 +10,8 @@ use borrow.Author.Tests.{le-leb, lt-leb, ne_eqb}
 use lib.ListN.{length, take, drop, length-append}
 use Rattle.runs.specs.Order.{State}
 use Rattle.meaning.specs.declared.Refusal.{Refusal}
-use Rattle.meaning.specs.declared.Answer.{Answer}
-use Rattle.meaning.specs.declared.Answer.TheVariants.{Done, Refused}
+use Rattle.meaning.specs.Answers.{Answer}
+use Rattle.std.specs.Prelude.{Ok, Err}
 use Rattle.meaning.specs.declared.Layout.{Layout}
 use Rattle.meaning.specs.Sizes.{set_bytes, most_atoms, goals_at, header_bytes, del_at, specification_bytes, place_goals_at, plan_at}
 use Rattle.meaning.specs.Card.{Bytes, number_at, layout}
@@ -43,7 +43,7 @@ edition2_sizes l e =
 -- ---- the longest card
 
 -- with sets of n bytes, by the sections' ends
-ends : (b : Bytes) (n : ℕ) → card_answer b ≡ Done → set_bytes (layout b) ≤ n → length b ≤ 32 + 2 * n + 512 + 1024 + (4 + 2 * n) * 256 + 2048 + 3072 + 8192
+ends : (b : Bytes) (n : ℕ) → card_answer b ≡ Ok tt → set_bytes (layout b) ≤ n → length b ≤ 32 + 2 * n + 512 + 1024 + (4 + 2 * n) * 256 + 2048 + 3072 + 8192
 ends b n d h =
     let a = accepted b d in
     let c = counts (layout b) a.counts in
@@ -64,7 +64,7 @@ ends b n d h =
     let c5 = c.pool in
     omega arith
 
-longest : (b : Bytes) → card_answer b ≡ Done → Longest b
+longest : (b : Bytes) → card_answer b ≡ Ok tt → Longest b
 longest b d = record {
   either = ends b 32 d (set_most (layout b).edition);
   edition1 = λ e. ends b 16 d (let s = (edition1_sizes (layout b) e).set in omega arith);
@@ -72,10 +72,10 @@ longest b d = record {
 
 -- ---- the order of 1, 2 and 1
 
-new_under : (four mark long : Bool) (rest : Answer) → four ≡ false → new four mark long rest ≡ Refused Refusal.Short
+new_under : (four mark long : Bool) (rest : Answer) → four ≡ false → new four mark long rest ≡ Err Refusal.Short
 new_under four mark long rest e = ap (λ f. new f mark long rest) e
 
-new_short : (four mark long : Bool) (rest : Answer) → four ≡ true → mark ≡ true → long ≡ false → new four mark long rest ≡ Refused Refusal.Short
+new_short : (four mark long : Bool) (rest : Answer) → four ≡ true → mark ≡ true → long ≡ false → new four mark long rest ≡ Err Refusal.Short
 new_short four mark long rest e f g = λ i. new (e i) (f i) (g i) rest
 
 card_order : (b : Bytes) → CardOrder b
@@ -95,7 +95,7 @@ place_order : (l : Layout) (p : Bytes) → PlaceOrder l p
 unfolding has_edition
 place_order l p =
     let rest = first_given (drop 3 (place_table l)) p in
-    let wrong : 4 ≤ length p → place_mark_good l p ≡ false → first_given (place_table l) p ≡ Refused Refusal.Mark
+    let wrong : 4 ≤ length p → place_mark_good l p ≡ false → first_given (place_table l) p ≡ Err Refusal.Mark
     = λ h m. place_new l p ∙ new_wrong (has_edition p) (place_mark_good l p) (place_long_enough l p) rest (le-leb 4 (length p) h) m in
     record {
       under_four = λ h. place_new l p ∙ new_under (has_edition p) (place_mark_good l p) (place_long_enough l p) rest (lt-leb 4 (length p) h);
@@ -121,7 +121,7 @@ saved_total l s h g =
     let d : length (γ ++ s.mental.π) ≡ length γ + length s.mental.π = length-append γ s.mental.π in
     omega arith
 
-saved_in : (b : Bytes) (s : State) → card_answer b ≡ Done → SavedIn (layout b) s
+saved_in : (b : Bytes) (s : State) → card_answer b ≡ Ok tt → SavedIn (layout b) s
 unfolding layout
 saved_in b s d =
     let e : (layout b).edition < 256 = ⊎_elim (λ one. omega (arith, one)) (λ two. omega (arith, two.1)) (of_either b (accepted b d).marked) in

@@ -6,8 +6,8 @@ use mathlib.Core.Bool.{Bool, true, false, not}
 use mathlib.Core.List.{List, [], ◌∷◌}
 use Rattle.paper.proofs.Relation.{false≢true}
 use Rattle.meaning.specs.declared.Refusal.{Refusal}
-use Rattle.meaning.specs.declared.Answer.{Answer}
-use Rattle.meaning.specs.declared.Answer.TheVariants.{Refused}
+use Rattle.meaning.specs.Answers.{Answer}
+use Rattle.std.specs.Prelude.{Err}
 use Rattle.meaning.specs.Refusals.{Row, first_given}
 
 -- two tables whose rows answer alike, one by one
@@ -22,17 +22,17 @@ unfolding first_given
 rows_alike x [] [] h = refl
 rows_alike x [] (r ∷ rs) h = absurd h
 rows_alike x (q ∷ qs) [] h = absurd h
-rows_alike x (q ∷ qs) (r ∷ rs) (e, (f, h)) = let g = rows_alike x qs rs h in λ i. elim (f i) [ true ↦ Refused (e i) | false ↦ g i ]
+rows_alike x (q ∷ qs) (r ∷ rs) (e, (f, h)) = let g = rows_alike x qs rs h in λ i. elim (f i) [ true ↦ Err (e i) | false ↦ g i ]
 
 -- document 01's first two rows: long enough, mark good, what follows
 abbrev pub old : Bool → Bool → Answer → Answer
-old long mark rest = elim (not long) [ true ↦ Refused Refusal.Short | false ↦ elim (not mark) [ true ↦ Refused Refusal.Mark | false ↦ rest ] ]
+old long mark rest = elim (not long) [ true ↦ Err Refusal.Short | false ↦ elim (not mark) [ true ↦ Err Refusal.Mark | false ↦ rest ] ]
 
 -- the first three of two editions: 4 bytes, mark good, long enough for the edition, what follows
 abbrev pub new : Bool → Bool → Bool → Answer → Answer
 new four mark long rest = elim (not four) [
-  | true ↦ Refused Refusal.Short
-  | false ↦ elim (not mark) [ true ↦ Refused Refusal.Mark | false ↦ elim (not long) [ true ↦ Refused Refusal.Short | false ↦ rest ] ]
+  | true ↦ Err Refusal.Short
+  | false ↦ elim (not mark) [ true ↦ Err Refusal.Mark | false ↦ elim (not long) [ true ↦ Err Refusal.Short | false ↦ rest ] ]
 ]
 
 pub alike : (four mark long mark₁ long₁ : Bool) (rest rest₁ : Answer)
@@ -49,13 +49,13 @@ alike false mark long mark₁ true rest rest₁ h y n = absurd (false≢true (h 
 alike false mark long mark₁ false rest rest₁ h y n = inl refl
 
 -- a short file is 1 by the one, and 2 by the other where its mark or edition is wrong
-pub old_short : (long mark : Bool) (rest : Answer) → long ≡ false → old long mark rest ≡ Refused Refusal.Short
+pub old_short : (long mark : Bool) (rest : Answer) → long ≡ false → old long mark rest ≡ Err Refusal.Short
 old_short long mark rest e = ap (λ l. old l mark rest) e
 
-pub new_wrong : (four mark long : Bool) (rest : Answer) → four ≡ true → mark ≡ false → new four mark long rest ≡ Refused Refusal.Mark
+pub new_wrong : (four mark long : Bool) (rest : Answer) → four ≡ true → mark ≡ false → new four mark long rest ≡ Err Refusal.Mark
 new_wrong four mark long rest e f = λ i. new (e i) (f i) long rest
 
 pub old_wrong : (long mark : Bool) (rest : Answer) → mark ≡ false
-    → (old long mark rest ≡ Refused Refusal.Short) ⊎ (old long mark rest ≡ Refused Refusal.Mark)
+    → (old long mark rest ≡ Err Refusal.Short) ⊎ (old long mark rest ≡ Err Refusal.Mark)
 old_wrong true mark rest e = inr (ap (λ m. old true m rest) e)
 old_wrong false mark rest e = inl refl

@@ -12,7 +12,7 @@ use Rattle.paper.specs.Language.{⟨◌/◌/◌⟩}
 use Rattle.paper.specs.Theorems.{AreBytes}
 use Rattle.runs.specs.Order.{State}
 use Rattle.meaning.specs.declared.Refusal.{Refusal}
-use Rattle.meaning.specs.declared.Answer.TheVariants.{Done, Refused}
+use Rattle.std.specs.Prelude.{Ok, Err}
 use Rattle.meaning.specs.declared.Layout.{Layout}
 use Rattle.meaning.specs.Sizes.{set_bytes, place_goals_at, plan_at}
 use Rattle.meaning.specs.Card.{Bytes, number_at, part, widened, set_at}
@@ -76,17 +76,17 @@ module _ (l : Layout) (e : l.edition ≡ 1) where
       (λ m. (sym (same_mark p) ∙ m, (ap (λ s. leb (plan_at s) (length p)) s16, rest_same p)))
       (λ m. sym (same_mark p) ∙ m))
 
-  wrong_and_short : (p : Bytes) → PlaceWrongAndShort l p → (edition1_place_answer l p ≡ Refused Refusal.Short) × (first_given (place_table l) p ≡ Refused Refusal.Mark)
+  wrong_and_short : (p : Bytes) → PlaceWrongAndShort l p → (edition1_place_answer l p ≡ Err Refusal.Short) × (first_given (place_table l) p ≡ Err Refusal.Mark)
   unfolding has_edition
   wrong_and_short p (f, (s, m)) = (
     is_old p ∙ old_short (long p) (mark p) (first_given (drop 2 (edition1_place_table l)) p) (lt-leb 44 (length p) s),
     place_new l p ∙ new_wrong (has_edition p) (place_mark_good l p) (place_long_enough l p) (first_given (drop 3 (place_table l)) p) (le-leb 4 (length p) f) m,
   )
 
-  accepted : (p : Bytes) → edition1_place_answer l p ≡ Done → first_given (place_table l) p ≡ Done
+  accepted : (p : Bytes) → edition1_place_answer l p ≡ Ok tt → first_given (place_table l) p ≡ Ok tt
   accepted p d = ⊎_elim (λ s. s ∙ d) (λ w. absurd (done≢refused (sym d ∙ (wrong_and_short p w).0))) (only p)
 
-  none_added : (p : Bytes) → first_given (place_table l) p ≡ Done → edition1_place_answer l p ≡ Done
+  none_added : (p : Bytes) → first_given (place_table l) p ≡ Ok tt → edition1_place_answer l p ≡ Ok tt
   none_added p d = ⊎_elim (λ s. sym s ∙ d) (λ w. absurd (done≢refused (sym d ∙ (wrong_and_short p w).1))) (only p)
 
   refused : (p : Bytes) → 44 ≤ length p → first_given (place_table l) p ≡ edition1_place_answer l p
@@ -107,13 +107,13 @@ module _ (l : Layout) (e : l.edition ≡ 1) where
       (0x33 ∷ 0x50 ∷ (two_bytes (e i) ++ (two_bytes (length s.mental.π) ++ (two_bytes (plan_at (s16 i)) ++ (two_bytes s.phase ++ two_bytes s.finished)))))
       ++ (σ i ++ (γ i ++ s.mental.π))
 
-  of_sixteen : (p : Bytes) → edition1_place_answer l p ≡ Done → OfSixteen (edition1_placed p)
+  of_sixteen : (p : Bytes) → edition1_place_answer l p ≡ Ok tt → OfSixteen (edition1_placed p)
   unfolding edition1_place_answer edition1_place_table edition1_placed
   of_sixteen p d =
       let h : 44 ≤ length p = leb-true 44 (length p) (not-false _ (row_passed p (edition1_place_table l) d 0)) in
       (length_part p 12 16 (omega arith), length_part p 28 16 (omega arith))
 
-  saved_again : (p : Bytes) → AreBytes p → edition1_place_answer l p ≡ Done → (place l (placed l p) ≡ p) × (edition1_place (edition1_placed p) ≡ p)
+  saved_again : (p : Bytes) → AreBytes p → edition1_place_answer l p ≡ Ok tt → (place l (placed l p) ≡ p) × (edition1_place (edition1_placed p) ≡ p)
   saved_again p bs d =
       let now : place l (placed l p) ≡ p = place_laws.restored_saved l p bs (accepted p d) in
       (now, sym (saved (edition1_placed p) (of_sixteen p d)) ∙ ap (place l) (sym (restored p)) ∙ now)

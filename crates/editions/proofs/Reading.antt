@@ -7,7 +7,7 @@ use lib.ListN.{get_or}
 use Rattle.paper.specs.Language.{𝐁, ⟨◌/◌/◌⟩}
 use Rattle.paper.specs.Transitions.{struck_by}
 use Rattle.runs.specs.Order.{numbers}
-use Rattle.meaning.specs.declared.Answer.TheVariants.{Done}
+use Rattle.std.specs.Prelude.{Ok}
 use Rattle.meaning.specs.Sizes.{set_bytes, goals_at, header_bytes}
 use Rattle.meaning.specs.Card.{Bytes, number_at, part, widened, layout, entries, weights, weight, conditions, specification_at, specification_of, agent_of, agent_for, agent, start, initial_plan}
 use Rattle.editions.proofs.Widening.{widened-∖}
@@ -44,7 +44,7 @@ module _ (b : Bytes) (e : (layout b).edition ≡ 1) where
       = ap₂ (λ x y. struck_by (widened x) (widened y)) σ γ ∙ sym (widened-∖ (edition1_set_at b 48) (edition1_set_at b 32) (part_16 b 48)) in
       λ i. record { mental = ⟨ widened (σ i) / initial_plan b / s i ⟩; phase = 0; finished = 0 }
 
-pub card_as_before : (b : Bytes) → edition1_answer b ≡ Done → CardAsBefore b
+pub card_as_before : (b : Bytes) → edition1_answer b ≡ Ok tt → CardAsBefore b
 unfolding layout
 card_as_before b d =
     let e : (layout b).edition ≡ 1 = was_edition1 b d in

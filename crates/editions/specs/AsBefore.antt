@@ -1,9 +1,8 @@
 -- "Accepted edition 1 files are read as before" (02, Wish 9), and what changes (proved in proofs/).
-use Rattle.std.specs.Prelude.{◌≡◌, ◌⊎◌, true, false, ℕ, ◌≤◌, ◌<◌, length}
+use Rattle.std.specs.Prelude.{◌≡◌, ◌⊎◌, true, false, ℕ, ◌≤◌, ◌<◌, length, Ok, Err}
 use Rattle.paper.specs.Theorems.{AreBytes}
 use Rattle.runs.specs.Order.{State}
 use Rattle.meaning.specs.declared.Refusal.{Refusal}
-use Rattle.meaning.specs.declared.Answer.TheVariants.{Done, Refused}
 use Rattle.meaning.specs.declared.Layout.{Layout}
 use Rattle.meaning.specs.Sizes.{set_bytes, most_atoms, goals_at, header_bytes, del_at, specification_bytes, place_goals_at, plan_at}
 use Rattle.meaning.specs.Card.{Bytes, number_at, layout, weight, agent, start}
@@ -38,7 +37,7 @@ pub record Edition1Sizes (l : Layout) : Type 0 where
 -- 02, Wish 9: "Accepted edition 1 files are read as before", of a card that document 01's own table accepts.
 pub record CardAsBefore (b : Bytes) : Type 0 where
   -- it is accepted
-  pub accepted : card_answer b ≡ Done
+  pub accepted : card_answer b ≡ Ok tt
   -- it is of edition 1, with every size as it was
   pub sizes : Edition1Sizes (layout b)
   -- it has the same weights, agent and start
@@ -58,15 +57,15 @@ WrongAndShort b = (4 ≤ length b) × ((length b < 64) × (card_mark_good b ≡ 
 -- What changes for a card, of any bytes.
 pub record CardChanges (b : Bytes) : Type 0 where
   -- of edition 1, none is accepted that was not
-  pub none_added : number_at b 2 ≡ 1 → card_answer b ≡ Done → edition1_answer b ≡ Done
+  pub none_added : number_at b 2 ≡ 1 → card_answer b ≡ Ok tt → edition1_answer b ≡ Ok tt
   -- of edition 1 and 64 bytes, each refusal is the one that it was
   pub refused : number_at b 2 ≡ 1 → 64 ≤ length b → card_answer b ≡ edition1_answer b
   -- no other answer changes than these two
   pub only : (card_answer b ≡ edition1_answer b) ⊎ (OfEdition2 b ⊎ WrongAndShort b)
   -- "a wrong mark or edition is 2", before a length under 64
-  pub wrong_and_short : WrongAndShort b → (edition1_answer b ≡ Refused Refusal.Short) × (card_answer b ≡ Refused Refusal.Mark)
+  pub wrong_and_short : WrongAndShort b → (edition1_answer b ≡ Err Refusal.Short) × (card_answer b ≡ Err Refusal.Mark)
   -- document 01 had no edition 2
-  pub new_edition : OfEdition2 b → (edition1_answer b ≡ Refused Refusal.Short) ⊎ (edition1_answer b ≡ Refused Refusal.Mark)
+  pub new_edition : OfEdition2 b → (edition1_answer b ≡ Err Refusal.Short) ⊎ (edition1_answer b ≡ Err Refusal.Mark)
 
 -- ---- a place
 
@@ -77,21 +76,21 @@ PlaceWrongAndShort l p = (4 ≤ length p) × ((length p < 44) × (place_mark_goo
 -- 02, Wish 9: "Accepted edition 1 files are read as before", of places and configurations under a card of edition 1.
 pub record PlaceAsBefore (l : Layout) : Type 0 where
   -- a place is accepted exactly if document 01 accepts it
-  pub accepted : (p : Bytes) → edition1_place_answer l p ≡ Done → first_given (place_table l) p ≡ Done
-  pub none_added : (p : Bytes) → first_given (place_table l) p ≡ Done → edition1_place_answer l p ≡ Done
+  pub accepted : (p : Bytes) → edition1_place_answer l p ≡ Ok tt → first_given (place_table l) p ≡ Ok tt
+  pub none_added : (p : Bytes) → first_given (place_table l) p ≡ Ok tt → edition1_place_answer l p ≡ Ok tt
   -- of 44 bytes, each refusal is the one that it was
   pub refused : (p : Bytes) → 44 ≤ length p → first_given (place_table l) p ≡ edition1_place_answer l p
   -- no other answer changes than this one
   pub only : (p : Bytes) → (first_given (place_table l) p ≡ edition1_place_answer l p) ⊎ PlaceWrongAndShort l p
   -- "a wrong mark or edition is 2", before a length under 44
   pub wrong_and_short : (p : Bytes) → PlaceWrongAndShort l p
-      → (edition1_place_answer l p ≡ Refused Refusal.Short) × (first_given (place_table l) p ≡ Refused Refusal.Mark)
+      → (edition1_place_answer l p ≡ Err Refusal.Short) × (first_given (place_table l) p ≡ Err Refusal.Mark)
   -- it is restored to the same state
   pub restored : (p : Bytes) → placed l p ≡ widened_state (edition1_placed p)
   -- a state is saved as the same bytes
   pub saved : (s : State) → OfSixteen s → place l (widened_state s) ≡ edition1_place s
   -- and so is a restored place
-  pub saved_again : (p : Bytes) → AreBytes p → edition1_place_answer l p ≡ Done → (place l (placed l p) ≡ p) × (edition1_place (edition1_placed p) ≡ p)
+  pub saved_again : (p : Bytes) → AreBytes p → edition1_place_answer l p ≡ Ok tt → (place l (placed l p) ≡ p) × (edition1_place (edition1_placed p) ≡ p)
   -- 01, "Numbers the guide may answer", row 13: a configuration is good exactly if it was
   pub configurations : (s : State) → OfSixteen s
       → configuration_good l (configuration_of (widened_state s)) ≡ configuration_good l (configuration_of s)
@@ -101,11 +100,11 @@ pub record PlaceAsBefore (l : Layout) : Type 0 where
 -- 02, Wish 9: "Accepted edition 1 files are read as before".
 pub record AsBefore : Type 0 where
   pub members : SameMembers
-  pub card : (b : Bytes) → edition1_answer b ≡ Done → CardAsBefore b
+  pub card : (b : Bytes) → edition1_answer b ≡ Ok tt → CardAsBefore b
   pub changes : (b : Bytes) → CardChanges b
   pub place : (l : Layout) → l.edition ≡ 1 → PlaceAsBefore l
   -- what an agent does, and why a choice is closed
   pub moves : (b : Bytes) → MovesAsBefore (edition1_agent b)
   pub closed : ClosedAsBefore
   -- and so each call answers as before
-  pub calls : (b : Bytes) → edition1_answer b ≡ Done → CallsAsBefore b
+  pub calls : (b : Bytes) → edition1_answer b ≡ Ok tt → CallsAsBefore b

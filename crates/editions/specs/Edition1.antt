@@ -7,7 +7,7 @@ use Rattle.paper.specs.Transitions.{struck_by}
 use Rattle.runs.specs.Limits.{heaviest_action}
 use Rattle.runs.specs.Order.{State, numbers}
 use Rattle.meaning.specs.declared.Refusal.{Refusal}
-use Rattle.meaning.specs.declared.Answer.{Answer}
+use Rattle.meaning.specs.Answers.{Answer}
 use Rattle.meaning.specs.declared.Layout.{Layout}
 use Rattle.meaning.specs.declared.SpecificationEntry.{SpecificationEntry}
 use Rattle.meaning.specs.Card.{Bytes, byte, number_at, part, layout, entry_at, entries, selection_at, revision_at, conditions, specification_of, selection_of, revision_of, initial_plan}

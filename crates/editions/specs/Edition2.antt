@@ -1,9 +1,8 @@
 -- Edition 2 (02, Wish 9): its sizes, the longest card, the order in which files of both editions are refused, and the edition in
 -- which a place is saved (proved in proofs/).
-use Rattle.std.specs.Prelude.{◌≡◌, true, false, ◌+◌, ◌≤◌, ◌<◌, length}
+use Rattle.std.specs.Prelude.{◌≡◌, true, false, ◌+◌, ◌≤◌, ◌<◌, length, Ok, Err}
 use Rattle.runs.specs.Order.{State}
 use Rattle.meaning.specs.declared.Refusal.{Refusal}
-use Rattle.meaning.specs.declared.Answer.TheVariants.{Done, Refused}
 use Rattle.meaning.specs.declared.Layout.{Layout}
 use Rattle.meaning.specs.Sizes.{set_bytes, most_atoms, goals_at, header_bytes, del_at, specification_bytes, place_goals_at, plan_at}
 use Rattle.meaning.specs.Card.{Bytes, number_at, layout}
@@ -37,22 +36,22 @@ pub record Longest (b : Bytes) : Type 0 where
 -- card.
 pub record CardOrder (b : Bytes) : Type 0 where
   -- "a file under 4 bytes is 1"
-  pub under_four : length b < 4 → card_answer b ≡ Refused Refusal.Short
+  pub under_four : length b < 4 → card_answer b ≡ Err Refusal.Short
   -- "then a wrong mark or edition is 2"
-  pub wrong : 4 ≤ length b → card_mark_good b ≡ false → card_answer b ≡ Refused Refusal.Mark
+  pub wrong : 4 ≤ length b → card_mark_good b ≡ false → card_answer b ≡ Err Refusal.Mark
   -- "then one shorter than its edition's header is 1"
-  pub short : 4 ≤ length b → card_mark_good b ≡ true → length b < header_bytes (set_bytes (layout b)) → card_answer b ≡ Refused Refusal.Short
+  pub short : 4 ≤ length b → card_mark_good b ≡ true → length b < header_bytes (set_bytes (layout b)) → card_answer b ≡ Err Refusal.Short
 
 -- The same, of a place under a card that has a layout.
 pub record PlaceOrder (l : Layout) (p : Bytes) : Type 0 where
   -- "a file under 4 bytes is 1"
-  pub under_four : length p < 4 → first_given (place_table l) p ≡ Refused Refusal.Short
+  pub under_four : length p < 4 → first_given (place_table l) p ≡ Err Refusal.Short
   -- "then a wrong mark or edition is 2"
-  pub wrong : 4 ≤ length p → place_mark_good l p ≡ false → first_given (place_table l) p ≡ Refused Refusal.Mark
+  pub wrong : 4 ≤ length p → place_mark_good l p ≡ false → first_given (place_table l) p ≡ Err Refusal.Mark
   -- "A place whose edition isn't its card's is met with refusal 2."
-  pub other_edition : 4 ≤ length p → (number_at p 2 ≡ l.edition → ⊥) → first_given (place_table l) p ≡ Refused Refusal.Mark
+  pub other_edition : 4 ≤ length p → (number_at p 2 ≡ l.edition → ⊥) → first_given (place_table l) p ≡ Err Refusal.Mark
   -- "then one shorter than its edition's header is 1"
-  pub short : 4 ≤ length p → place_mark_good l p ≡ true → length p < plan_at (set_bytes l) → first_given (place_table l) p ≡ Refused Refusal.Short
+  pub short : 4 ≤ length p → place_mark_good l p ≡ true → length p < plan_at (set_bytes l) → first_given (place_table l) p ≡ Err Refusal.Short
 
 -- 02, Wish 9: "a place is saved in its card's edition": that edition stands at 2, and so many bytes are saved.
 pub record SavedIn (l : Layout) (s : State) : Type 0 where
@@ -62,8 +61,8 @@ pub record SavedIn (l : Layout) (s : State) : Type 0 where
 -- 02, Wish 9, together.
 pub record Edition2 : Type 0 where
   pub sizes : (l : Layout) → l.edition ≡ 2 → Edition2Sizes l
-  pub longest : (b : Bytes) → card_answer b ≡ Done → Longest b
+  pub longest : (b : Bytes) → card_answer b ≡ Ok tt → Longest b
   pub card_order : (b : Bytes) → CardOrder b
   pub place_order : (l : Layout) (p : Bytes) → PlaceOrder l p
   -- of a card that is accepted, which is of edition 1 or 2
-  pub saved_in : (b : Bytes) (s : State) → card_answer b ≡ Done → SavedIn (layout b) s
+  pub saved_in : (b : Bytes) (s : State) → card_answer b ≡ Ok tt → SavedIn (layout b) s

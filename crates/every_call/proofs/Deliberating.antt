@@ -4,8 +4,8 @@ use mathlib.Core.List.{List}
 use Prim.Native.Nat.{ℕ, ◌≤◌}
 use lib.ListN.{length, take}
 use Rattle.runs.specs.Order.{State}
-use Rattle.meaning.specs.declared.Answer.{Answer}
-use Rattle.meaning.specs.declared.Answer.TheVariants.{Done, Refused}
+use Rattle.meaning.specs.Answers.{Answer}
+use Rattle.std.specs.Prelude.{Ok, Err}
 use Rattle.meaning.specs.declared.Layout.{Layout}
 use Rattle.meaning.specs.declared.Configuration.{Configuration}
 use Rattle.meaning.specs.Card.{Bytes, layout}
@@ -35,8 +35,8 @@ stands_back l s k =
     configuration_laws.of_state s (rw e at h)
 
 module _ (b p : Bytes) (ns : List ℕ) (c : Configuration) (budget : ℕ) (lent : Bytes) (r : Deliberated) (w : GoesOn b p ns c budget lent r) where
-  module _ (d : r.answer ≡ Done) where
-    pub go_on_done : go_on_answer b p ns c ≡ Done
+  module _ (d : r.answer ≡ Ok tt) where
+    pub go_on_done : go_on_answer b p ns c ≡ Ok tt
     go_on_done = sym (go_on_answer_lem b p ns c budget lent r w) ∙ d
 
     abbrev o : Outcome
@@ -61,7 +61,7 @@ module _ (b p : Bytes) (ns : List ℕ) (c : Configuration) (budget : ℕ) (lent 
     pub go_on_again : OnAccepted b r.configuration
     go_on_again = rw go_on_stands.handed_out (accepted_again b (passed b p ns c go_on_done).card _ known_there)
 
-    pub accepted_numbers : go_on_answer b p (numbers_in r.remaining) r.configuration ≡ Done
+    pub accepted_numbers : go_on_answer b p (numbers_in r.remaining) r.configuration ≡ Ok tt
     accepted_numbers =
         let pass = passed b p ns c go_on_done in
         let numbers = (tells_law b p ns c budget lent go_on_done r w).accepted in
@@ -72,5 +72,5 @@ module _ (b p : Bytes) (ns : List ℕ) (c : Configuration) (budget : ℕ) (lent 
   go_on_struck u = go (go_on_answer b p ns c) refl
     where
       go : (a : Answer) → go_on_answer b p ns c ≡ a → Unbelieved r.configuration
-      go Done e = none_believed b p ns c budget lent e r w u
-      go (Refused q) e = rw ((refusal_law b p ns c budget lent r w).hands_back q (go_on_answer_lem b p ns c budget lent r w ∙ e)).0 u
+      go (Ok _) e = none_believed b p ns c budget lent e r w u
+      go (Err q) e = rw ((refusal_law b p ns c budget lent r w).hands_back q (go_on_answer_lem b p ns c budget lent r w ∙ e)).0 u

@@ -3,8 +3,8 @@ use mathlib.Core.Path.{◌≡◌, refl, ◌∙◌, sym}
 use Prim.Native.Nat.{ℕ}
 use lib.ListN.{length, take, drop}
 use lib.Seq.{take_at}
-use Rattle.meaning.specs.declared.Answer.{Answer}
-use Rattle.meaning.specs.declared.Answer.TheVariants.{Done}
+use Rattle.meaning.specs.Answers.{Answer}
+use Rattle.std.specs.Prelude.{Ok}
 use Rattle.meaning.specs.declared.Configuration.{Configuration}
 use Rattle.meaning.specs.declared.Next.{Next}
 use Rattle.meaning.specs.Card.{Bytes}
@@ -82,20 +82,20 @@ every_answer = record {
   print = λ b n out left left' a a' count count' w w'. (w.answer ∙ sym w'.answer, w.counted ∙ sym w'.counted, w.leaves ∙ sym w'.leaves);
 }
 
-built_accepted : (s : Said) (out : Bytes) → said_answer s out ≡ Done → card_answer (built s) ≡ Done
+built_accepted : (s : Said) (out : Bytes) → said_answer s out ≡ Ok tt → card_answer (built s) ≡ Ok tt
 unfolding said_answer
 built_accepted s out e =
     let (f, g) = and_then_done (first_given text_table s) (and_then (card_answer (built s)) (room_for (built s) out)) e in
     (and_then_done (card_answer (built s)) (room_for (built s) out) g).0
 
-text_accepted : (t out left : Bytes) (a : Answer) (n : ℕ) → Reads t out a n left → a ≡ Done → card_answer (take n left) ≡ Done
+text_accepted : (t out left : Bytes) (a : Answer) (n : ℕ) → Reads t out a n left → a ≡ Ok tt → card_answer (take n left) ≡ Ok tt
 text_accepted t out left a n (no_text w) h = absurd (done≢refused (sym h))
 text_accepted t out left a n (refused x e) h = absurd (done≢refused (sym h))
 text_accepted t out left a n (done {s} x e) h =
     let z : take (length (built s)) (over (built s) out) ≡ built s = take_at (built s) (drop (length (built s)) out) (length (built s)) refl in
     rw z (built_accepted s out e)
 
-next_again : (b : Bytes) (c : Configuration) (r : Next) → Nexts b c r → r.answer ≡ Done → OnAccepted b r.configuration
+next_again : (b : Bytes) (c : Configuration) (r : Next) → Nexts b c r → r.answer ≡ Ok tt → OnAccepted b r.configuration
 next_again b c r w d = rw (next_laws.unchanged b c r w) (sym (next_laws.answered b c r w) ∙ d)
 
 pub every_done : EveryDone

@@ -7,8 +7,8 @@ use lib.Dec.{leb, ltb}
 use lib.ListN.{length}
 use Rattle.paper.specs.Next.{if}
 use Rattle.meaning.specs.declared.Refusal.{Refusal}
-use Rattle.meaning.specs.declared.Answer.{Answer}
-use Rattle.meaning.specs.declared.Answer.TheVariants.{Done, Refused}
+use Rattle.meaning.specs.Answers.{Answer}
+use Rattle.std.specs.Prelude.{Ok, Err}
 use Rattle.meaning.specs.declared.Configuration.{Configuration}
 use Rattle.meaning.specs.declared.Span.{Span}
 use Rattle.meaning.specs.Card.{Bytes, layout}
@@ -38,11 +38,11 @@ pub go_on_answer_lem : (b p : Bytes) (ns : List ℕ) (c : Configuration) (budget
     → r.answer ≡ go_on_answer b p ns c
 go_on_answer_lem b p ns c budget lent r w = ap (λ (x : Deliberated). x.answer) w ∙ said b p ns c budget lent (go_on_answer b p ns c) refl
 
-found_done : (q : Question) → (found q).answer ≡ Done
+found_done : (q : Question) → (found q).answer ≡ Ok tt
 unfolding found
 found_done q = go (ltb 0 (name_span q.shed q.action).length) (name_span q.shed q.action) (name_span q.master q.action)
   where
-    go : (t : Bool) (x y : Span) → (if t (named Done 1 x) (named Done 0 y)).answer ≡ Done
+    go : (t : Bool) (x y : Span) → (if t (named (Ok tt) 1 x) (named (Ok tt) 0 y)).answer ≡ Ok tt
     go true x y = refl
     go false x y = refl
 
@@ -51,8 +51,8 @@ unfolding names
 name_answer_lem b q r w = ap (λ (x : Named). x.answer) w ∙ go (name_answer b q)
   where
     go : (a : Answer) → (answered a q).answer ≡ a
-    go Done = found_done q
-    go (Refused x) = refl
+    go (Ok _) = found_done q
+    go (Err x) = refl
 
 -- ---- the number
 
@@ -60,7 +60,7 @@ room_among : (xs out : List ℕ) → Memᴰ (answer_number (room_for xs out)) (0
 unfolding answer_number number_of
 room_among xs out = go (leb (length xs) (length out))
   where
-    go : (t : Bool) → Memᴰ (answer_number (elim t as (λ x. Answer) [ true ↦ Done | false ↦ Refused Refusal.NoRoom ])) (0 ∷ 12 ∷ [])
+    go : (t : Bool) → Memᴰ (answer_number (elim t as (λ x. Answer) [ true ↦ Ok tt | false ↦ Err Refusal.NoRoom ])) (0 ∷ 12 ∷ [])
     go true = Memᴰ.head refl
     go false = Memᴰ.tail (Memᴰ.head refl)
 
@@ -99,7 +99,7 @@ not-not true e = refl
 not-not false e = sym e
 
 -- a text that is not 18 or 25 fits
-fits : (s : Said) → first_given text_table s ≡ Done → numbers_fit s && entries_fit s ≡ true
+fits : (s : Said) → first_given text_table s ≡ Ok tt → numbers_fit s && entries_fit s ≡ true
 unfolding text_table
 fits s e = not-not _ ((table_laws Said text_table s).done_exactly.0 e _ (Memᴰ.tail (Memᴰ.head refl)))
 
@@ -108,12 +108,12 @@ unfolding said_answer text_table number_of answer_number
 said_among s out = go (first_given text_table s) refl (listed text_table s (18 ∷ 25 ∷ []) refl)
   where
     go : (a : Answer) → first_given text_table s ≡ a → Memᴰ (answer_number (first_given text_table s)) (0 ∷ 18 ∷ 25 ∷ []) → Memᴰ (answer_number (said_answer s out)) text_numbers
-    go Done h m =
+    go (Ok _) h m =
         rw h
         (and_then_among (card_answer (built s)) _ text_numbers
         (rw (built_law s (fits s h)).judged (wider (0 ∷ 3 ∷ 5 ∷ 6 ∷ 7 ∷ 8 ∷ 9 ∷ []) text_numbers refl (listed rows_of_text (built s) _ (text_rows (built s)))))
         (wider (0 ∷ 12 ∷ []) text_numbers refl (room_among (built s) out)))
-    go (Refused q) h m = rw h (wider (0 ∷ 18 ∷ 25 ∷ []) text_numbers refl (rw h at m))
+    go (Err q) h m = rw h (wider (0 ∷ 18 ∷ 25 ∷ []) text_numbers refl (rw h at m))
 
 pub text_among : (t out left : Bytes) (a : Answer) (n : ℕ) → Reads t out a n left → Memᴰ (answer_number a) text_numbers
 unfolding number_of answer_number
@@ -123,12 +123,12 @@ text_among t out left a n (done {s} x e) = rw e at (said_among s out)
 
 -- ---- a refusal
 
-pub name_refused : (b : Bytes) (q : Question) (r : Named) → Names b q r → (x : Refusal) → r.answer ≡ Refused x → r ≡ refused_name (Refused x)
+pub name_refused : (b : Bytes) (q : Question) (r : Named) → Names b q r → (x : Refusal) → r.answer ≡ Err x → r ≡ refused_name (Err x)
 name_refused b q r w x e = w ∙ on_refusal b q x (sym (name_answer_lem b q r w) ∙ e)
 
 pub print_refused : (b : Bytes) (n : ℕ) (out left : Bytes) (a : Answer) (count : ℕ) → Prints b n out a count left
-    → (q : Refusal) → a ≡ Refused q → (count ≡ 0) × (left ≡ out)
+    → (q : Refusal) → a ≡ Err q → (count ≡ 0) × (left ≡ out)
 unfolding print_count print_leaves
 print_refused b n out left a count w q e =
-    let h : print_answer b n out ≡ Refused q = sym w.answer ∙ e in
+    let h : print_answer b n out ≡ Err q = sym w.answer ∙ e in
     (w.counted ∙ ap (λ x. count_by x (printed b n)) h, w.leaves ∙ ap (λ x. leaves_by x (printed b n) out) h)

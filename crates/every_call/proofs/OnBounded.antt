@@ -2,11 +2,10 @@
 use mathlib.Core.Path.{◌≡◌, ap, ◌∙◌, sym, subst}
 use Prim.Native.Nat.{ℕ}
 use Rattle.meaning.specs.declared.Refusal.{Refusal}
-use Rattle.meaning.specs.declared.Answer.TheVariants.{Refused}
+use Rattle.std.specs.Prelude.{Ok, Err}
 use Rattle.meaning.specs.declared.Configuration.{Configuration}
 use Rattle.meaning.specs.declared.Reply.{Reply}
 use Rattle.meaning.specs.declared.Ran.{Ran}
-use Rattle.meaning.specs.declared.BoundedAnswer.{BoundedAnswer}
 use Rattle.meaning.specs.declared.BoundedReply.{BoundedReply}
 use Rattle.meaning.specs.declared.BoundedRan.{BoundedRan}
 use Rattle.meaning.specs.Card.{Bytes}
@@ -22,10 +21,10 @@ use Rattle.demands.proofs.Striking.{struck}
 
 module _ (b : Bytes) (c : Configuration) where
   module _ (n : ℕ) (r : BoundedReply) (w : BoundedTakes b c n r) where
-    pub take_bounded_refused : (q : Refusal) → bounded_answer b c ≡ Refused q → as_answer r.answer ≡ Refused q
+    pub take_bounded_refused : (q : Refusal) → bounded_answer b c ≡ Err q → as_answer r.answer ≡ Err q
     take_bounded_refused q e = ap (λ (x : Reply). x.answer) (w ∙ bounded_takes_refused b c n q e)
 
-    pub take_bounded_again : r.answer ≡ BoundedAnswer.Done → OnBounded b r.configuration
+    pub take_bounded_again : r.answer ≡ Ok tt → OnBounded b r.configuration
     take_bounded_again d = bounded_calls.take_again b c (take_done b c n r w d).0 n r w
 
     pub take_bounded_struck : Unbelieved c → Unbelieved r.configuration
@@ -43,7 +42,7 @@ module _ (b : Bytes) (c : Configuration) where
         go (as_run on t) = ap (λ (x : Ran). x.answer) (t ∙ runs_good b c on.accepted budget) ∙ sym (bounded_accepts b c on)
         go (refused q e h) = ap (λ (x : Ran). x.answer) h ∙ sym e
 
-    pub run_bounded_again : r.answer ≡ BoundedAnswer.Done → OnBounded b r.configuration
+    pub run_bounded_again : r.answer ≡ Ok tt → OnBounded b r.configuration
     run_bounded_again d = bounded_calls.run_again b c (run_done b c budget r w d).0 budget r w
 
     pub run_bounded_struck : Unbelieved c → Unbelieved r.configuration

@@ -18,11 +18,10 @@ use Rattle.runs.specs.Run.{Chain, stay, ◌then◌}
 use Rattle.runs.specs.Theorems.{Guided, ends, emptied}
 use Rattle.runs.specs.Theorems as Runs
 use Rattle.runs.proofs.Finished.{up_to_lem, past_most}
-use Rattle.meaning.specs.declared.Answer.TheVariants.{Done}
+use Rattle.std.specs.Prelude.{Ok}
 use Rattle.meaning.specs.declared.Configuration.{Configuration}
 use Rattle.meaning.specs.declared.Reply.{Reply}
 use Rattle.meaning.specs.declared.Ran.{Ran}
-use Rattle.meaning.specs.declared.BoundedAnswer.{BoundedAnswer}
 use Rattle.meaning.specs.declared.BoundedReply.{BoundedReply}
 use Rattle.meaning.specs.declared.BoundedRan.{BoundedRan}
 use Rattle.meaning.specs.Card.{Bytes, layout, agent, start}
@@ -82,7 +81,7 @@ module _ {A : Agent} where
   chain_of no_more = stay
   chain_of (one_then x l r) = ◌then◌ x (chain_of r)
 
-module _ (b : Bytes) (card : card_answer b ≡ Done) where
+module _ (b : Bytes) (card : card_answer b ≡ Ok tt) where
   kept_moves : {s s' : State} {ks : List Choice} → Moves (agent b) s ks s' → Kept (layout b) s → Kept (layout b) s'
   kept_moves no_more h = h
   kept_moves (one_then {s} x l r) h = kept_moves r (kept_after (known_agent b card) s h x l)
@@ -126,14 +125,14 @@ module _ (b : Bytes) where
       let card = card_accepted b c w.on in
       subst (Sized b) (sym w.handed_out) (handed_out b (state_of c) (kept_moves b card w.moves (kept_start b card)))
 
-  start_stands : (r : Reply) → Replying (card_answer b) (start b) r → r.answer ≡ Done → StandsFor r.configuration (start b)
+  start_stands : (r : Reply) → Replying (card_answer b) (start b) r → r.answer ≡ Ok tt → StandsFor r.configuration (start b)
   start_stands r (done e) h = record { handed_out = refl; stands_for = configuration_laws.of_state (start b) (known_start b e).fits }
   start_stands r (refused e) h = absurd (done≢refused (sym h))
 
   out : {c : Configuration} {s : State} → StandsFor c s → c ≡ configuration_of (state_of c)
   out x = x.handed_out ∙ ap configuration_of (sym x.stands_for)
 
-  since_load : (r : Reply) (w : Loads b r) (d : r.answer ≡ Done) → Walk b (loaded r w d)
+  since_load : (r : Reply) (w : Loads b r) (d : r.answer ≡ Ok tt) → Walk b (loaded r w d)
   since_load r w d =
       let x = start_stands r (loading b r w) d in
       record {
@@ -146,7 +145,7 @@ module _ (b : Bytes) where
 
   module _ {c : Configuration} {h : Since b c} (before : Walk b h) where
     -- a chosen move that is done, whatever it is called by
-    module _ (n : ℕ) (r : Reply) (w : Takes b c n r) (d : r.answer ≡ Done) where
+    module _ (n : ℕ) (r : Reply) (w : Takes b c n r) (d : r.answer ≡ Ok tt) where
       one_move_of : (k : Choice) × ((choice n ≡ some k) × Moves (agent b) (state_of c) (k ∷ []) (state_of r.configuration))
       one_move_of =
           let (k, (c', (m, l))) = (demand_2.taken_exactly b c before.on n r w).0 d in
@@ -158,7 +157,7 @@ module _ (b : Bytes) where
           let (k, (c', (m, l))) = (demand_2.taken_exactly b c before.on n r w).0 d in
           out (demand_2.taken_to b c before.on n r w k c' m l)
 
-    since_take : (n : ℕ) (r : Reply) (w : Takes b c n r) (d : r.answer ≡ Done) → Walk b (taken h n r w d)
+    since_take : (n : ℕ) (r : Reply) (w : Takes b c n r) (d : r.answer ≡ Ok tt) → Walk b (taken h n r w d)
     since_take n r w d =
         let (k, (e, m)) = one_move_of n r w d in
         record {
@@ -169,7 +168,7 @@ module _ (b : Bytes) where
           handed_out = take_out n r w d;
         }
 
-    since_bounded_take : (n : ℕ) (r : BoundedReply) (w : BoundedTakes b c n r) (d : r.answer ≡ BoundedAnswer.Done) → Walk b (taken_bounded h n r w d)
+    since_bounded_take : (n : ℕ) (r : BoundedReply) (w : BoundedTakes b c n r) (d : r.answer ≡ Ok tt) → Walk b (taken_bounded h n r w d)
     since_bounded_take n r w d =
         let (on, t) = take_done b c n r w d in
         let (k, (e, m)) = one_move_of n (as_reply r) t (as_done d) in
@@ -198,7 +197,7 @@ module _ (b : Bytes) where
           given = out told.reached;
         }
 
-    since_run : (budget : ℕ) (r : Ran) (w : Runs b c budget r) (d : r.answer ≡ Done) → Walk b (ran h budget r w d)
+    since_run : (budget : ℕ) (r : Ran) (w : Runs b c budget r) (d : r.answer ≡ Ok tt) → Walk b (ran h budget r w d)
     since_run budget r w d =
         let g = ranged budget r w in
         record {
@@ -209,7 +208,7 @@ module _ (b : Bytes) where
           handed_out = g.given;
         }
 
-    since_bounded_run : (budget : ℕ) (r : BoundedRan) (w : BoundedRuns b c budget r) (d : r.answer ≡ BoundedAnswer.Done) → Walk b (ran_bounded h budget r w d)
+    since_bounded_run : (budget : ℕ) (r : BoundedRan) (w : BoundedRuns b c budget r) (d : r.answer ≡ Ok tt) → Walk b (ran_bounded h budget r w d)
     since_bounded_run budget r w d =
         let (on, t) = run_done b c budget r w d in
         let g = ranged budget (as_ran r) t in
@@ -221,7 +220,7 @@ module _ (b : Bytes) where
           handed_out = g.given;
         }
 
-    since_deliberation : (p : Bytes) (ns : List ℕ) (budget : ℕ) (lent : Bytes) (r : Deliberated) (w : GoesOn b p ns c budget lent r) (d : r.answer ≡ Done)
+    since_deliberation : (p : Bytes) (ns : List ℕ) (budget : ℕ) (lent : Bytes) (r : Deliberated) (w : GoesOn b p ns c budget lent r) (d : r.answer ≡ Ok tt)
         → Walk b (deliberated h p ns budget lent r w d)
     since_deliberation p ns budget lent r w d =
         let t = tells_law b p ns c budget lent (go_on_done b p ns c budget lent r w d) r w in

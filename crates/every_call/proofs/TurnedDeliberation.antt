@@ -5,8 +5,8 @@ use Prim.Native.Nat.{ℕ, ◌+◌, ◌≤◌}
 use native.Mathlib.Omega.{arith}
 use Rattle.paper.specs.Language.{𝐁}
 use Rattle.meaning.specs.declared.Refusal.{Refusal}
-use Rattle.meaning.specs.declared.Answer.{Answer}
-use Rattle.meaning.specs.declared.Answer.TheVariants.{Done, Refused}
+use Rattle.meaning.specs.Answers.{Answer}
+use Rattle.std.specs.Prelude.{Ok, Err}
 use Rattle.meaning.specs.declared.Configuration.{Configuration}
 use Rattle.meaning.specs.Card.{Bytes, layout, agent, conditions}
 use Rattle.meaning.specs.Configurations.{state_of}
@@ -31,26 +31,26 @@ use Rattle.every_call.proofs.Deliberating.{go_on_stands, go_on_again, accepted_n
 -- ---- a call
 
 module _ (b p : Bytes) (ns : List ℕ) (c : Configuration) (j : ℕ) (lent : Bytes) (r : Deliberated) (w : GoesOn b p ns c j lent r) where
-  is_done : go_on_answer b p ns c ≡ Done → r ≡ deliberated (outcome b p ns c j)
+  is_done : go_on_answer b p ns c ≡ Ok tt → r ≡ deliberated (outcome b p ns c j)
   is_done on = w ∙ goes_on_done b p ns c j lent on
 
-  is_refused : (q : Refusal) → go_on_answer b p ns c ≡ Refused q → r ≡ refused q c lent
+  is_refused : (q : Refusal) → go_on_answer b p ns c ≡ Err q → r ≡ refused q c lent
   is_refused q e = w ∙ goes_on_refused b p ns c j lent q e
 
-  done_answer : go_on_answer b p ns c ≡ Done → r.answer ≡ Done
+  done_answer : go_on_answer b p ns c ≡ Ok tt → r.answer ≡ Ok tt
   done_answer on = ap (λ (x : Deliberated). x.answer) (is_done on)
 
   -- what a caller goes on from
-  kept_done : go_on_answer b p ns c ≡ Done → Turned.kept ns r ≡ (outcome b p ns c j).remaining
+  kept_done : go_on_answer b p ns c ≡ Ok tt → Turned.kept ns r ≡ (outcome b p ns c j).remaining
   kept_done on = rw (is_done on) (numbers_back (outcome b p ns c j).remaining)
 
   -- is accepted
-  kept_accepted : go_on_answer b p ns c ≡ Done → go_on_answer b p (Turned.kept ns r) r.configuration ≡ Done
+  kept_accepted : go_on_answer b p ns c ≡ Ok tt → go_on_answer b p (Turned.kept ns r) r.configuration ≡ Ok tt
   kept_accepted on =
       let numbers : numbers_in r.remaining ≡ (outcome b p ns c j).remaining = ap (λ (x : Deliberated). numbers_in x.remaining) (is_done on) ∙ numbers_back (outcome b p ns c j).remaining in
-      subst (λ ms. go_on_answer b p ms r.configuration ≡ Done) (numbers ∙ sym (kept_done on)) (accepted_numbers b p ns c j lent r w (done_answer on))
+      subst (λ ms. go_on_answer b p ms r.configuration ≡ Ok tt) (numbers ∙ sym (kept_done on)) (accepted_numbers b p ns c j lent r w (done_answer on))
 
-  kept_refused : (q : Refusal) → go_on_answer b p ns c ≡ Refused q → Turned.kept ns r ≡ ns
+  kept_refused : (q : Refusal) → go_on_answer b p ns c ≡ Err q → Turned.kept ns r ≡ ns
   kept_refused q e = rw (is_refused q e) refl
 
   -- the configuration is one that a turn gives back
@@ -58,12 +58,12 @@ module _ (b p : Bytes) (ns : List ℕ) (c : Configuration) (j : ℕ) (lent : Byt
   call_sized h = go (go_on_answer b p ns c) refl
     where
       go : (a : Answer) → go_on_answer b p ns c ≡ a → Sized b r.configuration
-      go Done on =
+      go (Ok _) on =
           let pass = passed b p ns c on in
           let there = h.keeps (configuration_good_lem b c pass.card pass.configuration_good_lem) in
           let (s, (e, k)) = done_keeps b p ns c j lent on r w (Kept (layout b)) (λ s k d q t l. kept_after (known_agent b pass.card) s q t l) there in
           rw e (handed_out b s k)
-      go (Refused q) e = rw (is_refused q e) h
+      go (Err q) e = rw (is_refused q e) h
 
 -- ---- a deliberation that is stopped, and goes on from what it reached
 
@@ -81,7 +81,7 @@ module _ (b p : Bytes) (ns : List ℕ) (c : Configuration) (j k : ℕ) (least : 
   abbrev next : Outcome
   next = deliberate (agent b) (conditions 𝐁 (layout b) b) (entries_of p) k o.remaining o.state
 
-  second_done : go_on_answer b p ns c ≡ Done → second ≡ deliberated next
+  second_done : go_on_answer b p ns c ≡ Ok tt → second ≡ deliberated next
   second_done on =
       let d = done_answer b p ns c j lent first w on in
       let left = kept_done b p ns c j lent first w on in
@@ -91,13 +91,13 @@ module _ (b p : Bytes) (ns : List ℕ) (c : Configuration) (j k : ℕ) (least : 
       ∙ ap (λ ms. deliberated (deliberate (agent b) (conditions 𝐁 (layout b) b) (entries_of p) k ms (state_of first.configuration))) left
       ∙ ap (λ s. deliberated (deliberate (agent b) (conditions 𝐁 (layout b) b) (entries_of p) k o.remaining s)) there
 
-  stopped_done : go_on_answer b p ns c ≡ Done → AsOneCall second (first.count + second.count) one
+  stopped_done : go_on_answer b p ns c ≡ Ok tt → AsOneCall second (first.count + second.count) one
   stopped_done on =
       joined o next first second one (is_done b p ns c j lent first w on) (second_done on)
       (is_done b p ns c (j + k) lent'' one v on
       ∙ ap (λ (x : Outcome). deliberated x) (deliberation_stops (agent b) (conditions 𝐁 (layout b) b) (entries_of p) j k ns (state_of c) least))
 
-  stopped_refused : (q : Refusal) → go_on_answer b p ns c ≡ Refused q → AsOneCall second (first.count + second.count) one
+  stopped_refused : (q : Refusal) → go_on_answer b p ns c ≡ Err q → AsOneCall second (first.count + second.count) one
   stopped_refused q e =
       let f = is_refused b p ns c j lent first w q e in
       let g : second ≡ refused q c lent' = w' ∙ ap (λ ms. goes_on b p ms first.configuration k lent') (kept_refused b p ns c j lent first w q e)
@@ -109,8 +109,8 @@ module _ (b p : Bytes) (ns : List ℕ) (c : Configuration) (j k : ℕ) (least : 
   stopped = go (go_on_answer b p ns c) refl
     where
       go : (a : Answer) → go_on_answer b p ns c ≡ a → AsOneCall second (first.count + second.count) one
-      go Done h = stopped_done h
-      go (Refused q) h = stopped_refused q h
+      go (Ok _) h = stopped_done h
+      go (Err q) h = stopped_refused q h
 
 -- ---- calls with turns between them
 
@@ -138,10 +138,10 @@ module _ (b p : Bytes) where
       alike = v ∙ ap (λ m. goes_on b p ns c m lent) z
 
       go : (a : Answer) → go_on_answer b p ns c ≡ a → AsOneCall r r.count one
-      go Done h =
+      go (Ok _) h =
           rw (is_done b p ns c j lent' r w h, is_done b p ns c j lent one alike h)
           (record { answer = refl; configuration = refl; ending = refl; count = refl; numbers = refl; bytes = λ h. refl })
-      go (Refused q) h =
+      go (Err q) h =
           rw (is_refused b p ns c j lent' r w q h, is_refused b p ns c j lent one alike q h)
           (record { answer = refl; configuration = refl; ending = refl; count = refl; numbers = refl; bytes = λ h. absurd (done≢refused (sym h)) })
   as_one keeps (call_turned {ns} {ks} {c} {j} {k} {n} {last} lent' r w t least rest) lent one v =
@@ -157,8 +157,8 @@ module _ (b p : Bytes) where
       one_before r last second one n (as_one (call_sized b p ns c j lent' r w keeps) rest lent second refl)
       (stopped b p ns c j (k + sum ks) (omega arith) lent' lent lent r second one w refl v)
 
-  each_done : {ns ks : List ℕ} {c : Configuration} {j n : ℕ} {last : Deliberated} → Sized b c → go_on_answer b p ns c ≡ Done
-      → (calls : TurnedCalls b p ns c j ks last n) → EachCall (λ lent r. r.answer ≡ Done) TurnDone calls
+  each_done : {ns ks : List ℕ} {c : Configuration} {j n : ℕ} {last : Deliberated} → Sized b c → go_on_answer b p ns c ≡ Ok tt
+      → (calls : TurnedCalls b p ns c j ks last n) → EachCall (λ lent r. r.answer ≡ Ok tt) TurnDone calls
   each_done keeps on (last_call {ns} {c} {j} lent r w) = done_answer b p ns c j lent r w on
   each_done keeps on (call_turned {ns} {c = c} {j = j} lent r w t least rest) =
       let d = done_answer b p ns c j lent r w on in
@@ -168,14 +168,14 @@ module _ (b p : Bytes) where
         d,
         (
           turn_done b r.configuration t (go_on_again b p ns c j lent r w d) reached,
-          each_done (subst (Sized b) same reached) (subst (λ x. go_on_answer b p (Turned.kept ns r) x ≡ Done) same again) rest,
+          each_done (subst (Sized b) same reached) (subst (λ x. go_on_answer b p (Turned.kept ns r) x ≡ Ok tt) same again) rest,
         ),
       )
   each_done keeps on (call_then {ns} {c = c} {j = j} lent r w least rest) =
       (done_answer b p ns c j lent r w on, each_done (call_sized b p ns c j lent r w keeps) (kept_accepted b p ns c j lent r w on) rest)
 
   each_refused : {ns ks : List ℕ} {c : Configuration} {j n : ℕ} {last : Deliberated} (ns₀ : List ℕ) (c₀ : Configuration) (q : Refusal) → Sized b c₀
-      → go_on_answer b p ns₀ c₀ ≡ Refused q → ns ≡ ns₀ → c ≡ c₀ → (calls : TurnedCalls b p ns c j ks last n)
+      → go_on_answer b p ns₀ c₀ ≡ Err q → ns ≡ ns₀ → c ≡ c₀ → (calls : TurnedCalls b p ns c j ks last n)
       → EachCall (λ lent r. r ≡ refused q c₀ lent) (λ d t. held t ≡ d) calls
   each_refused ns₀ c₀ q keeps e f g (last_call {ns} {c} {j} lent r w) =
       w ∙ ap (λ ms. goes_on b p ms c j lent) f ∙ ap (λ x. goes_on b p ns₀ x j lent) g ∙ goes_on_refused b p ns₀ c₀ j lent q e

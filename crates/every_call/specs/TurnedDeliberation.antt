@@ -1,8 +1,7 @@
 -- The turned screen (02, Wish 7) of deliberations (02, Wish 6), of every answer that meets a call's contract (proved in proofs/). b
 -- is the card, p a program.
-use Rattle.std.specs.Prelude.{◌≡◌, List, [], ◌∷◌, ℕ, ◌+◌, ◌≤◌}
+use Rattle.std.specs.Prelude.{◌≡◌, List, [], ◌∷◌, ℕ, ◌+◌, ◌≤◌, Ok, Err}
 use Rattle.meaning.specs.declared.Refusal.{Refusal}
-use Rattle.meaning.specs.declared.Answer.TheVariants.{Done, Refused}
 use Rattle.meaning.specs.declared.Configuration.{Configuration}
 use Rattle.meaning.specs.Card.{Bytes}
 use Rattle.demands.specs.CallContracts.{Shaped}
@@ -14,7 +13,7 @@ use Rattle.deliberation.specs.Theorems.{numbers_in, GoesOn, Deliberates}
 
 -- The numbers that a caller goes on from: those that remain; after a refusal, which answers none, those that it gave.
 abbrev pub kept : List ℕ → Deliberated → List ℕ
-kept ns r = elim r.answer [ Done ↦ numbers_in r.remaining | Refused q ↦ ns ]
+kept ns r = elim r.answer [ Ok _ ↦ numbers_in r.remaining | Err q ↦ ns ]
 
 -- Deliberate with budget j, save, restore under the same card, go on with budget k, with any number of calls and turns: from the
 -- numbers of a program and a configuration, with the first budget and those after it; the answer of the last call, and all counts
@@ -48,15 +47,15 @@ pub record AsOneCall (last : Deliberated) (counts : ℕ) (one : Deliberated) : T
   -- 02, Wish 6: "The answer holds the remaining program as entry numbers"
   pub numbers : numbers_in last.remaining ≡ numbers_in one.remaining
   -- and where they are written, all bytes of them, the zeros behind them too
-  pub bytes : one.answer ≡ Done → last.remaining ≡ one.remaining
+  pub bytes : one.answer ≡ Ok tt → last.remaining ≡ one.remaining
 
 -- Calls with turns beside one call. Where card, program, numbers and configuration are accepted every call is done; where one of
 -- them is refused every call is refused alike, and leaves its lent bytes, and each turn leaves the configuration.
 pub record TurnedTogether {b p : Bytes} {ns ks : List ℕ} {c : Configuration} {j n : ℕ} {last : Deliberated}
     (calls : TurnedCalls b p ns c j ks last n) (lent : Bytes) (one : Deliberated) : Type 0 where
   pub as_one_call : AsOneCall last n one
-  pub all_done : go_on_answer b p ns c ≡ Done → EachCall (λ lent r. r.answer ≡ Done) TurnDone calls × (one.answer ≡ Done)
-  pub refused_alike : (q : Refusal) → go_on_answer b p ns c ≡ Refused q
+  pub all_done : go_on_answer b p ns c ≡ Ok tt → EachCall (λ lent r. r.answer ≡ Ok tt) TurnDone calls × (one.answer ≡ Ok tt)
+  pub refused_alike : (q : Refusal) → go_on_answer b p ns c ≡ Err q
       → EachCall (λ lent r. r ≡ refused q c lent) (λ d t. held t ≡ d) calls × (one ≡ refused q c lent)
 
 -- The turned screen of deliberations. Of a configuration it needs what the types of its fields say of any.

@@ -36,13 +36,13 @@ fn whole(beliefs: Set, goals: Set, m: Standing, plan: Plan) -> Configuration
 {
     Configuration {
         mind: Mind {
-            beliefs: beliefs,
-            goals: goals,
+            beliefs,
+            goals,
             length: m.length,
             phase: m.phase,
             finished: m.finished,
         },
-        plan: plan,
+        plan,
     }
 }
 
@@ -50,10 +50,16 @@ fn whole(beliefs: Set, goals: Set, m: Standing, plan: Plan) -> Configuration
 fn standing(m: Mind) -> Standing
     ensures { result ≡ record { length = m.length; phase = m.phase; finished = m.finished } }
 {
+    let Mind {
+        length,
+        phase,
+        finished,
+        ..
+    } = m;
     Standing {
-        length: m.length,
-        phase: m.phase,
-        finished: m.finished,
+        length,
+        phase,
+        finished,
     }
 }
 
@@ -62,9 +68,8 @@ fn reply_with(r: ReplyInPlace, beliefs: Set, goals: Set, plan: Plan) -> Reply
     ensures value { result ≡ reply_with r beliefs goals plan }
     ensures shaped { Shaped result.configuration }
 {
-    let a = r.answer;
     Reply {
-        answer: a,
+        answer: r.answer,
         configuration: whole(beliefs, goals, r.standing, plan),
     }
 }
@@ -86,15 +91,13 @@ pub fn grade(card: &[u8]) -> Graded
     ensures { Grades card.now result }
 {
     let r = verdict::grade::grade(card);
-    let a = r.answer;
-    let v = r.verdict;
     let mut beliefs = [0u8; 32];
     let mut goals = [0u8; 32];
     let mut plan = [0u8; 1024];
     let none = place::load::set_empty(&mut beliefs, &mut goals, &mut plan);
     Graded {
-        answer: a,
-        verdict: v,
+        answer: r.answer,
+        verdict: r.verdict,
         configuration: whole(beliefs, goals, none, plan),
     }
 }
@@ -103,13 +106,16 @@ pub fn grade(card: &[u8]) -> Graded
 pub fn list(card: &[u8], c: Configuration, out: &mut [u16]) -> Listed
     ensures { Lists card.now c out.old result out.new }
 {
-    let m = c.mind;
-    let beliefs = m.beliefs;
-    let goals = m.goals;
-    let r = listing::list::list(card, &beliefs, &goals, standing(m), &c.plan, out);
-    let a = r.answer;
+    let r = listing::list::list(
+        card,
+        &c.mind.beliefs,
+        &c.mind.goals,
+        standing(c.mind),
+        &c.plan,
+        out,
+    );
     Listed {
-        answer: a,
+        answer: r.answer,
         count: r.count,
         judged: r.judged,
         goals: r.goals,
@@ -122,15 +128,14 @@ pub fn take(card: &[u8], c: Configuration, choice: u16) -> Reply
     ensures takes { Takes card.now c choice result }
     ensures shaped { Shaped result.configuration }
 {
-    let m = c.mind;
-    let mut beliefs = m.beliefs;
-    let mut goals = m.goals;
+    let mut beliefs = c.mind.beliefs;
+    let mut goals = c.mind.goals;
     let mut plan = c.plan;
     let r = moves::take::take(
         card,
         &mut beliefs,
         &mut goals,
-        standing(m),
+        standing(c.mind),
         &mut plan,
         choice,
     );
@@ -142,12 +147,10 @@ fn ran_with(r: RanInPlace, beliefs: Set, goals: Set, plan: Plan) -> Ran
     ensures value { result ≡ ran_with r beliefs goals plan }
     ensures shaped { Shaped result.configuration }
 {
-    let a = r.answer;
-    let e = r.ending;
     Ran {
-        answer: a,
+        answer: r.answer,
         count: r.count,
-        ending: e,
+        ending: r.ending,
         configuration: whole(beliefs, goals, r.standing, plan),
     }
 }
@@ -157,29 +160,28 @@ pub fn run(card: &[u8], c: Configuration, budget: u16) -> Ran
     ensures runs { Runs card.now c budget result }
     ensures shaped { Shaped result.configuration }
 {
-    let m = c.mind;
-    let mut beliefs = m.beliefs;
-    let mut goals = m.goals;
+    let mut beliefs = c.mind.beliefs;
+    let mut goals = c.mind.goals;
     let mut plan = c.plan;
     let r = moves::run::run(
         card,
         &mut beliefs,
         &mut goals,
-        standing(m),
+        standing(c.mind),
         &mut plan,
         budget,
     );
     ran_with(r, beliefs, goals, plan)
 }
 
-// What a chosen move on a bounded card answered in place, with the sets and the plan.
+// What a chosen move on a bounded card answered in place, with the sets and the plan. This and `bounded_ran_with` stand beside
+// `reply_with` and `ran_with`: `BoundedReply` and `BoundedRan` are types of their own, of which `as_reply` and `as_ran` speak.
 fn bounded_reply_with(r: BoundedReplyInPlace, beliefs: Set, goals: Set, plan: Plan) -> BoundedReply
     ensures value { result ≡ bounded_reply_with r beliefs goals plan }
     ensures shaped { Shaped result.configuration }
 {
-    let a = r.answer;
     BoundedReply {
-        answer: a,
+        answer: r.answer,
         configuration: whole(beliefs, goals, r.standing, plan),
     }
 }
@@ -189,15 +191,14 @@ pub fn take_bounded(card: &[u8], c: Configuration, choice: u16) -> BoundedReply
     ensures bounded_takes { BoundedTakes card.now c choice result }
     ensures shaped { Shaped result.configuration }
 {
-    let m = c.mind;
-    let mut beliefs = m.beliefs;
-    let mut goals = m.goals;
+    let mut beliefs = c.mind.beliefs;
+    let mut goals = c.mind.goals;
     let mut plan = c.plan;
     let r = bounded::take::take(
         card,
         &mut beliefs,
         &mut goals,
-        standing(m),
+        standing(c.mind),
         &mut plan,
         choice,
     );
@@ -209,12 +210,10 @@ fn bounded_ran_with(r: BoundedRanInPlace, beliefs: Set, goals: Set, plan: Plan) 
     ensures value { result ≡ bounded_ran_with r beliefs goals plan }
     ensures shaped { Shaped result.configuration }
 {
-    let a = r.answer;
-    let e = r.ending;
     BoundedRan {
-        answer: a,
+        answer: r.answer,
         count: r.count,
-        ending: e,
+        ending: r.ending,
         configuration: whole(beliefs, goals, r.standing, plan),
     }
 }
@@ -224,15 +223,14 @@ pub fn run_bounded(card: &[u8], c: Configuration, budget: u16) -> BoundedRan
     ensures bounded_runs { BoundedRuns card.now c budget result }
     ensures shaped { Shaped result.configuration }
 {
-    let m = c.mind;
-    let mut beliefs = m.beliefs;
-    let mut goals = m.goals;
+    let mut beliefs = c.mind.beliefs;
+    let mut goals = c.mind.goals;
     let mut plan = c.plan;
     let r = bounded::run::run(
         card,
         &mut beliefs,
         &mut goals,
-        standing(m),
+        standing(c.mind),
         &mut plan,
         budget,
     );
@@ -243,15 +241,16 @@ pub fn run_bounded(card: &[u8], c: Configuration, budget: u16) -> BoundedRan
 pub fn next(card: &[u8], c: Configuration) -> Next
     ensures { Nexts card.now c result }
 {
-    let m = c.mind;
-    let beliefs = m.beliefs;
-    let goals = m.goals;
-    let r = moves::next::next(card, &beliefs, &goals, standing(m), &c.plan);
-    let a = r.answer;
-    let k = r.coming;
+    let r = moves::next::next(
+        card,
+        &c.mind.beliefs,
+        &c.mind.goals,
+        standing(c.mind),
+        &c.plan,
+    );
     Next {
-        answer: a,
-        coming: k,
+        answer: r.answer,
+        coming: r.coming,
         configuration: c,
     }
 }
@@ -267,25 +266,16 @@ fn deliberated_with(
     ensures value { result ≡ deliberated_with r beliefs goals plan numbers }
     ensures shaped { Shaped result.configuration }
 {
-    let a = r.answer;
-    let e = r.ending;
     Deliberated {
-        answer: a,
+        answer: r.answer,
         count: r.count,
-        ending: e,
+        ending: r.ending,
         configuration: whole(beliefs, goals, r.standing, plan),
         remaining: Remaining {
             length: r.length,
-            numbers: numbers,
+            numbers,
         },
     }
-}
-
-// 128 zeros, which are lent for the numbers that remain.
-fn no_numbers() -> [u8; 128]
-    ensures { result ≡ replicate 128 0 }
-{
-    [0u8; 128]
 }
 
 // At most budget moves of a deliberation program.
@@ -293,17 +283,16 @@ pub fn deliberate(card: &[u8], program: &[u8], c: Configuration, budget: u16) ->
     ensures deliberates { Deliberates card.now program.now c budget (replicate 128 0) result }
     ensures shaped { Shaped result.configuration }
 {
-    let m = c.mind;
-    let mut beliefs = m.beliefs;
-    let mut goals = m.goals;
+    let mut beliefs = c.mind.beliefs;
+    let mut goals = c.mind.goals;
     let mut plan = c.plan;
-    let mut numbers = no_numbers();
+    let mut numbers = [0u8; 128];
     let r = deliberate::call::deliberate(
         card,
         program,
         &mut beliefs,
         &mut goals,
-        standing(m),
+        standing(c.mind),
         &mut plan,
         budget,
         &mut numbers,
@@ -322,18 +311,17 @@ pub fn go_on(
     ensures goes_on { GoesOn card.now program.now given.now c budget (replicate 128 0) result }
     ensures shaped { Shaped result.configuration }
 {
-    let m = c.mind;
-    let mut beliefs = m.beliefs;
-    let mut goals = m.goals;
+    let mut beliefs = c.mind.beliefs;
+    let mut goals = c.mind.goals;
     let mut plan = c.plan;
-    let mut numbers = no_numbers();
+    let mut numbers = [0u8; 128];
     let r = deliberate::call::go_on(
         card,
         program,
         given,
         &mut beliefs,
         &mut goals,
-        standing(m),
+        standing(c.mind),
         &mut plan,
         budget,
         &mut numbers,
@@ -346,13 +334,16 @@ pub fn save(card: &[u8], c: Configuration, out: &mut [u8]) -> Written
     ensures saves { Saves card.now c out.old result out.new }
     ensures shaped { Shaped c }
 {
-    let m = c.mind;
-    let beliefs = m.beliefs;
-    let goals = m.goals;
-    let r = place::save::save(card, &beliefs, &goals, standing(m), &c.plan, out);
-    let a = r.answer;
+    let r = place::save::save(
+        card,
+        &c.mind.beliefs,
+        &c.mind.goals,
+        standing(c.mind),
+        &c.plan,
+        out,
+    );
     Written {
-        answer: a,
+        answer: r.answer,
         count: r.count,
         configuration: c,
     }

@@ -1,5 +1,5 @@
 // Bytes, a card's or a place's: a number or a set from an offset on, a number's two bytes, the mark, and bytes copied.
-ghost use Rattle.std.specs.Prelude.{◌≡◌, true, ◌+◌, ◌*◌, ◌/◌, ◌%◌, ◌≤◌, ltb, length, drop};
+ghost use Rattle.std.specs.Prelude.{◌≡◌, true, ◌+◌, ◌≤◌, ltb, length, drop};
 ghost use Rattle.std.proofs.Math.Seq.{paste};
 ghost use Rattle.paper.specs.Atoms.{◌∪◌, ◌∖◌};
 ghost use Rattle.meaning.specs.Sizes.{edition_set};
@@ -8,11 +8,12 @@ ghost use Rattle.meaning.specs.Refusals.{has_edition, marked};
 
 use meaning::Set;
 
-// Two bytes, low byte first.
-fn joined(low: u8, high: u8) -> usize
-    ensures { (result ≡ low + 256 * high) × (result ≤ 65535) }
+// The number at an offset, to be held: "Numbers are two bytes, low byte first".
+pub fn two_bytes_at(bytes: &[u8], at: usize) -> u16
+    requires { at + 2 ≤ length bytes.now }
+    ensures { (result ≡ number_at bytes.now at) × (result ≤ 65535) }
 {
-    (low as usize) + 256 * (high as usize)
+    u16::from_le_bytes([bytes[at], bytes[at + 1]])
 }
 
 // The number at an offset, to count with.
@@ -20,29 +21,7 @@ pub fn number_at(bytes: &[u8], at: usize) -> usize
     requires { at + 2 ≤ length bytes.now }
     ensures { (result ≡ number_at bytes.now at) × (result ≤ 65535) }
 {
-    joined(bytes[at], bytes[at + 1])
-}
-
-// The number at an offset, to be held: "Numbers are two bytes".
-pub fn two_bytes_at(bytes: &[u8], at: usize) -> u16
-    requires { at + 2 ≤ length bytes.now }
-    ensures { (result ≡ number_at bytes.now at) × (result ≤ 65535) }
-{
-    number_at(bytes, at) as u16
-}
-
-// A number's low byte.
-pub fn low_byte(n: usize) -> u8
-    ensures { result ≡ n % 256 }
-{
-    (n % 256) as u8
-}
-
-// A number's high byte.
-pub fn high_byte(n: usize) -> u8
-    ensures { result ≡ n / 256 % 256 }
-{
-    (n / 256 % 256) as u8
+    two_bytes_at(bytes, at) as usize
 }
 
 // Whether a byte is below a number.
@@ -72,11 +51,7 @@ pub fn copy(dst: &mut [u8], to: usize, src: &[u8], from: usize, n: usize)
     requires { (to + n ≤ length dst.old) × (from + n ≤ length src.now) }
     ensures { dst.new ≡ paste dst.old to (drop from src.now) n }
 {
-    let mut i: usize = 0;
-    while i < n {
-        dst[to + i] = src[from + i];
-        i += 1;
-    }
+    dst[to..to + n].copy_from_slice(&src[from..from + n]);
 }
 
 // n bytes move down in place.
@@ -84,11 +59,7 @@ pub fn down(s: &mut [u8], to: usize, from: usize, n: usize)
     requires { (to ≤ from) × (from + n ≤ length s.old) }
     ensures { s.new ≡ paste s.old to (drop from s.old) n }
 {
-    let mut k: usize = 0;
-    while k < n {
-        s[to + k] = s[from + k];
-        k += 1;
-    }
+    s.copy_within(from..from + n, to);
 }
 
 // The set at an offset, of as many bytes as its edition's sets have, with zeros above. Each number is written out, so that the
@@ -100,9 +71,9 @@ pub fn set_at(bytes: &[u8], at: usize, edition: u16) -> Set
     let mut set = [0u8; 32];
     if edition == 2 {
         copy(&mut set, 0, bytes, at, 32);
-        return set;
+    } else {
+        copy(&mut set, 0, bytes, at, 16);
     }
-    copy(&mut set, 0, bytes, at, 16);
     set
 }
 
@@ -111,41 +82,23 @@ pub fn add_bytes(s: &mut [u8], bytes: &[u8], at: usize, n: usize)
     requires { (n ≤ length s.old) × (at + n ≤ length bytes.now) }
     ensures { s.new ≡ s.old ∪ part bytes.now at n }
 {
-    let mut i: usize = 0;
-    while i < n {
-        s[i] = s[i] | bytes[at + i];
-        i += 1;
-    }
+    sets::add(s, &bytes[at..at + n]);
 }
 
-// And leave it.
-fn remove_bytes(s: &mut [u8], bytes: &[u8], at: usize, n: usize)
-    requires { (n ≤ length s.old) × (at + n ≤ length bytes.now) }
-    ensures { s.new ≡ s.old ∖ part bytes.now at n }
-{
-    let mut i: usize = 0;
-    while i < n {
-        s[i] = s[i] ^ (s[i] & bytes[at + i]);
-        i += 1;
-    }
-}
-
-// The set at an offset, of an edition, joins one of 32 bytes in place.
-pub fn add_set(s: &mut [u8], bytes: &[u8], at: usize, edition: u16)
-    requires { (length s.old ≡ 32) × (at + edition_set edition ≤ length bytes.now) }
+// The set at an offset, of an edition, joins one in place.
+pub fn add_set(s: &mut Set, bytes: &[u8], at: usize, edition: u16)
+    requires { at + edition_set edition ≤ length bytes.now }
     ensures { s.new ≡ s.old ∪ widened (part bytes.now at (edition_set edition)) }
 {
-    let t = set_at(bytes, at, edition);
-    add_bytes(s, &t, 0, 32);
+    sets::add(s, &set_at(bytes, at, edition));
 }
 
 // And leaves it.
-pub fn remove_set(s: &mut [u8], bytes: &[u8], at: usize, edition: u16)
-    requires { (length s.old ≡ 32) × (at + edition_set edition ≤ length bytes.now) }
+pub fn remove_set(s: &mut Set, bytes: &[u8], at: usize, edition: u16)
+    requires { at + edition_set edition ≤ length bytes.now }
     ensures { s.new ≡ s.old ∖ widened (part bytes.now at (edition_set edition)) }
 {
-    let t = set_at(bytes, at, edition);
-    remove_bytes(s, &t, 0, 32);
+    sets::remove(s, &set_at(bytes, at, edition));
 }
 
 // How many bytes a slice has. An array that is lent as a slice is known to be as long as its type says.

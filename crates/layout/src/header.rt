@@ -59,17 +59,13 @@ pub fn in_range(low: usize, high: usize, n: usize) -> bool
 pub fn counts_good(l: Layout) -> bool
     ensures { result ≡ counts_good l }
 {
-    let nodes = l.nodes;
-    let specifications = l.specifications;
-    let selections = l.selections;
-    let revisions = l.revisions;
-    let pool = l.pool;
     in_range(1, most_atoms(l), l.atoms as usize)
-        & (in_range(1, 256, l.actions as usize)
-            & (in_range(1, 256, nodes.count as usize)
-                & ((specifications.count <= 256)
-                    & ((selections.count <= 256)
-                        & ((revisions.count <= 256) & (pool.count <= 8192))))))
+        & in_range(1, 256, l.actions as usize)
+        & in_range(1, 256, l.nodes.count as usize)
+        & (l.specifications.count <= 256)
+        & (l.selections.count <= 256)
+        & (l.revisions.count <= 256)
+        & (l.pool.count <= 8192)
 }
 
 // Where a section ends, whose entries have a size.
@@ -85,15 +81,10 @@ pub fn offsets_good(l: Layout, n: usize) -> bool
     requires { TwoByteLayout l }
     ensures { result ≡ offsets_good l n }
 {
-    let nodes = l.nodes;
-    let specifications = l.specifications;
-    let selections = l.selections;
-    let revisions = l.revisions;
-    let pool = l.pool;
-    ((nodes.offset as usize) == header_bytes(l) + 2 * (l.actions as usize))
-        & (((specifications.offset as usize) == end_of(nodes, 4))
-            & (((selections.offset as usize) == end_of(specifications, specification_bytes(l)))
-                & (((revisions.offset as usize) == end_of(selections, 8))
-                    & (((pool.offset as usize) == end_of(revisions, 12))
-                        & (n == end_of(pool, 1))))))
+    (l.nodes.offset as usize == header_bytes(l) + 2 * (l.actions as usize))
+        & (l.specifications.offset as usize == end_of(l.nodes, 4))
+        & (l.selections.offset as usize == end_of(l.specifications, specification_bytes(l)))
+        & (l.revisions.offset as usize == end_of(l.selections, 8))
+        & (l.pool.offset as usize == end_of(l.revisions, 12))
+        & (n == end_of(l.pool, 1))
 }

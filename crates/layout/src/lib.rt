@@ -3,6 +3,7 @@
 #![tactic(auto)]
 
 pub mod bytes;
+pub mod card;
 pub mod entries;
 pub mod header;
 pub mod limits;

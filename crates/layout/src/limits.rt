@@ -1,4 +1,5 @@
-// The limits, each by a name of its own: three are 1,024.
+// The limits, each by a name of its own: three are 1,024. They are functions and no constants, as the proofs of their callers in
+// card, verdict, place and moves cite their clauses.
 ghost use Rattle.std.specs.Prelude.{◌≡◌};
 ghost use Rattle.runs.specs.Limits.{longest_plan, heaviest_action, heaviest_plan, most_finished};
 

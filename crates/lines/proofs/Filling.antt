@@ -2,18 +2,14 @@
 use mathlib.Core.Path.{◌≡◌, refl, ap, ap₂, sym, ◌∙◌, subst}
 use mathlib.Core.Bool.{Bool, true, false, ◌&&◌, ◌||◌, and_assoc, and-true, and-eq-true_iff, or_assoc, or-false}
 use mathlib.Core.List.{List, [], ◌∷◌, ◌++◌}
-use mathlib.Core.Option.{Option, none, some}
 use Prim.Native.Nat.{ℕ, zero, suc, ◌+◌, ◌-◌, ◌/◌, ◌%◌, ◌^◌, ◌≤◌, ◌<◌}
 use native.Mathlib.Nat.{mod-lt, zero-div}
-use native.Mathlib.Decide.{dec_le}
 use native.Mathlib.Omega.{arith}
-use borrow.Author.Tests.{leb-true, le-leb, lt-leb}
+use borrow.Author.Tests.{leb-true}
 use lib.Bits.{bit_or, or_zero_r, or_lt}
 use lib.Pow.{pow-lt}
 use lib.Dec.{leb}
-use lib.ListN.{length, take, drop, get_or, set, replicate, length-append, length-replicate, length-set}
-use lib.Seq.{take-suc-set, length-take-le}
-use Rattle.paper.specs.Next.{if}
+use lib.ListN.{length, drop, get_or, set, replicate, length-append, length-replicate}
 use Rattle.paper.specs.Atoms.{Atoms, bit, ◌∈◌, ◌∪◌}
 use Rattle.paper.specs.Theorems.{AreBytes}
 use Rattle.paper.proofs.Sets.{at-∪, length-∪, ∈-∪, by_members}
@@ -23,11 +19,11 @@ use Rattle.sets.specs.Sets.{with_member}
 use Rattle.notation.specs.Built.{single, set_of}
 use Rattle.notation.specs.Values.{number_value, digits_rest, list_goes_on, list_of, behind_list}
 use Rattle.notation.specs.Making.{when, added_to, set_fits, with_plan}
-use Rattle.conditions.specs.Reads.{ReadsNumber}
+use Rattle.std.specs.Prelude.{IfSome}
+use Rattle.conditions.specs.Reads.{Count, ReadsNumber}
 use Rattle.conditions.specs.declared.number.Numeral.{Numeral}
 use Rattle.lines.specs.Lines.{WithAtom, ReadsSet, pool_of, WithAction, ReadsPlan}
 use Rattle.lines.proofs.Numbered.{turn_list, turn_behind, list_over, behind_over, capped_when, capped_leb}
-use Rattle.lines.proofs.Sections.{added_none, added_some}
 
 -- ---- the set of one atom
 
@@ -158,51 +154,17 @@ module _ (t : Bytes) (at : ℕ) (s : Bytes) (fits : Bool) (n : ℕ) (p : SetTo t
 
 -- ---- the pool
 
-module _ (d : Bytes) (k v : ℕ) (l : length d ≡ 8192) where
-  pub action_large : 255 < v → WithAction d k v 8193 d
-  action_large h = (omega arith, l, sym (ap (λ b. when b (added_to 8192 (v ∷ []) (pool_of k d))) (lt-leb v 255 h)))
-
-  none_when : (b : Bool) (o : Option Bytes) → o ≡ none → none ≡ when b o
-  none_when true o e = sym e
-  none_when false o e = refl
-
-  pub action_full : 8191 < k → k ≤ 8193 → WithAction d k v 8193 d
-  action_full h g = (
-    omega arith,
-    l,
-    none_when (leb v 255) (added_to 8192 (v ∷ []) (pool_of k d)) (elim (dec_le k 8192) [
-      | yes p ↦
-          (let z : length (take k d) ≡ k = length-take-le k d (omega arith) in
-          ap (λ b. added_to 8192 (v ∷ []) (if b (some (take k d)) none)) (le-leb k 8192 p) ∙ added_none 8192 (v ∷ []) (take k d) (omega arith))
-      | no p ↦ ap (λ b. added_to 8192 (v ∷ []) (if b (some (take k d)) none)) (lt-leb k 8192 (omega arith))
-    ]),
-  )
-
-  pub action_added : v ≤ 255 → k ≤ 8191 → WithAction d k v (k + 1) (set d k v)
-  action_added h g =
-      let s : k + 1 ≡ suc k = omega arith in
-      let z : length (take k d) ≡ k = length-take-le k d (omega arith) in (
-        omega arith,
-        length-set d k v ∙ l,
-        ap (λ b. if b (some (take (k + 1) (set d k v))) none) (le-leb (k + 1) 8192 (omega arith))
-            ∙ ap (λ j. some (take j (set d k v))) s
-            ∙ ap some (take-suc-set d k v (omega arith))
-            ∙ sym (added_some 8192 (v ∷ []) (take k d) (omega arith))
-            ∙ sym (ap (λ b. added_to 8192 (v ∷ []) (if b (some (take k d)) none)) (le-leb k 8192 (omega arith)))
-            ∙ sym (ap (λ b. when b (added_to 8192 (v ∷ []) (pool_of k d))) (le-leb v 255 h)),
-      )
-
-abbrev pub PlanTo : Bytes → ℕ → Bytes → ℕ → Bytes → ℕ → ℕ → Type 0
+abbrev pub PlanTo : Bytes → ℕ → Bytes → Count → Bytes → Count → ℕ → Type 0
 PlanTo t at d₀ k₀ d k next =
     (at ≤ next)
     × (next ≤ length t)
     × (behind_list (drop next t) ≡ behind_list (drop at t))
-    × (k ≤ 8193)
+    × IfSome k (λ n. n ≤ 8192)
     × (length d ≡ 8192)
     × (with_plan (list_of (drop next t)) (pool_of k d) ≡ with_plan (list_of (drop at t)) (pool_of k₀ d₀))
 
-module _ (t : Bytes) (at : ℕ) (d₀ : Bytes) (k₀ : ℕ) (d : Bytes) (k n : ℕ) (p : PlanTo t at d₀ k₀ d k n) where
-  pub plan_turn : list_goes_on (drop n t) ≡ true → (r : Numeral) → ReadsNumber t (n + 1) r → (k' : ℕ) (d' : Bytes) → WithAction d k r.value k' d'
+module _ (t : Bytes) (at : ℕ) (d₀ : Bytes) (k₀ : Count) (d : Bytes) (k : Count) (n : ℕ) (p : PlanTo t at d₀ k₀ d k n) where
+  pub plan_turn : list_goes_on (drop n t) ≡ true → (r : Numeral) → ReadsNumber t (n + 1) r → (k' : Count) (d' : Bytes) → WithAction d k r.value k' d'
       → PlanTo t at d₀ k₀ d' k' r.next
   unfolding with_plan
   plan_turn e r q k' d' w =

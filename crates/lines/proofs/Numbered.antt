@@ -1,15 +1,15 @@
 -- Lists of numbers from a place of a text on, number by number, and what stands between them.
 use mathlib.Core.Path.{◌≡◌, refl, ap, sym, ◌∙◌}
-use mathlib.Core.Bool.{Bool, true, false, ◌&&◌}
+use mathlib.Core.Bool.{Bool, true, false}
 use mathlib.Core.List.{List, [], ◌∷◌}
 use mathlib.Core.Option.{Option}
 use Prim.Native.Nat.{ℕ, zero, suc, ◌+◌, ◌-◌, ◌≤◌, ◌<◌}
 use native.Mathlib.Omega.{arith}
 use borrow.Author.Tests.{eq-eqb, ne_eqb, le-leb, lt-leb}
-use lib.Dec.{eqb, leb}
-use lib.ListN.{length, drop, get_or, length-drop, drop_of_length-le}
+use lib.Dec.{leb}
+use lib.ListN.{length, drop, get_or, length-drop}
 use native.Mathlib.Decide.{dec_le}
-use lib.Seq.{drop-drop, drop-length}
+use lib.Seq.{drop-drop}
 use Rattle.paper.specs.Next.{if}
 use Rattle.meaning.specs.Card.{Bytes}
 use Rattle.notation.specs.Scanning.{digit}
@@ -17,21 +17,6 @@ use Rattle.notation.specs.Values.{number_value, digits_rest, list_goes_on, list_
 use Rattle.notation.specs.Making.{when}
 use Rattle.conditions.specs.Reads.{capped}
 use Rattle.conditions.proofs.Numbers.{drop-cons, drop_none}
-use Rattle.lines.specs.Lines.{Skips}
-
--- ---- places
-
--- some bytes on
-pub skips_on : (t : Bytes) (at n : ℕ) → at ≤ length t → n ≤ length t - at → Skips t at n (at + n)
-skips_on t at n h l = (omega arith, (λ p q. omega arith), (omega arith, sym (drop-drop n at t)))
-
--- at the end
-pub skips_end : (t : Bytes) (at n : ℕ) → at ≤ length t → length t - at < n → Skips t at n (length t)
-skips_end t at n h l =
-    (h, (λ p q. p), (omega arith, drop-length t ∙ sym (drop-drop n at t ∙ over (at + n) (omega arith))))
-  where
-    over : (k : ℕ) → length t ≤ k → drop k t ≡ []
-    over k g = drop_of_length-le t g
 
 -- ---- the end of a line
 
@@ -120,20 +105,8 @@ behind_over (x ∷ t) e = ap (λ b. if b (list_rest (length t) (digits_rest t)) 
 -- ---- from a place on
 
 module _ (t : Bytes) (n : ℕ) where
-  pub goes_short : n ≤ length t → length t - n < 2 → false ≡ list_goes_on (drop n t)
-  goes_short h l = go (list_goes_on (drop n t)) refl
-    where
-      go : (b : Bool) → list_goes_on (drop n t) ≡ b → false ≡ b
-      go true e = absurd (omega (arith, two_bytes_on (drop n t) e, length-drop n t))
-      go false e = refl
-
   pub goes_inside : list_goes_on (drop n t) ≡ true → n + 1 < length t
   goes_inside e = omega (arith, two_bytes_on (drop n t) e, length-drop n t)
-
-  pub goes_by : n ≤ length t → 2 ≤ length t - n → (d : Bool) → d ≡ digit (get_or t (n + 1) 0) → (eqb (get_or t n 0) 32 && d) ≡ list_goes_on (drop n t)
-  goes_by h l d e =
-      ap (λ b. eqb (get_or t n 0) 32 && b) e
-      ∙ sym (ap list_goes_on (drop-cons t n (omega arith) ∙ ap (λ (x : Bytes). get_or t n 0 ∷ x) (drop-cons t (n + 1) (omega arith))))
 
   module _ (e : list_goes_on (drop n t) ≡ true) (next : ℕ) (p : drop next t ≡ digits_rest (drop (n + 1) t)) where
     pub turn_list : list_of (drop n t) ≡ number_value (drop (n + 1) t) ∷ list_of (drop next t)

@@ -1,12 +1,10 @@
 -- Nodes and actions that are added to a section of the card in the making, which is lent by itself.
-use mathlib.Core.Path.{◌≡◌, refl, ap, sym, ◌∙◌, subst}
+use mathlib.Core.Path.{◌≡◌, refl, ap, sym, ◌∙◌}
 use mathlib.Core.Bool.{Bool}
 use mathlib.Core.List.{List, [], ◌∷◌, ◌++◌, append_assoc}
 use mathlib.Core.Option.{none, some}
 use Prim.Native.Nat.{ℕ, ◌+◌, ◌*◌, ◌≤◌}
-use native.Mathlib.Decide.{dec_le}
 use native.Mathlib.Omega.{arith}
-use borrow.Author.Tests.{le-leb, lt-leb}
 use lib.Dec.{leb}
 use lib.ListN.{length, take, drop}
 use lib.Seq.{paste, length-paste, take_all, take-take, drop-drop}
@@ -16,10 +14,12 @@ use Rattle.meaning.specs.Trees as Trees
 use Rattle.meaning.specs.Card.{Bytes, part}
 use Rattle.notation.specs.Built.{node}
 use Rattle.notation.specs.Making.{bind, when, added_to, last_node, with_tree, with_plan, tree_in, plan_in, put_nodes, put_pool}
-use Rattle.conditions.specs.Reads.{nodes_of}
+use Rattle.std.proofs.Common.{Some, None}
+use Rattle.std.specs.Prelude.{IfSome}
+use Rattle.conditions.specs.Reads.{Count, nodes_of}
 use Rattle.lines.specs.declared.made.Made.{Made}
 use Rattle.lines.specs.InPlace.{sections_in, made_in}
-use Rattle.lines.specs.Lines.{Held, Puts, too_large, pool_of, nodes_before, nodes_are, with_nodes, pool_before, pool_is, with_pool}
+use Rattle.lines.specs.Lines.{Held, Puts, pool_of, nodes_before, nodes_are, with_nodes, pool_before, pool_is, with_pool}
 use Rattle.lines.proofs.Pasting.{part_before, part_behind, part_inside}
 use Rattle.lines.proofs.Sections.{made_large, made_some}
 
@@ -70,7 +70,7 @@ lent_part d a n k h = take-take k n (drop a d) h
 
 -- ---- the pool
 
-module _ (m : Made) (d : Bytes) (h : Held m d) (ns : List ℕ) (k : ℕ) (y d' : Bytes) (long : length y ≡ 8192)
+module _ (m : Made) (d : Bytes) (h : Held m d) (ns : List ℕ) (k : Count) (y d' : Bytes) (long : length y ≡ 8192)
     (w : pool_of k y ≡ with_plan ns (pool_of (pool_before m) (take 8192 (drop 15936 d)))) (e : d' ≡ take 15936 d ++ (y ++ drop 8192 (drop 15936 d))) where
   pool_back : d' ≡ paste d 15936 y 8192
   pool_back = e ∙ back d y 15936 8192 long
@@ -79,31 +79,30 @@ module _ (m : Made) (d : Bytes) (h : Held m d) (ns : List ℕ) (k : ℕ) (y d' :
   pool_room = let r = h.room in ap length pool_back ∙ length-paste d 15936 y 8192 (omega arith) (omega arith) ∙ r
 
   pool_large : m.large ≡ Bool.true → pool_of k y ≡ none
-  pool_large q = w ∙ ap (λ b. with_plan ns (pool_of (if b 8193 m.pool) (take 8192 (drop 15936 d)))) q ∙ plan_none ns
+  pool_large q = w ∙ ap (λ b. with_plan ns (pool_of (if b None (Some m.pool)) (take 8192 (drop 15936 d)))) q ∙ plan_none ns
 
   pool_some : m.large ≡ Bool.false → pool_of k y ≡ with_plan ns (some (part d 15936 m.pool))
   pool_some q =
       let few = h.bounded.pool in
       w
-      ∙ ap (λ b. with_plan ns (pool_of (if b 8193 m.pool) (take 8192 (drop 15936 d)))) q
-      ∙ ap (with_plan ns) (if_yes (leb m.pool 8192) (some (take m.pool (take 8192 (drop 15936 d)))) none (le-leb m.pool 8192 few))
+      ∙ ap (λ b. with_plan ns (pool_of (if b None (Some m.pool)) (take 8192 (drop 15936 d)))) q
       ∙ ap (λ (x : Bytes). with_plan ns (some x)) (lent_part d 15936 8192 m.pool (omega arith))
 
-  pool_spilt : leb k 8192 ≡ Bool.false → (b : Bool) → m.large ≡ b → none ≡ plan_in ns (made_in m d)
+  pool_spilt : k ≡ None → (b : Bool) → m.large ≡ b → none ≡ plan_in ns (made_in m d)
   unfolding plan_in
   pool_spilt many Bool.true q = sym (ap (plan_in ns) (made_large m d q))
   pool_spilt many Bool.false q =
       sym (
       ap (plan_in ns) (made_some m d q)
-      ∙ ap (λ o. bind o (λ s. some (put_pool (sections_in m d) s))) (sym (pool_some q) ∙ if_no (leb k 8192) (some (take k y)) none many))
+      ∙ ap (λ o. bind o (λ s. some (put_pool (sections_in m d) s))) (sym (pool_some q) ∙ ap (λ j. pool_of j y) many))
 
-  pool_fits : k ≤ 8192 → (b : Bool) → m.large ≡ b → Puts (plan_in ns) m d (pool_is m k) d'
+  pool_fits : (n : ℕ) → k ≡ Some n → n ≤ 8192 → (b : Bool) → m.large ≡ b → Puts (plan_in ns) m d (pool_is m n) d'
   unfolding plan_in
-  pool_fits l Bool.true q =
-      let one = if_yes (leb k 8192) (some (take k y)) none (le-leb k 8192 l) in
+  pool_fits n f l Bool.true q =
+      let one : pool_of k y ≡ some (take n y) = ap (λ j. pool_of j y) f in
       let two = pool_large q in
       absurd (let z : ◌≡◌ {A = ℕ} 0 1 = cc in omega arith)
-  pool_fits l Bool.false q =
+  pool_fits n f l Bool.false q =
       let b = h.bounded in
       let r = h.room in
       let inside : 15936 + 8192 ≤ length d = omega arith in
@@ -116,28 +115,27 @@ module _ (m : Made) (d : Bytes) (h : Held m d) (ns : List ℕ) (k : ℕ) (y d' :
       record {
         held = record { bounded = record { atoms = b.atoms; weights = b.weights; nodes = b.nodes; specifications = b.specifications; selections = b.selections; revisions = b.revisions; pool = l; start = b.start }; room = pool_room };
         made =
-            made_some (pool_is m k) d' q
-            ∙ ap (λ x. some (sections_in (pool_is m k) x)) pool_back
-            ∙ (λ i. some (record { atoms = m.atoms; weights = part_before d y 15936 8192 inside enough 64 (2 * m.weights) (omega arith) i; nodes = part_before d y 15936 8192 inside enough 576 (4 * m.nodes) (omega arith) i; specifications = part_before d y 15936 8192 inside enough 1600 (36 * m.specifications) (omega arith) i; selections = part_before d y 15936 8192 inside enough 10816 (8 * m.selections) (omega arith) i; revisions = part_before d y 15936 8192 inside enough 12864 (12 * m.revisions) (omega arith) i; pool = part_inside d y 15936 8192 inside enough k (omega arith) i; sets = part_before d y 15936 8192 inside enough 32 32 (omega arith) i; start = m.start; len = m.len }))
+            made_some (pool_is m n) d' q
+            ∙ ap (λ x. some (sections_in (pool_is m n) x)) pool_back
+            ∙ (λ i. some (record { atoms = m.atoms; weights = part_before d y 15936 8192 inside enough 64 (2 * m.weights) (omega arith) i; nodes = part_before d y 15936 8192 inside enough 576 (4 * m.nodes) (omega arith) i; specifications = part_before d y 15936 8192 inside enough 1600 (36 * m.specifications) (omega arith) i; selections = part_before d y 15936 8192 inside enough 10816 (8 * m.selections) (omega arith) i; revisions = part_before d y 15936 8192 inside enough 12864 (12 * m.revisions) (omega arith) i; pool = part_inside d y 15936 8192 inside enough n (omega arith) i; sets = part_before d y 15936 8192 inside enough 32 32 (omega arith) i; start = m.start; len = m.len }))
             ∙ sym (
             ap (plan_in ns) (made_some m d q)
             ∙ ap (λ o. bind o (λ s. some (put_pool (sections_in m d) s))) (
-            sym (pool_some q) ∙ if_yes (leb k 8192) (some (take k y)) none (le-leb k 8192 l)));
+            sym (pool_some q) ∙ ap (λ j. pool_of j y) f));
       }
 
-  pub plan_put : Puts (plan_in ns) m d (with_pool m k) d'
-  plan_put = elim (dec_le k 8192) [
-    | yes l ↦ subst (λ x. Puts (plan_in ns) m d x d') (sym (if_yes (leb k 8192) (pool_is m k) (too_large m) (le-leb k 8192 l))) (pool_fits l m.large refl)
-    | no l ↦
-        (let many : leb k 8192 ≡ Bool.false = lt-leb k 8192 (omega arith) in
-        let b = h.bounded in
-        subst (λ x. Puts (plan_in ns) m d x d') (sym (if_no (leb k 8192) (pool_is m k) (too_large m) many))
-        (record { held = record { bounded = record { atoms = b.atoms; weights = b.weights; nodes = b.nodes; specifications = b.specifications; selections = b.selections; revisions = b.revisions; pool = b.pool; start = b.start }; room = pool_room }; made = pool_spilt many m.large refl }))
-  ]
+  pub plan_put : IfSome k (λ n. n ≤ 8192) → Puts (plan_in ns) m d (with_pool m k) d'
+  plan_put = go k refl
+    where
+      go : (j : Count) → k ≡ j → IfSome j (λ n. n ≤ 8192) → Puts (plan_in ns) m d (with_pool m j) d'
+      go None f l =
+          let b = h.bounded in
+          record { held = record { bounded = record { atoms = b.atoms; weights = b.weights; nodes = b.nodes; specifications = b.specifications; selections = b.selections; revisions = b.revisions; pool = b.pool; start = b.start }; room = pool_room }; made = pool_spilt f m.large refl }
+      go (Some n) f l = pool_fits n f l m.large refl
 
 -- ---- nodes
 
-module _ (m : Made) (d : Bytes) (h : Held m d) (t : Tree) (k : ℕ) (y d' : Bytes) (long : length y ≡ 1024)
+module _ (m : Made) (d : Bytes) (h : Held m d) (t : Tree) (k : Count) (y d' : Bytes) (long : length y ≡ 1024)
     (w : nodes_of k y ≡ with_tree t (nodes_of (nodes_before m) (take 1024 (drop 576 d)))) (e : d' ≡ take 576 d ++ (y ++ drop 1024 (drop 576 d))) where
   nodes_back : d' ≡ paste d 576 y 1024
   nodes_back = e ∙ back d y 576 1024 long
@@ -146,31 +144,30 @@ module _ (m : Made) (d : Bytes) (h : Held m d) (t : Tree) (k : ℕ) (y d' : Byte
   nodes_room = let r = h.room in ap length nodes_back ∙ length-paste d 576 y 1024 (omega arith) (omega arith) ∙ r
 
   nodes_large : m.large ≡ Bool.true → nodes_of k y ≡ none
-  nodes_large q = w ∙ ap (λ b. with_tree t (nodes_of (if b 257 m.nodes) (take 1024 (drop 576 d)))) q ∙ tree_none t
+  nodes_large q = w ∙ ap (λ b. with_tree t (nodes_of (if b None (Some m.nodes)) (take 1024 (drop 576 d)))) q ∙ tree_none t
 
   nodes_some : m.large ≡ Bool.false → nodes_of k y ≡ with_tree t (some (part d 576 (4 * m.nodes)))
   nodes_some q =
       let few = h.bounded.nodes in
       w
-      ∙ ap (λ b. with_tree t (nodes_of (if b 257 m.nodes) (take 1024 (drop 576 d)))) q
-      ∙ ap (with_tree t) (if_yes (leb m.nodes 256) (some (take (4 * m.nodes) (take 1024 (drop 576 d)))) none (le-leb m.nodes 256 few))
+      ∙ ap (λ b. with_tree t (nodes_of (if b None (Some m.nodes)) (take 1024 (drop 576 d)))) q
       ∙ ap (λ (x : Bytes). with_tree t (some x)) (lent_part d 576 1024 (4 * m.nodes) (omega arith))
 
-  nodes_spilt : leb k 256 ≡ Bool.false → (b : Bool) → m.large ≡ b → none ≡ tree_in t (made_in m d)
+  nodes_spilt : k ≡ None → (b : Bool) → m.large ≡ b → none ≡ tree_in t (made_in m d)
   unfolding tree_in
   nodes_spilt many Bool.true q = sym (ap (tree_in t) (made_large m d q))
   nodes_spilt many Bool.false q =
       sym (
       ap (tree_in t) (made_some m d q)
-      ∙ ap (λ o. bind o (λ s. some (put_nodes (sections_in m d) s))) (sym (nodes_some q) ∙ if_no (leb k 256) (some (take (4 * k) y)) none many))
+      ∙ ap (λ o. bind o (λ s. some (put_nodes (sections_in m d) s))) (sym (nodes_some q) ∙ ap (λ j. nodes_of j y) many))
 
-  nodes_fits : k ≤ 256 → (b : Bool) → m.large ≡ b → Puts (tree_in t) m d (nodes_are m k) d'
+  nodes_fits : (n : ℕ) → k ≡ Some n → n ≤ 256 → (b : Bool) → m.large ≡ b → Puts (tree_in t) m d (nodes_are m n) d'
   unfolding tree_in
-  nodes_fits l Bool.true q =
-      let one = if_yes (leb k 256) (some (take (4 * k) y)) none (le-leb k 256 l) in
+  nodes_fits n f l Bool.true q =
+      let one : nodes_of k y ≡ some (take (4 * n) y) = ap (λ j. nodes_of j y) f in
       let two = nodes_large q in
       absurd (let z : ◌≡◌ {A = ℕ} 0 1 = cc in omega arith)
-  nodes_fits l Bool.false q =
+  nodes_fits n f l Bool.false q =
       let b = h.bounded in
       let r = h.room in
       let inside : 576 + 1024 ≤ length d = omega arith in
@@ -183,21 +180,20 @@ module _ (m : Made) (d : Bytes) (h : Held m d) (t : Tree) (k : ℕ) (y d' : Byte
       record {
         held = record { bounded = record { atoms = b.atoms; weights = b.weights; nodes = l; specifications = b.specifications; selections = b.selections; revisions = b.revisions; pool = b.pool; start = b.start }; room = nodes_room };
         made =
-            made_some (nodes_are m k) d' q
-            ∙ ap (λ x. some (sections_in (nodes_are m k) x)) nodes_back
-            ∙ (λ i. some (record { atoms = m.atoms; weights = part_before d y 576 1024 inside enough 64 (2 * m.weights) (omega arith) i; nodes = part_inside d y 576 1024 inside enough (4 * k) (omega arith) i; specifications = part_behind d y 576 1024 inside enough 1600 (36 * m.specifications) (omega arith) i; selections = part_behind d y 576 1024 inside enough 10816 (8 * m.selections) (omega arith) i; revisions = part_behind d y 576 1024 inside enough 12864 (12 * m.revisions) (omega arith) i; pool = part_behind d y 576 1024 inside enough 15936 m.pool (omega arith) i; sets = part_before d y 576 1024 inside enough 32 32 (omega arith) i; start = m.start; len = m.len }))
+            made_some (nodes_are m n) d' q
+            ∙ ap (λ x. some (sections_in (nodes_are m n) x)) nodes_back
+            ∙ (λ i. some (record { atoms = m.atoms; weights = part_before d y 576 1024 inside enough 64 (2 * m.weights) (omega arith) i; nodes = part_inside d y 576 1024 inside enough (4 * n) (omega arith) i; specifications = part_behind d y 576 1024 inside enough 1600 (36 * m.specifications) (omega arith) i; selections = part_behind d y 576 1024 inside enough 10816 (8 * m.selections) (omega arith) i; revisions = part_behind d y 576 1024 inside enough 12864 (12 * m.revisions) (omega arith) i; pool = part_behind d y 576 1024 inside enough 15936 m.pool (omega arith) i; sets = part_before d y 576 1024 inside enough 32 32 (omega arith) i; start = m.start; len = m.len }))
             ∙ sym (
             ap (tree_in t) (made_some m d q)
             ∙ ap (λ o. bind o (λ s. some (put_nodes (sections_in m d) s))) (
-            sym (nodes_some q) ∙ if_yes (leb k 256) (some (take (4 * k) y)) none (le-leb k 256 l)));
+            sym (nodes_some q) ∙ ap (λ j. nodes_of j y) f));
       }
 
-  pub tree_put : Puts (tree_in t) m d (with_nodes m k) d'
-  tree_put = elim (dec_le k 256) [
-    | yes l ↦ subst (λ x. Puts (tree_in t) m d x d') (sym (if_yes (leb k 256) (nodes_are m k) (too_large m) (le-leb k 256 l))) (nodes_fits l m.large refl)
-    | no l ↦
-        (let many : leb k 256 ≡ Bool.false = lt-leb k 256 (omega arith) in
-        let b = h.bounded in
-        subst (λ x. Puts (tree_in t) m d x d') (sym (if_no (leb k 256) (nodes_are m k) (too_large m) many))
-        (record { held = record { bounded = record { atoms = b.atoms; weights = b.weights; nodes = b.nodes; specifications = b.specifications; selections = b.selections; revisions = b.revisions; pool = b.pool; start = b.start }; room = nodes_room }; made = nodes_spilt many m.large refl }))
-  ]
+  pub tree_put : IfSome k (λ n. n ≤ 256) → Puts (tree_in t) m d (with_nodes m k) d'
+  tree_put = go k refl
+    where
+      go : (j : Count) → k ≡ j → IfSome j (λ n. n ≤ 256) → Puts (tree_in t) m d (with_nodes m j) d'
+      go None f l =
+          let b = h.bounded in
+          record { held = record { bounded = record { atoms = b.atoms; weights = b.weights; nodes = b.nodes; specifications = b.specifications; selections = b.selections; revisions = b.revisions; pool = b.pool; start = b.start }; room = nodes_room }; made = nodes_spilt f m.large refl }
+      go (Some n) f l = nodes_fits n f l m.large refl

@@ -22,7 +22,10 @@ use Rattle.conditions.specs.Reads.{TextAt, capped, ReadsNumber}
 use Rattle.conditions.specs.declared.number.Numeral.{Numeral}
 use Rattle.lines.specs.declared.made.Made.{Made}
 use Rattle.lines.specs.declared.lists.SetRead.{SetRead}
-use Rattle.lines.specs.declared.parts.PartRead.{PartRead}
+use Rattle.conditions.specs.declared.read.Nested.{Nested}
+use Rattle.std.proofs.Common.{Result, Ok, Err}
+use Rattle.std.specs.Prelude.{IsErr}
+use Rattle.paper.proofs.Relation.{false≢true}
 use Rattle.lines.specs.declared.parts.Placed.{Placed}
 use Rattle.lines.specs.InPlace.{made_in}
 use Rattle.lines.specs.Lines.{Change, Held, Puts, StepsOver, ReadsPart, Skips, BehindLine, ReadsSet, condition_in, last_in, pool_in, specification, specified}
@@ -35,21 +38,22 @@ use Rattle.lines.proofs.Telling.{made_last, made_pool, atoms_capped, atoms_in, a
 -- ---- one part behind another
 
 module _ {X Y : Type 0} (add : X → Change) (add' : Y → Change) (t : Bytes) (low low' : ℕ) (m m₀ : Made) (d d₀ : Bytes) where
-  pub then_nested : (read : Read X) (k : X → Bytes → Read Y) (d' : Bytes) → ReadsPart add t low read m d PartRead.Nested d'
-      → ReadsPart add' t low' (then read k) m₀ d₀ PartRead.Nested d'
-  then_nested nested k d' q = (refl, q.1)
-  then_nested (got x rest) k d' q = absurd q
+  pub then_nested : (read : Read X) (k : X → Bytes → Read Y) (d' : Bytes) → ReadsPart add t low read m d (Err (record {})) d'
+      → (r : Result Placed Nested) → IsErr r → ReadsPart add' t low' (then read k) m₀ d₀ r d'
+  then_nested nested k d' q (Ok p) f = absurd (false≢true f)
+  then_nested nested k d' q (Err x) f = q
+  then_nested (got x rest) k d' q r f = absurd q
 
-  pub then_at : (read : Read X) (k : X → Bytes → Read Y) (n : ℕ) (m₁ : Made) (d₁ : Bytes) (r : PartRead) (d' : Bytes) → ReadsPart add t low read m d (PartRead.At n m₁) d₁
+  pub then_at : (read : Read X) (k : X → Bytes → Read Y) (n : ℕ) (m₁ : Made) (d₁ : Bytes) (r : Result Placed Nested) (d' : Bytes) → ReadsPart add t low read m d (Ok (record { next = n; made = m₁ })) d₁
       → ((x : X) (rest : Bytes) → StepsOver t low rest (add x) m d n m₁ d₁ → ReadsPart add' t low' (k x rest) m₀ d₀ r d')
       → ReadsPart add' t low' (then read k) m₀ d₀ r d'
-  then_at nested k n m₁ d₁ r d' q f = let w = q.0 in absurd (let z : ◌≡◌ {A = ℕ} 0 1 = cc in omega arith)
+  then_at nested k n m₁ d₁ r d' q f = absurd q
   then_at (got x rest) k n m₁ d₁ r d' q f = f x rest q
 
 -- where a part that was read ends, and what is held there
 pub line_at : {X : Type 0} (add : X → Change) (t : Bytes) (low : ℕ) (read : Read X) (m : Made) (d : Bytes) (n : ℕ) (m₁ : Made) (d₁ : Bytes)
-    → ReadsPart add t low read m d (PartRead.At n m₁) d₁ → (n ≤ length t) × (low ≤ n) × Held m₁ d₁
-line_at add t low nested m d n m₁ d₁ q = let w = q.0 in absurd (let z : ◌≡◌ {A = ℕ} 0 1 = cc in omega arith)
+    → ReadsPart add t low read m d (Ok (record { next = n; made = m₁ })) d₁ → (n ≤ length t) × (low ≤ n) × Held m₁ d₁
+line_at add t low nested m d n m₁ d₁ q = absurd q
 line_at add t low (got x rest) m d n m₁ d₁ q = (q.place.0, q.on, q.puts.held)
 
 when_same : {X : Type 0} (b : Bool) (x y : Option X) → (b ≡ true → x ≡ y) → when b x ≡ when b y
@@ -126,18 +130,18 @@ module _ (t : Bytes) (at s₁ : ℕ) (num : Numeral) (s₂ : ℕ) (m : Made) (d 
   do_there : drop s₂ t ≡ drop 4 (digits_rest (drop 3 (drop at t)))
   do_there = k₂.2.1 ∙ ap (drop 4) (r.2.1 ∙ ap digits_rest k₁.2.1)
 
-  pub do_nested : (d₁ : Bytes) → ReadsPart condition_in t s₂ (condition_of (drop s₂ t)) m d PartRead.Nested d₁
-      → ReadsPart items_in t (at + 1) (do_item (drop at t)) m d PartRead.Nested d₁
+  pub do_nested : (res : Result Placed Nested) → IsErr res → (d₁ : Bytes) → ReadsPart condition_in t s₂ (condition_of (drop s₂ t)) m d (Err (record {})) d₁
+      → ReadsPart items_in t (at + 1) (do_item (drop at t)) m d res d₁
   unfolding do_item_at
-  do_nested d₁ l = then_nested condition_in items_in t s₂ (at + 1) m m d d (condition_of (drop 4 (digits_rest (drop 3 (drop at t))))) (do_then (drop at t)) d₁ (subst (λ (x : Bytes). ReadsPart condition_in t s₂ (condition_of x) m d PartRead.Nested d₁) do_there l)
+  do_nested res bad d₁ l = then_nested condition_in items_in t s₂ (at + 1) m m d d (condition_of (drop 4 (digits_rest (drop 3 (drop at t))))) (do_then (drop at t)) d₁ (subst (λ (x : Bytes). ReadsPart condition_in t s₂ (condition_of x) m d (Err (record {})) d₁) do_there l) res bad
 
-  pub do_over : (n : ℕ) (m₁ : Made) (d₁ : Bytes) → ReadsPart condition_in t s₂ (condition_of (drop s₂ t)) m d (PartRead.At n m₁) d₁
+  pub do_over : (n : ℕ) (m₁ : Made) (d₁ : Bytes) → ReadsPart condition_in t s₂ (condition_of (drop s₂ t)) m d (Ok (record { next = n; made = m₁ })) d₁
       → (next : ℕ) (m₂ : Made) (d₂ : Bytes) → StepsOver t n (behind_effects (drop n t)) (effects num.value (drop n t)) m₁ d₁ next m₂ d₂
-      → ReadsPart items_in t (at + 1) (do_item (drop at t)) m d (PartRead.At next m₂) d₂
+      → ReadsPart items_in t (at + 1) (do_item (drop at t)) m d (Ok (record { next = next; made = m₂ })) d₂
   unfolding do_item_at items_in item_in do_in effects
   do_over n m₁ d₁ l next m₂ d₂ st =
-      then_at condition_in items_in t s₂ (at + 1) m m d d (condition_of (drop 4 (digits_rest (drop 3 (drop at t))))) (do_then (drop at t)) n m₁ d₁ (PartRead.At next m₂) d₂
-      (subst (λ (x : Bytes). ReadsPart condition_in t s₂ (condition_of x) m d (PartRead.At n m₁) d₁) do_there l)
+      then_at condition_in items_in t s₂ (at + 1) m m d d (condition_of (drop 4 (digits_rest (drop 3 (drop at t))))) (do_then (drop at t)) n m₁ d₁ (Ok (record { next = next; made = m₂ })) d₂
+      (subst (λ (x : Bytes). ReadsPart condition_in t s₂ (condition_of x) m d (Ok (record { next = n; made = m₁ })) d₁) do_there l)
       (λ c rest tr.
       let e : drop n t ≡ rest = tr.place.1 in
       let v : ℕ = number_value (drop 3 (drop at t)) in
@@ -178,32 +182,32 @@ module _ (t : Bytes) (at s : ℕ) (n : ℕ) (m : Made) (d : Bytes) (h : Held m d
       }
 
 module _ (t : Bytes) (at s₁ : ℕ) (m : Made) (d : Bytes) (inside : at < length t) (k₁ : Skips t at 10 s₁) where
-  pub select_nested : (d₁ : Bytes) → ReadsPart condition_in t s₁ (condition_of (drop s₁ t)) m d PartRead.Nested d₁
-      → ReadsPart items_in t (at + 1) (select_item (drop at t)) m d PartRead.Nested d₁
+  pub select_nested : (res : Result Placed Nested) → IsErr res → (d₁ : Bytes) → ReadsPart condition_in t s₁ (condition_of (drop s₁ t)) m d (Err (record {})) d₁
+      → ReadsPart items_in t (at + 1) (select_item (drop at t)) m d res d₁
   unfolding select_item_at
-  select_nested d₁ l = then_nested condition_in items_in t s₁ (at + 1) m m d d (condition_of (drop 10 (drop at t))) belief_then d₁ (subst (λ (x : Bytes). ReadsPart condition_in t s₁ (condition_of x) m d PartRead.Nested d₁) k₁.2.1 l)
+  select_nested res bad d₁ l = then_nested condition_in items_in t s₁ (at + 1) m m d d (condition_of (drop 10 (drop at t))) belief_then d₁ (subst (λ (x : Bytes). ReadsPart condition_in t s₁ (condition_of x) m d (Err (record {})) d₁) k₁.2.1 l) res bad
 
-  module _ (n : ℕ) (m₁ : Made) (d₁ : Bytes) (l₁ : ReadsPart condition_in t s₁ (condition_of (drop s₁ t)) m d (PartRead.At n m₁) d₁) (s₂ : ℕ) (k₂ : Skips t n 6 s₂) where
-    pub select_nested_2 : (d₂ : Bytes) → ReadsPart condition_in t s₂ (condition_of (drop s₂ t)) m₁ d₁ PartRead.Nested d₂
-        → ReadsPart items_in t (at + 1) (select_item (drop at t)) m d PartRead.Nested d₂
+  module _ (n : ℕ) (m₁ : Made) (d₁ : Bytes) (l₁ : ReadsPart condition_in t s₁ (condition_of (drop s₁ t)) m d (Ok (record { next = n; made = m₁ })) d₁) (s₂ : ℕ) (k₂ : Skips t n 6 s₂) where
+    pub select_nested_2 : (res : Result Placed Nested) → IsErr res → (d₂ : Bytes) → ReadsPart condition_in t s₂ (condition_of (drop s₂ t)) m₁ d₁ (Err (record {})) d₂
+        → ReadsPart items_in t (at + 1) (select_item (drop at t)) m d res d₂
     unfolding select_item_at
-    select_nested_2 d₂ l₂ =
-        then_at condition_in items_in t s₁ (at + 1) m m d d (condition_of (drop 10 (drop at t))) belief_then n m₁ d₁ PartRead.Nested d₂
-        (subst (λ (x : Bytes). ReadsPart condition_in t s₁ (condition_of x) m d (PartRead.At n m₁) d₁) k₁.2.1 l₁)
+    select_nested_2 res bad d₂ l₂ =
+        then_at condition_in items_in t s₁ (at + 1) m m d d (condition_of (drop 10 (drop at t))) belief_then n m₁ d₁ res d₂
+        (subst (λ (x : Bytes). ReadsPart condition_in t s₁ (condition_of x) m d (Ok (record { next = n; made = m₁ })) d₁) k₁.2.1 l₁)
         (λ b rest tr.
         then_nested condition_in items_in t s₂ (at + 1) m₁ m d₁ d (condition_of (drop 6 rest)) (goal_then b) d₂
-        (subst (λ (x : Bytes). ReadsPart condition_in t s₂ (condition_of x) m₁ d₁ PartRead.Nested d₂) (k₂.2.1 ∙ ap (drop 6) tr.place.1) l₂))
+        (subst (λ (x : Bytes). ReadsPart condition_in t s₂ (condition_of x) m₁ d₁ (Err (record {})) d₂) (k₂.2.1 ∙ ap (drop 6) tr.place.1) l₂) res bad)
 
-    pub select_over : (i : ℕ) (m₂ : Made) (d₂ : Bytes) → ReadsPart condition_in t s₂ (condition_of (drop s₂ t)) m₁ d₁ (PartRead.At i m₂) d₂
+    pub select_over : (i : ℕ) (m₂ : Made) (d₂ : Bytes) → ReadsPart condition_in t s₂ (condition_of (drop s₂ t)) m₁ d₁ (Ok (record { next = i; made = m₂ })) d₂
         → (belief : ℕ) → belief ≡ last_in m₁ → (next : ℕ) (m₃ : Made) (d₃ : Bytes) → StepsOver t i (behind_plan (drop i t)) (plan_selected belief (drop i t)) m₂ d₂ next m₃ d₃
-        → ReadsPart items_in t (at + 1) (select_item (drop at t)) m d (PartRead.At next m₃) d₃
+        → ReadsPart items_in t (at + 1) (select_item (drop at t)) m d (Ok (record { next = next; made = m₃ })) d₃
     unfolding select_item_at items_in item_in select_in plan_selected
     select_over i m₂ d₂ l₂ belief eb next m₃ d₃ st =
-        then_at condition_in items_in t s₁ (at + 1) m m d d (condition_of (drop 10 (drop at t))) belief_then n m₁ d₁ (PartRead.At next m₃) d₃
-        (subst (λ (x : Bytes). ReadsPart condition_in t s₁ (condition_of x) m d (PartRead.At n m₁) d₁) k₁.2.1 l₁)
+        then_at condition_in items_in t s₁ (at + 1) m m d d (condition_of (drop 10 (drop at t))) belief_then n m₁ d₁ (Ok (record { next = next; made = m₃ })) d₃
+        (subst (λ (x : Bytes). ReadsPart condition_in t s₁ (condition_of x) m d (Ok (record { next = n; made = m₁ })) d₁) k₁.2.1 l₁)
         (λ b rest tr.
-        then_at condition_in items_in t s₂ (at + 1) m₁ m d₁ d (condition_of (drop 6 rest)) (goal_then b) i m₂ d₂ (PartRead.At next m₃) d₃
-        (subst (λ (x : Bytes). ReadsPart condition_in t s₂ (condition_of x) m₁ d₁ (PartRead.At i m₂) d₂) (k₂.2.1 ∙ ap (drop 6) tr.place.1) l₂)
+        then_at condition_in items_in t s₂ (at + 1) m₁ m d₁ d (condition_of (drop 6 rest)) (goal_then b) i m₂ d₂ (Ok (record { next = next; made = m₃ })) d₃
+        (subst (λ (x : Bytes). ReadsPart condition_in t s₂ (condition_of x) m₁ d₁ (Ok (record { next = i; made = m₂ })) d₂) (k₂.2.1 ∙ ap (drop 6) tr.place.1) l₂)
         (λ g rest₂ tg.
         let e : drop i t ≡ rest₂ = tg.place.1 in
         let lb : belief ≡ last_node (made_nodes (tree_in b.tree (made_in m d))) = eb ∙ sym (made_last m₁ d₁ tr.puts.held) ∙ ap (λ o. last_node (made_nodes o)) tr.puts.made in
@@ -244,19 +248,19 @@ module _ (t : Bytes) (at s₁ : ℕ) (m : Made) (d : Bytes) (h : Held m d) (insi
   revise_there : drop s₂ t ≡ drop 4 (behind_list (drop 6 (drop at t)))
   revise_there = k₂.2.1 ∙ ap (drop 4) (p.place.1 ∙ ap behind_list k₁.2.1)
 
-  pub revise_nested : (d₂ : Bytes) → ReadsPart condition_in t s₂ (condition_of (drop s₂ t)) m₁ d₁ PartRead.Nested d₂
-      → ReadsPart items_in t (at + 1) (revise_item (drop at t)) m d PartRead.Nested d₂
+  pub revise_nested : (res : Result Placed Nested) → IsErr res → (d₂ : Bytes) → ReadsPart condition_in t s₂ (condition_of (drop s₂ t)) m₁ d₁ (Err (record {})) d₂
+      → ReadsPart items_in t (at + 1) (revise_item (drop at t)) m d res d₂
   unfolding revise_item_at
-  revise_nested d₂ l = then_nested condition_in items_in t s₂ (at + 1) m₁ m d₁ d (condition_of (drop 4 (behind_list (drop 6 (drop at t))))) (revise_then (drop at t)) d₂ (subst (λ (x : Bytes). ReadsPart condition_in t s₂ (condition_of x) m₁ d₁ PartRead.Nested d₂) revise_there l)
+  revise_nested res bad d₂ l = then_nested condition_in items_in t s₂ (at + 1) m₁ m d₁ d (condition_of (drop 4 (behind_list (drop 6 (drop at t))))) (revise_then (drop at t)) d₂ (subst (λ (x : Bytes). ReadsPart condition_in t s₂ (condition_of x) m₁ d₁ (Err (record {})) d₂) revise_there l) res bad
 
-  pub revise_over : (i : ℕ) (m₂ : Made) (d₂ : Bytes) → ReadsPart condition_in t s₂ (condition_of (drop s₂ t)) m₁ d₁ (PartRead.At i m₂) d₂
+  pub revise_over : (i : ℕ) (m₂ : Made) (d₂ : Bytes) → ReadsPart condition_in t s₂ (condition_of (drop s₂ t)) m₁ d₁ (Ok (record { next = i; made = m₂ })) d₂
       → (head len body : ℕ) → head ≡ pool_in m → len ≡ pool_in m₁ - pool_in m → body ≡ pool_in m₁
       → (next : ℕ) (m₃ : Made) (d₃ : Bytes) → StepsOver t i (behind_body (drop i t)) (body_revised head len body (drop i t)) m₂ d₂ next m₃ d₃
-      → ReadsPart items_in t (at + 1) (revise_item (drop at t)) m d (PartRead.At next m₃) d₃
+      → ReadsPart items_in t (at + 1) (revise_item (drop at t)) m d (Ok (record { next = next; made = m₃ })) d₃
   unfolding revise_item_at items_in item_in revise_in body_revised
   revise_over i m₂ d₂ l head len body eh el eb next m₃ d₃ st =
-      then_at condition_in items_in t s₂ (at + 1) m₁ m d₁ d (condition_of (drop 4 (behind_list (drop 6 (drop at t))))) (revise_then (drop at t)) i m₂ d₂ (PartRead.At next m₃) d₃
-      (subst (λ (x : Bytes). ReadsPart condition_in t s₂ (condition_of x) m₁ d₁ (PartRead.At i m₂) d₂) revise_there l)
+      then_at condition_in items_in t s₂ (at + 1) m₁ m d₁ d (condition_of (drop 4 (behind_list (drop 6 (drop at t))))) (revise_then (drop at t)) i m₂ d₂ (Ok (record { next = next; made = m₃ })) d₃
+      (subst (λ (x : Bytes). ReadsPart condition_in t s₂ (condition_of x) m₁ d₁ (Ok (record { next = i; made = m₂ })) d₂) revise_there l)
       (λ c rest tr.
       let e : drop i t ≡ rest = tr.place.1 in
       let one : made_in m₁ d₁ ≡ plan_in (list_of (drop 6 (drop at t))) (made_in m d) = p.puts.made ∙ ap (λ (x : Bytes). plan_in (list_of x) (made_in m d)) k₁.2.1 in
@@ -324,7 +328,7 @@ module _ (t : Bytes) (at s : ℕ) (n : ℕ) (m : Made) (d : Bytes) (h : Held m d
 module _ (t : Bytes) (at s₁ s₂ : ℕ) (b g : SetRead) (m : Made) (d : Bytes) (inside : at < length t) where
   pub begin_over : Skips t at 13 s₁ → ReadsSet t s₁ b → Skips t b.next 6 s₂ → ReadsSet t s₂ g
       → (next : ℕ) (m₁ : Made) (d₁ : Bytes) → StepsOver t g.next (behind_plan (drop g.next t)) (start_planned (b.fits && g.fits) (b.set ++ g.set) (drop g.next t)) m d next m₁ d₁
-      → ReadsPart items_in t (at + 1) (begin_item (drop at t)) m d (PartRead.At next m₁) d₁
+      → ReadsPart items_in t (at + 1) (begin_item (drop at t)) m d (Ok (record { next = next; made = m₁ })) d₁
   unfolding begin_item items_in item_in begin_in start_planned
   begin_over k₁ r₁ k₂ r₂ next m₁ d₁ st =
       let q₁ : drop s₁ t ≡ drop 13 (drop at t) = k₁.2.1 in
@@ -409,16 +413,16 @@ module _ (t : Bytes) (at s : ℕ) (num : Numeral) (next : ℕ) (m : Made) (insid
         }
 
 module _ (t : Bytes) (at : ℕ) (m : Made) (d : Bytes) (h : Held m d) where
-  pub atoms_over : second_byte (drop at t) ≡ 116 → (p : Placed) → AtomsRead t at m p → ReadsPart items_in t (at + 1) (number_item (drop at t)) m d (PartRead.At p.next p.made) d
+  pub atoms_over : second_byte (drop at t) ≡ 116 → (p : Placed) → AtomsRead t at m p → ReadsPart items_in t (at + 1) (number_item (drop at t)) m d (Ok (record { next = p.next; made = p.made })) d
   unfolding number_item items_in item_in
   atoms_over e p q =
       let n : ℕ = number_value (drop 6 (drop at t)) in
       let o = q.0 in
-      subst (λ x. ReadsPart items_in t (at + 1) x m d (PartRead.At p.next p.made) d) (sym (if_yes (eqb (second_byte (drop at t)) 116) _ _ (eq-eqb _ 116 e)))
+      subst (λ x. ReadsPart items_in t (at + 1) x m d (Ok (record { next = p.next; made = p.made })) d) (sym (if_yes (eqb (second_byte (drop at t)) 116) _ _ (eq-eqb _ 116 e)))
       (record { place = q.1; on = omega arith; puts = subst (λ x. Puts (atoms_in n) m d x d) (sym q.2) (atoms_put m d n h) })
 
   pub action_over : (second_byte (drop at t) ≡ 116 → ⊥) → (next : ℕ) (m' : Made) (d' : Bytes)
-      → StepsOver t (at + 1) (behind_number 7 (drop at t)) (weighed (drop at t)) m d next m' d' → ReadsPart items_in t (at + 1) (number_item (drop at t)) m d (PartRead.At next m') d'
+      → StepsOver t (at + 1) (behind_number 7 (drop at t)) (weighed (drop at t)) m d next m' d' → ReadsPart items_in t (at + 1) (number_item (drop at t)) m d (Ok (record { next = next; made = m' })) d'
   unfolding number_item items_in item_in weighed
   action_over e next m' d' st =
-      subst (λ x. ReadsPart items_in t (at + 1) x m d (PartRead.At next m') d') (sym (if_no (eqb (second_byte (drop at t)) 116) _ _ (ne_eqb _ 116 e))) st
+      subst (λ x. ReadsPart items_in t (at + 1) x m d (Ok (record { next = next; made = m' })) d') (sym (if_no (eqb (second_byte (drop at t)) 116) _ _ (ne_eqb _ 116 e))) st

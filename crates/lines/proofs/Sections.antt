@@ -1,6 +1,6 @@
 -- What an entry adds to the card in the making: the section that it stands in grows, and the others stay.
-use mathlib.Core.Path.{◌≡◌, refl, ap, sym, ◌∙◌}
-use mathlib.Core.Bool.{true, false}
+use mathlib.Core.Path.{◌≡◌, refl, ap, ap₂, sym, ◌∙◌, subst}
+use mathlib.Core.Bool.{Bool, true, false}
 use mathlib.Core.List.{◌++◌}
 use mathlib.Core.Option.{none, some}
 use Prim.Native.Nat.{ℕ, ◌+◌, ◌*◌, ◌≤◌, ◌<◌}
@@ -14,9 +14,12 @@ use Rattle.paper.specs.Next.{if}
 use Rattle.meaning.specs.Card.{Bytes, part}
 use Rattle.notation.specs.Making.{bind, added, weight_in, specification_in, selection_in, revision_in, put_weights, put_specifications, put_selections}
 use Rattle.notation.specs.Making.{put_revisions}
+use Rattle.std.proofs.Common.{Some, None}
+use Rattle.std.proofs.lemmas.Option.{none-some}
+use Rattle.conditions.specs.Reads.{Count}
 use Rattle.lines.specs.declared.made.Made.{Made}
 use Rattle.lines.specs.InPlace.{sections_in, made_in}
-use Rattle.lines.specs.Lines.{Change, Held, Puts, too_large}
+use Rattle.lines.specs.Lines.{Change, Held, Puts, PutAt, count_in, too_large}
 use Rattle.lines.proofs.Pasting.{part_before, part_behind, part_grows, part_length}
 
 -- ---- a section of at most so many bytes
@@ -69,13 +72,29 @@ module _ (f : Change) (m : Made) (d : Bytes) (h : Held m d) where
     made = sym z;
   }
 
+-- ---- an entry, by what was put
+
+module _ (f : Change) (m : Made) (d : Bytes) (h : Held m d) (start size n : ℕ) (c : Count) (counted : c ≡ count_in m n) (e e' : Bytes) (same : e' ≡ e) (d' : Bytes) where
+  pub put_none : f none ≡ none → (m.large ≡ false → n ≡ 256 → Puts f m d (too_large m) d) → PutAt d start c e' None d' → Puts f m d (too_large m) d'
+  put_none gone full p = go m.large refl (subst (λ x. PutAt d start x e' None d') counted p)
+    where
+      go : (b : Bool) → m.large ≡ b → PutAt d start (if b None (Some n)) e' None d' → Puts f m d (too_large m) d'
+      go true g q = subst (λ x. Puts f m d (too_large m) x) (sym q.1) (becomes_large f m d h (ap f (made_large m d g) ∙ gone))
+      go false g q = subst (λ x. Puts f m d (too_large m) x) (sym q.1) (full g q.0)
+
+  pub put_some : (W : ℕ → Made) → length e ≡ size → (m.large ≡ false → (n ≡ 256 → ⊥) → (x : Bytes) → x ≡ paste d (start + size * n) e size → Puts f m d (W (n + 1)) x)
+      → (k : ℕ) → PutAt d start c e' (Some k) d' → Puts f m d (W k) d'
+  put_some W l added k p = go m.large refl (subst (λ x. PutAt d start x e' (Some k) d') counted p)
+    where
+      go : (b : Bool) → m.large ≡ b → PutAt d start (if b None (Some n)) e' (Some k) d' → Puts f m d (W k) d'
+      go true g q = absurd (none-some k (sym q.0))
+      go false g q =
+          subst (λ j. Puts f m d (W j) d') (sym q.1)
+          (let less = q.0 in added g (omega arith) d' (q.2 ∙ ap₂ (λ x (y : Bytes). paste d (start + x * n) y x) (ap length same ∙ l) same))
+
 -- ---- weights
 
 module _ (e : Bytes) (m : Made) (d : Bytes) (h : Held m d) (l : length e ≡ 2) where
-  pub weight_large : m.large ≡ true → Puts (weight_in e) m d m d
-  unfolding weight_in
-  weight_large = stays_large (weight_in e) m d h refl
-
   pub weight_full : m.large ≡ false → m.weights ≡ 256 → Puts (weight_in e) m d (too_large m) d
   unfolding weight_in
   weight_full fits full =
@@ -110,10 +129,6 @@ module _ (e : Bytes) (m : Made) (d : Bytes) (h : Held m d) (l : length e ≡ 2) 
 -- ---- specifications
 
 module _ (e : Bytes) (m : Made) (d : Bytes) (h : Held m d) (l : length e ≡ 36) where
-  pub specification_large : m.large ≡ true → Puts (specification_in e) m d m d
-  unfolding specification_in
-  specification_large = stays_large (specification_in e) m d h refl
-
   pub specification_full : m.large ≡ false → m.specifications ≡ 256 → Puts (specification_in e) m d (too_large m) d
   unfolding specification_in
   specification_full fits full =
@@ -148,10 +163,6 @@ module _ (e : Bytes) (m : Made) (d : Bytes) (h : Held m d) (l : length e ≡ 36)
 -- ---- selections
 
 module _ (e : Bytes) (m : Made) (d : Bytes) (h : Held m d) (l : length e ≡ 8) where
-  pub selection_large : m.large ≡ true → Puts (selection_in e) m d m d
-  unfolding selection_in
-  selection_large = stays_large (selection_in e) m d h refl
-
   pub selection_full : m.large ≡ false → m.selections ≡ 256 → Puts (selection_in e) m d (too_large m) d
   unfolding selection_in
   selection_full fits full =
@@ -186,10 +197,6 @@ module _ (e : Bytes) (m : Made) (d : Bytes) (h : Held m d) (l : length e ≡ 8) 
 -- ---- revisions
 
 module _ (e : Bytes) (m : Made) (d : Bytes) (h : Held m d) (l : length e ≡ 12) where
-  pub revision_large : m.large ≡ true → Puts (revision_in e) m d m d
-  unfolding revision_in
-  revision_large = stays_large (revision_in e) m d h refl
-
   pub revision_full : m.large ≡ false → m.revisions ≡ 256 → Puts (revision_in e) m d (too_large m) d
   unfolding revision_in
   revision_full fits full =

@@ -1,5 +1,5 @@
 -- A condition and a plan that were read, in the card in the making.
-use mathlib.Core.Path.{◌≡◌, refl, ap, sym, ◌∙◌, subst}
+use mathlib.Core.Path.{◌≡◌, ap, sym, ◌∙◌, subst}
 use mathlib.Core.Bool.{Bool, true, false}
 use mathlib.Core.List.{◌++◌}
 use Prim.Native.Nat.{ℕ, ◌+◌, ◌≤◌}
@@ -10,32 +10,29 @@ use Rattle.meaning.specs.Card.{Bytes}
 use Rattle.notation.specs.Conditions.{Condition}
 use Rattle.notation.specs.Values.{Read, nested, got, list_of, behind_list}
 use Rattle.notation.specs.Making.{plan_in}
-use Rattle.conditions.specs.Reads.{ReadsCondition}
-use Rattle.conditions.specs.declared.read.Reading.{Reading}
+use Rattle.conditions.specs.Reads.{Count, ReadsCondition}
+use Rattle.conditions.specs.declared.read.TreeRead.{TreeRead}
+use Rattle.conditions.specs.declared.read.Nested.{Nested}
+use Rattle.std.proofs.Common.{Some, None, Result, Ok, Err}
+use Rattle.std.specs.Prelude.{IfSome, IsErr}
+use Rattle.paper.proofs.Relation.{false≢true}
 use Rattle.lines.specs.declared.made.Made.{Made}
 use Rattle.lines.specs.declared.lists.PlanRead.{PlanRead}
-use Rattle.lines.specs.declared.parts.PartRead.{PartRead}
-use Rattle.lines.specs.Lines.{Held, Puts, StepsOver, ReadsPart, ReadsPlan, nodes_before, with_nodes, pool_before, with_pool, condition_in}
+use Rattle.lines.specs.declared.parts.Placed.{Placed}
+use Rattle.lines.specs.Lines.{Held, Puts, StepsOver, ReadsPart, ReadsPlan, count_in, nodes_before, with_nodes, pool_before, with_pool, condition_in}
 use Rattle.lines.proofs.Placing.{back_length, plan_put, tree_put}
 
 pub lent_length : (d : Bytes) (a n : ℕ) → a + n ≤ length d → length (take n (drop a d)) ≡ n
 lent_length d a n h = simp (length-take, length-drop) (omega arith)
 
-pub pool_before_le : (m : Made) → m.pool ≤ 8192 → pool_before m ≤ 8193
-pool_before_le m h = go m.large
+pub count_le : (m : Made) (n room : ℕ) → n ≤ room → IfSome (count_in m n) (λ k. k ≤ room)
+count_le m n room h = go m.large
   where
-    go : (b : Bool) → if b 8193 m.pool ≤ 8193
-    go true = omega arith
-    go false = omega arith
+    go : (b : Bool) → IfSome (if b None (Some n)) (λ k. k ≤ room)
+    go true = tt
+    go false = h
 
-pub nodes_before_le : (m : Made) → m.nodes ≤ 256 → nodes_before m ≤ 257
-nodes_before_le m h = go m.large
-  where
-    go : (b : Bool) → if b 257 m.nodes ≤ 257
-    go true = omega arith
-    go false = omega arith
-
-module _ (t : Bytes) (at : ℕ) (m : Made) (d : Bytes) (h : Held m d) (k : ℕ) (y d' : Bytes) where
+module _ (t : Bytes) (at : ℕ) (m : Made) (d : Bytes) (h : Held m d) (k : Count) (y d' : Bytes) where
   pub plan_steps : k ≡ pool_before m → (r : PlanRead) → ReadsPlan t at (take 8192 (drop 15936 d)) k r y → (m' : Made) → m' ≡ with_pool m r.count
       → d' ≡ take 15936 d ++ (y ++ drop 8192 (drop 15936 d)) → StepsOver t at (behind_list (drop at t)) (plan_in (list_of (drop at t))) m d r.next m' d'
   plan_steps e r q m' f g =
@@ -43,24 +40,26 @@ module _ (t : Bytes) (at : ℕ) (m : Made) (d : Bytes) (h : Held m d) (k : ℕ) 
       record {
         place = q.1;
         on = q.0;
-        puts = subst (λ x. Puts (plan_in (list_of (drop at t))) m d x d') (sym f) (plan_put m d h (list_of (drop at t)) r.count y d' q.3 w.4 g);
+        puts = subst (λ x. Puts (plan_in (list_of (drop at t))) m d x d') (sym f) (plan_put m d h (list_of (drop at t)) r.count y d' q.3 w.4 g q.2);
       }
 
   module _ (e : k ≡ nodes_before m) (g : d' ≡ take 576 d ++ (y ++ drop 1024 (drop 576 d))) where
     configured : length (take 1024 (drop 576 d)) ≡ 1024
     configured = let r = h.room in lent_length d 576 1024 (omega arith)
 
-    pub tree_nested : (read : Read Condition) → ReadsCondition t at (take 1024 (drop 576 d)) k read Reading.Nested y → ReadsPart condition_in t at read m d PartRead.Nested d'
-    tree_nested nested q = (refl, (let r = h.room in ap length g ∙ back_length d y 576 1024 (omega arith) (q.1 ∙ configured) ∙ r))
-    tree_nested (got c rest) q = q
+    pub tree_nested : (read : Read Condition) → ReadsCondition t at (take 1024 (drop 576 d)) k read (Err (record {})) y
+        → (r : Result Placed Nested) → IsErr r → ReadsPart condition_in t at read m d r d'
+    tree_nested nested q (Ok p) f = absurd (false≢true f)
+    tree_nested nested q (Err x) f = let room = h.room in ap length g ∙ back_length d y 576 1024 (omega arith) (q ∙ configured) ∙ room
+    tree_nested (got c rest) q r f = absurd q
 
-    pub tree_steps : (read : Read Condition) (n j : ℕ) → ReadsCondition t at (take 1024 (drop 576 d)) k read (Reading.At n j) y → (m' : Made) → m' ≡ with_nodes m j
-        → ReadsPart condition_in t at read m d (PartRead.At n m') d'
-    tree_steps nested n j q m' f = let w = q.0 in absurd (let z : ◌≡◌ {A = ℕ} 0 1 = cc in omega arith)
-    tree_steps (got c rest) n j q m' f =
-        let w = subst (λ i. ReadsCondition t at (take 1024 (drop 576 d)) i (got c rest) (Reading.At n j) y) e q in
+    pub tree_steps : (read : Read Condition) (r : TreeRead) → ReadsCondition t at (take 1024 (drop 576 d)) k read (Ok r) y → (m' : Made) → m' ≡ with_nodes m r.count
+        → ReadsPart condition_in t at read m d (Ok (record { next = r.next; made = m' })) d'
+    tree_steps nested r q m' f = absurd q
+    tree_steps (got c rest) r q m' f =
+        let w = subst (λ i. ReadsCondition t at (take 1024 (drop 576 d)) i (got c rest) (Ok r) y) e q in
         record {
           place = q.0;
           on = q.1;
-          puts = subst (λ x. Puts (condition_in c) m d x d') (sym f) (tree_put m d h c.tree j y d' (q.3 ∙ configured) w.4 g);
+          puts = subst (λ x. Puts (condition_in c) m d x d') (sym f) (tree_put m d h c.tree r.count y d' (q.3 ∙ configured) w.4 g q.2);
         }

@@ -1,9 +1,9 @@
 -- What is known of a card in the making by its counts, and the start.
 use mathlib.Core.Path.{◌≡◌, refl, ap, sym, ◌∙◌, subst}
-use mathlib.Core.Bool.{Bool, true, false, ◌&&◌, and-false}
+use mathlib.Core.Bool.{Bool, true, false}
 use mathlib.Core.List.{[], ◌++◌}
 use mathlib.Core.Option.{none, some}
-use Prim.Native.Nat.{ℕ, ◌+◌, ◌-◌, ◌*◌, ◌/◌, ◌≤◌, ◌<◌}
+use Prim.Native.Nat.{ℕ, ◌+◌, ◌-◌, ◌*◌, ◌/◌, ◌≤◌}
 use native.Mathlib.Decide.{dec_le}
 use native.Mathlib.Omega.{arith}
 use borrow.Author.Tests.{le-leb, lt-leb}
@@ -12,12 +12,12 @@ use lib.ListN.{length, take}
 use lib.Seq.{paste, length-paste, take_all}
 use Rattle.paper.specs.Next.{if}
 use Rattle.meaning.specs.Card.{Bytes, part}
-use Rattle.notation.specs.Making.{bind, when, last_node, made_nodes, pool_size, put_atoms, specification_in}
+use Rattle.notation.specs.Making.{bind, when, last_node, made_nodes, pool_size, put_atoms}
 use Rattle.conditions.specs.Reads.{capped, last_of}
-use Rattle.conditions.proofs.Stored.{last_some}
+use Rattle.std.proofs.Common.{Some, None}
 use Rattle.lines.specs.declared.made.Made.{Made}
 use Rattle.lines.specs.InPlace.{sections_in, made_in}
-use Rattle.lines.specs.Lines.{Change, Held, Puts, too_large, last_in, pool_in, atoms_are, with_atoms, start_in, specification, specified}
+use Rattle.lines.specs.Lines.{Change, Held, Puts, too_large, last_in, pool_in, atoms_are, with_atoms, start_in}
 use Rattle.lines.proofs.Pasting.{part_behind, part_grows, part_length}
 use Rattle.lines.proofs.Sections.{made_some, stays_large, becomes_large}
 use Rattle.lines.proofs.Placing.{if_yes, if_no}
@@ -28,14 +28,14 @@ module _ (m : Made) (d : Bytes) (h : Held m d) where
   pub made_last : last_node (made_nodes (made_in m d)) ≡ last_in m
   made_last = go m.large
     where
-      go : (b : Bool) → last_node (made_nodes (if b none (some (sections_in m d)))) ≡ last_of (if b 257 m.nodes)
+      go : (b : Bool) → last_node (made_nodes (if b none (some (sections_in m d)))) ≡ last_of (if b None (Some m.nodes))
       go true = refl
       go false =
           let r = h.room in
           let few = h.bounded.nodes in
           let l = part_length d 576 (4 * m.nodes) (omega arith) in
           let e : length (part d 576 (4 * m.nodes)) / 4 - 1 ≡ m.nodes - 1 = omega arith in
-          e ∙ last_some m.nodes few
+          e
 
   pub made_pool : pool_size (made_in m d) ≡ pool_in m
   made_pool = go m.large
@@ -171,28 +171,3 @@ module _ (m : Made) (d : Bytes) (h : Held m d) (b g : Bytes) (start len : ℕ) (
             }))
             ∙ sym (ap (start_in (b ++ g) start len) (made_some m d no-large));
       }
-
--- ---- a specification, if it fits
-
-module _ (m : Made) (d : Bytes) (h : Held m d) (action : ℕ) (fits : Bool) (add del : Bytes) where
-  pub specify_action : 255 < action → Puts (specified action fits (last_in m) add del) m d (too_large m) d
-  specify_action l =
-      becomes_large (specified action fits (last_in m) add del) m d h
-      (ap (λ b. when (b && fits) (specification_in (specification action (last_in m) add del) (made_in m d))) (lt-leb action 255 l))
-
-  pub specify_sets : fits ≡ false → Puts (specified action fits (last_in m) add del) m d (too_large m) d
-  specify_sets e =
-      becomes_large (specified action fits (last_in m) add del) m d h
-      (ap (λ b. when b (specification_in (specification action (last_in m) add del) (made_in m d))) (ap (λ b. leb action 255 && b) e ∙ and-false (leb action 255)))
-
-  pub specify_put : action ≤ 255 → fits ≡ true → (node : ℕ) → node ≡ last_in m → (m' : Made) (d' : Bytes)
-      → Puts (specification_in (specification action node add del)) m d m' d' → Puts (specified action fits (last_in m) add del) m d m' d'
-  specify_put l e node q m' d' p = record {
-    held = p.held;
-    made =
-        p.made
-        ∙ ap (λ x. specification_in (specification action x add del) (made_in m d)) q
-        ∙ sym (
-        ap (λ b. when (b && fits) (specification_in (specification action (last_in m) add del) (made_in m d))) (le-leb action 255 l)
-        ∙ ap (λ b. when b (specification_in (specification action (last_in m) add del) (made_in m d))) e);
-  }

@@ -6,16 +6,19 @@ use Prim.Native.Nat.{ℕ, zero, suc, ◌+◌, ◌-◌, ◌≤◌, ◌<◌}
 use native.Mathlib.Omega.{arith}
 use borrow.Author.Tests.{ne_eqb}
 use lib.Dec.{eqb}
-use lib.ListN.{length, take, drop, get_or, replicate, length-replicate, drop_of_length-le}
-use Rattle.meaning.specs.Card.{Bytes, part}
+use lib.ListN.{length, drop, get_or, drop_of_length-le}
+use Rattle.meaning.specs.Card.{Bytes}
 use Rattle.notation.specs.Values.{Read, nested, got, then, behind_line, line_at, line_by, items_at, items_of, Item, number_item, do_item, select_item, revise_item}
 use Rattle.notation.specs.Values.{begin_item}
 use Rattle.notation.specs.Making.{nothing_made, items_in}
 use Rattle.notation.specs.Making as Making
 use Rattle.conditions.proofs.Numbers.{drop-cons}
 use Rattle.lines.specs.declared.made.Made.{Made}
-use Rattle.lines.specs.declared.parts.PartRead.{PartRead}
-use Rattle.lines.specs.declared.lines.Lined.{Lined}
+use Rattle.lines.specs.declared.parts.Placed.{Placed}
+use Rattle.conditions.specs.declared.read.Nested.{Nested}
+use Rattle.std.proofs.Common.{false, Result, Ok, Err}
+use Rattle.std.specs.Prelude.{IsErr}
+use Rattle.paper.proofs.Relation.{false≢true}
 use Rattle.lines.specs.InPlace.{made_in}
 use Rattle.lines.specs.Lines.{Held, ReadsPart, BehindLine, nothing, Blank, LinesRead}
 use Rattle.lines.proofs.Placing.{if_no}
@@ -25,7 +28,7 @@ use Rattle.lines.proofs.Telling.{part_none}
 
 pub line_note : (t : Bytes) (at next : ℕ) (m : Made) (d : Bytes) → Held m d → at < length t → BehindLine t at next
     → (x : ℕ) → (x ≡ 97 → ⊥) → (x ≡ 100 → ⊥) → (x ≡ 115 → ⊥) → (x ≡ 114 → ⊥) → (x ≡ 98 → ⊥)
-    → ReadsPart items_in t (at + 1) (line_by x (drop at t)) m d (PartRead.At next m) d
+    → ReadsPart items_in t (at + 1) (line_by x (drop at t)) m d (Ok (record { next = next; made = m })) d
 unfolding line_at items_in
 line_note t at next m d h inside b x a d' s r bg =
     let T : Bytes = drop at t in
@@ -36,11 +39,11 @@ line_note t at next m d h inside b x a d' s r bg =
     ∙ if_no (eqb x 114) (revise_item T) _ (ne_eqb x 114 r)
     ∙ if_no (eqb x 98) (begin_item T) (got [] (behind_line T)) (ne_eqb x 98 bg) in
     let o = b.1 inside in
-    subst (λ q. ReadsPart items_in t (at + 1) q m d (PartRead.At next m) d) (sym e) (record { place = b.2; on = omega arith; puts = record { held = h; made = refl } })
+    subst (λ q. ReadsPart items_in t (at + 1) q m d (Ok (record { next = next; made = m })) d) (sym e) (record { place = b.2; on = omega arith; puts = record { held = h; made = refl } })
 
 -- ---- a line of a kind, by its first byte
 
-module _ (t : Bytes) (at : ℕ) (m : Made) (d : Bytes) (r : PartRead) (d' : Bytes) (x : ℕ) where
+module _ (t : Bytes) (at : ℕ) (m : Made) (d : Bytes) (r : Result Placed Nested) (d' : Bytes) (x : ℕ) where
   pub line_number : x ≡ 97 → ReadsPart items_in t (at + 1) (number_item (drop at t)) m d r d' → ReadsPart items_in t (at + 1) (line_by x (drop at t)) m d r d'
   unfolding line_at
   line_number e l = subst (λ y. ReadsPart items_in t (at + 1) (line_by y (drop at t)) m d r d') (sym e) l
@@ -96,15 +99,15 @@ fuel zero h = absurd (omega arith)
 fuel (suc g) h = (g, refl)
 
 module _ (t : Bytes) where
-  outcome_line : (low f i : ℕ) (m m' : Made) (d d' : Bytes) (read : Read (List Item)) → ReadsPart items_in t low read m d (PartRead.At i m') d'
+  outcome_line : (low f i : ℕ) (m m' : Made) (d d' : Bytes) (read : Read (List Item)) → ReadsPart items_in t low read m d (Ok (record { next = i; made = m' })) d'
       → outcome (then read (others f)) (made_in m d) ≡ outcome (items_of f (drop i t)) (made_in m' d')
-  outcome_line low f i m m' d d' nested q = let w = q.0 in absurd (let z : ◌≡◌ {A = ℕ} 0 1 = cc in omega arith)
+  outcome_line low f i m m' d d' nested q = absurd q
   outcome_line low f i m m' d d' (got is rest) q =
       outcome_behind is (made_in m d) (items_of f rest)
       ∙ sym (λ j. outcome (items_of f (q.place.1 j)) (q.puts.made j))
 
   pub left_turn : (n i : ℕ) (m m' : Made) (d d' : Bytes) → n < length t → LinesLeft t n (made_in m d)
-      → ReadsPart items_in t (n + 1) (line_by (get_or t n 0) (drop n t)) m d (PartRead.At i m') d' → n + 1 ≤ i → LinesLeft t i (made_in m' d')
+      → ReadsPart items_in t (n + 1) (line_by (get_or t n 0) (drop n t)) m d (Ok (record { next = i; made = m' })) d' → n + 1 ≤ i → LinesLeft t i (made_in m' d')
   left_turn n i m m' d d' h l q on =
       let some-fuel = l.1 in
       let g = fuel l.0 (omega arith) in
@@ -116,25 +119,27 @@ module _ (t : Bytes) where
             ∙ l.2,
       )
 
-  all_nested : (whole : Read (List Item)) (d : Bytes) → nested ≡ outcome whole (some nothing_made) → length d ≡ 24128 → LinesRead whole Lined.Nested d
-  all_nested nested d e r = (refl, r)
-  all_nested (got is rest) d e r = absurd (let z : ◌≡◌ {A = ℕ} 0 1 = cc in omega arith)
+  all_nested : (whole : Read (List Item)) (d : Bytes) → nested ≡ outcome whole (some nothing_made) → length d ≡ 24128
+      → (r : Result Made Nested) → IsErr r → LinesRead whole r d
+  all_nested nested d e l (Ok m) f = absurd (false≢true f)
+  all_nested nested d e l (Err x) f = l
+  all_nested (got is rest) d e l r f = absurd (let z : ◌≡◌ {A = ℕ} 0 1 = cc in omega arith)
 
-  nested_line : (low f : ℕ) (m : Made) (d d' : Bytes) (read : Read (List Item)) → ReadsPart items_in t low read m d PartRead.Nested d'
+  nested_line : (low f : ℕ) (m : Made) (d d' : Bytes) (read : Read (List Item)) → ReadsPart items_in t low read m d (Err (record {})) d'
       → (nested ≡ outcome (then read (others f)) (made_in m d)) × (length d' ≡ 24128)
-  nested_line low f m d d' nested q = (refl, q.1)
+  nested_line low f m d d' nested q = (refl, q)
   nested_line low f m d d' (got is rest) q = absurd q
 
   pub left_nested : (n : ℕ) (m : Made) (d d' : Bytes) → n < length t → LinesLeft t n (made_in m d)
-      → ReadsPart items_in t (n + 1) (line_by (get_or t n 0) (drop n t)) m d PartRead.Nested d' → LinesRead (items_of (length t) t) Lined.Nested d'
-  left_nested n m d d' h l q =
+      → ReadsPart items_in t (n + 1) (line_by (get_or t n 0) (drop n t)) m d (Err (record {})) d' → (r : Result Made Nested) → IsErr r → LinesRead (items_of (length t) t) r d'
+  left_nested n m d d' h l q r bad =
       let some-fuel = l.1 in
       let g = fuel l.0 (omega arith) in
       let z = nested_line (n + 1) g.0 m d d' (line_by (get_or t n 0) (drop n t)) q in
       all_nested (items_of (length t) t) d'
-      (z.0 ∙ sym (ap (λ f. outcome (items_of f (drop n t)) (made_in m d)) g.1 ∙ ap (λ x. outcome x (made_in m d)) (items_line t n g.0 h)) ∙ l.2) z.1
+      (z.0 ∙ sym (ap (λ f. outcome (items_of f (drop n t)) (made_in m d)) g.1 ∙ ap (λ x. outcome x (made_in m d)) (items_line t n g.0 h)) ∙ l.2) z.1 r bad
 
-  all_read : (whole : Read (List Item)) (m : Made) (d : Bytes) → Held m d → got (made_in m d) [] ≡ outcome whole (some nothing_made) → LinesRead whole (Lined.All m) d
+  all_read : (whole : Read (List Item)) (m : Made) (d : Bytes) → Held m d → got (made_in m d) [] ≡ outcome whole (some nothing_made) → LinesRead whole (Ok m) d
   all_read nested m d h e = absurd (let z : ◌≡◌ {A = ℕ} 0 1 = cc in omega arith)
   all_read (got is rest) m d h e = (h, (let z : made_in m d ≡ items_in is (some nothing_made) = cc in z))
 
@@ -143,13 +148,28 @@ module _ (t : Bytes) where
   items_none zero = refl
   items_none (suc f) = refl
 
-  pub left_over : (n : ℕ) (m : Made) (d : Bytes) → length t ≤ n → Held m d → LinesLeft t n (made_in m d) → LinesRead (items_of (length t) t) (Lined.All m) d
+  pub left_over : (n : ℕ) (m : Made) (d : Bytes) → length t ≤ n → Held m d → LinesLeft t n (made_in m d) → LinesRead (items_of (length t) t) (Ok m) d
   unfolding items_in
   left_over n m d h held l =
       all_read (items_of (length t) t) m d held
       (sym (ap (λ (x : Bytes). outcome (items_of l.0 x) (made_in m d)) (drop_of_length-le t {i = n} h) ∙ ap (λ x. outcome x (made_in m d)) (items_none l.0)) ∙ l.2)
 
 -- ---- before the first line
+
+-- each of its numbers is 0
+pub nothing_so : (m : Made) → (m.large ≡ false) × ((m.atoms ≡ 0) × ((m.weights ≡ 0) × ((m.nodes ≡ 0) × ((m.specifications ≡ 0) × ((m.selections ≡ 0) × ((m.revisions ≡ 0) × ((m.pool ≡ 0) × ((m.start ≡ 0) × (m.len ≡ 0))))))))) → m ≡ nothing
+nothing_so m (a, (b, (c, (d, (e, (f, (g, (h, (j, k))))))))) = λ i. record {
+  large = a i;
+  atoms = b i;
+  weights = c i;
+  nodes = d i;
+  specifications = e i;
+  selections = f i;
+  revisions = g i;
+  pool = h i;
+  start = j i;
+  len = k i;
+}
 
 pub nothing_held : (m : Made) (d : Bytes) → m ≡ nothing → Blank d → Held m d
 nothing_held m d e b = subst (λ x. Held x d) (sym e) (record {
@@ -185,21 +205,3 @@ left_start t m d e b = (
         len = 0;
       }))),
 )
-
-drop_zeros : (k n : ℕ) → drop {A = ℕ} k (replicate n 0) ≡ replicate (n - k) 0
-drop_zeros zero n = let e : n ≡ n - 0 = omega arith in ap (λ j. replicate j 0) e
-drop_zeros (suc k) zero = let e : 0 ≡ 0 - suc k = omega arith in ap (λ j. replicate j 0) e
-drop_zeros (suc k) (suc n) = drop_zeros k n ∙ (let e : n - k ≡ suc n - suc k = omega arith in ap (λ j. replicate j 0) e)
-
-take_zeros : (k n : ℕ) → k ≤ n → take {A = ℕ} k (replicate n 0) ≡ replicate k 0
-take_zeros zero n h = refl
-take_zeros (suc k) zero h = absurd (omega arith)
-take_zeros (suc k) (suc n) h = ap (λ (x : Bytes). 0 ∷ x) (take_zeros k n (omega arith))
-
--- a card of zeros is blank
-pub zeros_blank : (d : Bytes) (n : ℕ) → n ≡ 24128 → d ≡ replicate n 0 → Blank d
-unfolding part
-zeros_blank d n e q = record {
-  room = ap length q ∙ length-replicate n 0 ∙ e;
-  sets = ap (λ (x : Bytes). take 32 (drop 32 x)) q ∙ ap (take 32) (drop_zeros 32 n) ∙ take_zeros 32 (n - 32) (omega arith);
-}

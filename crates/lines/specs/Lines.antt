@@ -1,7 +1,8 @@
 -- What the readers of a text's lines tell and leave in the card in the making, by the reader as a function and by what each line
 -- adds.
-use Rattle.std.specs.Prelude.{◌≡◌, Bool, true, false, ◌&&◌, List, [], ◌∷◌, ◌++◌, ℕ, ◌+◌, ◌-◌, ◌≤◌, ◌<◌, leb, length, take, drop, replicate}
+use Rattle.std.specs.Prelude.{Some, None, IfSome, Result, Ok, Err, ◌≡◌, Bool, true, false, ◌&&◌, List, [], ◌∷◌, ◌++◌, ℕ, ◌+◌, ◌-◌, ◌*◌, ◌≤◌, ◌<◌, leb, length, take, drop, replicate}
 use Rattle.std.proofs.Math.Option.{Option, none, some}
+use Rattle.std.proofs.Math.Seq.{paste}
 use Rattle.paper.specs.Next.{if}
 use Rattle.meaning.specs.Card.{Bytes, part}
 use Rattle.meaning.specs.Place.{two_bytes}
@@ -10,12 +11,11 @@ use Rattle.notation.specs.Built.{single, set_of}
 use Rattle.notation.specs.Values.{number_value, digits_rest, list_of, behind_list, behind_line, Read, nested, got, condition_of, Item}
 use Rattle.notation.specs.Conditions.{Condition}
 use Rattle.notation.specs.Making as Making
-use Rattle.conditions.specs.Reads.{TextAt, last_of}
+use Rattle.conditions.specs.Reads.{Count, TextAt, last_of}
 use Rattle.lines.specs.declared.made.Made.{Made}
 use Rattle.lines.specs.declared.lists.SetRead.{SetRead}
 use Rattle.lines.specs.declared.lists.PlanRead.{PlanRead}
-use Rattle.lines.specs.declared.lines.Lined.{Lined}
-use Rattle.lines.specs.declared.parts.PartRead.{PartRead}
+use Rattle.conditions.specs.declared.read.Nested.{Nested}
 use Rattle.lines.specs.declared.parts.Placed.{Placed}
 use Rattle.lines.specs.InPlace.{Bounded, made_in}
 
@@ -65,6 +65,16 @@ selection belief goal start len = belief ∷ (goal ∷ (two_bytes start ++ (two_
 abbrev pub revision : ℕ → ℕ → ℕ → ℕ → ℕ → Bytes
 revision node head h body b = node ∷ (0 ∷ (two_bytes head ++ (two_bytes h ++ (two_bytes body ++ (two_bytes b ++ two_bytes 0)))))
 
+-- so many of a part of m, None if something is too large
+abbrev pub count_in : Made → ℕ → Count
+count_in m n = if m.large None (Some n)
+
+-- an entry e stands behind the n others of a section that begins at start, if it has room for it
+abbrev pub PutAt : Bytes → ℕ → Count → Bytes → Count → Bytes → Type 0
+PutAt d start None e r d' = (r ≡ None) × (d' ≡ d)
+PutAt d start (Some n) e None d' = (n ≡ 256) × (d' ≡ d)
+PutAt d start (Some n) e (Some k) d' = (n < 256) × (k ≡ n + 1) × (d' ≡ paste d (start + length e * n) e (length e))
+
 -- ---- parts of a line
 
 -- n bytes on, or the end of the text
@@ -87,20 +97,22 @@ ReadsSet t at r =
     × (r.fits ≡ Making.set_fits (list_of (drop at t)))
     × (r.fits ≡ true → r.set ≡ set_of (list_of (drop at t)))
 
--- the pool's bytes, if k, at most 8,192, is how many they are; none if k is 8,193, which tells that something is too large
-abbrev pub pool_of : ℕ → Bytes → Option Bytes
-pool_of k d = if (leb k 8192) (some (take k d)) none
+-- the pool's bytes, if nothing is too large
+abbrev pub pool_of : Count → Bytes → Option Bytes
+pool_of None d = none
+pool_of (Some k) d = some (take k d)
 
 -- a pool with one action more
-abbrev pub WithAction : Bytes → ℕ → ℕ → ℕ → Bytes → Type 0
-WithAction d k v r d' = (r ≤ 8193) × (length d' ≡ 8192) × (pool_of r d' ≡ Making.when (leb v 255) (Making.added_to 8192 (v ∷ []) (pool_of k d)))
+abbrev pub WithAction : Bytes → Count → ℕ → Count → Bytes → Type 0
+WithAction d k v r d' =
+    IfSome r (λ n. n ≤ 8192) × (length d' ≡ 8192) × (pool_of r d' ≡ Making.when (leb v 255) (Making.added_to 8192 (v ∷ []) (pool_of k d)))
 
 -- a plan was read: its actions stand behind those before
-abbrev pub ReadsPlan : Bytes → ℕ → Bytes → ℕ → PlanRead → Bytes → Type 0
+abbrev pub ReadsPlan : Bytes → ℕ → Bytes → Count → PlanRead → Bytes → Type 0
 ReadsPlan t at d k r d' =
     (at ≤ r.next)
     × TextAt t r.next (behind_list (drop at t))
-    × (r.count ≤ 8193)
+    × IfSome r.count (λ n. n ≤ 8192)
     × (length d' ≡ 8192)
     × (pool_of r.count d' ≡ Making.with_plan (list_of (drop at t)) (pool_of k d))
 
@@ -113,10 +125,11 @@ pub record StepsOver (t : Bytes) (low : ℕ) (rest : Bytes) (f : Change) (m : Ma
   pub puts : Puts f m d m' d'
 
 -- the same, or brackets and "!" nest too deep, by what is read and what that adds
-abbrev pub ReadsPart : {X : Type 0} → (X → Change) → Bytes → ℕ → Read X → Made → Bytes → PartRead → Bytes → Type 0
-ReadsPart add t low nested m d r d' = (r ≡ PartRead.Nested) × (length d' ≡ 24128)
-ReadsPart add t low (got x rest) m d (PartRead.At n m') d' = StepsOver t low rest (add x) m d n m' d'
-ReadsPart add t low (got x rest) m d PartRead.Nested d' = ⊥
+abbrev pub ReadsPart : {X : Type 0} → (X → Change) → Bytes → ℕ → Read X → Made → Bytes → Result Placed Nested → Bytes → Type 0
+ReadsPart add t low nested m d (Ok p) d' = ⊥
+ReadsPart add t low nested m d (Err _) d' = length d' ≡ 24128
+ReadsPart add t low (got x rest) m d (Ok p) d' = StepsOver t low rest (add x) m d p.next p.made d'
+ReadsPart add t low (got x rest) m d (Err _) d' = ⊥
 
 -- a part that is always read, by what is left behind it and what it adds
 abbrev pub PartOver : (Bytes → Bytes) → (Bytes → Change) → Bytes → ℕ → Made → Bytes → Placed → Bytes → Type 0
@@ -127,7 +140,7 @@ abbrev pub condition_in : Condition → Change
 condition_in c o = Making.tree_in c.tree o
 
 -- a condition was read, with what it adds
-abbrev pub ReadsTree : Bytes → ℕ → Made → Bytes → PartRead → Bytes → Type 0
+abbrev pub ReadsTree : Bytes → ℕ → Made → Bytes → Result Placed Nested → Bytes → Type 0
 ReadsTree t at m d r d' = ReadsPart condition_in t at (condition_of (drop at t)) m d r d'
 
 -- a plan's actions
@@ -135,12 +148,12 @@ abbrev pub plan_there : Bytes → Change
 plan_there t o = Making.plan_in (list_of t) o
 
 -- a line, by what it says; it has a byte at least
-abbrev pub ReadsLine : (Bytes → Read (List Item)) → Bytes → ℕ → Made → Bytes → PartRead → Bytes → Type 0
+abbrev pub ReadsLine : (Bytes → Read (List Item)) → Bytes → ℕ → Made → Bytes → Result Placed Nested → Bytes → Type 0
 ReadsLine item t at m d r d' = ReadsPart Making.items_in t (at + 1) (item (drop at t)) m d r d'
 
--- how many nodes there are, 257 if something is too large
-abbrev pub nodes_before : Made → ℕ
-nodes_before m = if m.large 257 m.nodes
+-- how many nodes there are
+abbrev pub nodes_before : Made → Count
+nodes_before m = count_in m m.nodes
 
 -- there are k nodes
 abbrev pub nodes_are : Made → ℕ → Made
@@ -157,13 +170,14 @@ nodes_are m k = record {
   len = m.len;
 }
 
--- the same, if there may be as many
-abbrev pub with_nodes : Made → ℕ → Made
-with_nodes m k = if (leb k 256) (nodes_are m k) (too_large m)
+-- the same, if nothing is too large
+abbrev pub with_nodes : Made → Count → Made
+with_nodes m None = too_large m
+with_nodes m (Some k) = nodes_are m k
 
--- how many actions the pool has, 8,193 if something is too large
-abbrev pub pool_before : Made → ℕ
-pool_before m = if m.large 8193 m.pool
+-- how many actions the pool has
+abbrev pub pool_before : Made → Count
+pool_before m = count_in m m.pool
 
 -- the pool has k actions
 abbrev pub pool_is : Made → ℕ → Made
@@ -180,9 +194,10 @@ pool_is m k = record {
   len = m.len;
 }
 
--- the same, if it may have as many
-abbrev pub with_pool : Made → ℕ → Made
-with_pool m k = if (leb k 8192) (pool_is m k) (too_large m)
+-- the same, if nothing is too large
+abbrev pub with_pool : Made → Count → Made
+with_pool m None = too_large m
+with_pool m (Some k) = pool_is m k
 
 -- ---- the lines
 
@@ -297,7 +312,8 @@ pub record Blank (d : Bytes) : Type 0 where
   pub sets : part d 32 32 ≡ replicate 32 0
 
 -- all lines were read: what they say is made of nothing; or brackets and "!" nest too deep in one of them
-abbrev pub LinesRead : Read (List Item) → Lined → Bytes → Type 0
-LinesRead nested r d' = (r ≡ Lined.Nested) × (length d' ≡ 24128)
-LinesRead (got is rest) (Lined.All m) d' = Held m d' × (made_in m d' ≡ Making.items_in is (some Making.nothing_made))
-LinesRead (got is rest) Lined.Nested d' = ⊥
+abbrev pub LinesRead : Read (List Item) → Result Made Nested → Bytes → Type 0
+LinesRead nested (Ok m) d' = ⊥
+LinesRead nested (Err _) d' = length d' ≡ 24128
+LinesRead (got is rest) (Ok m) d' = Held m d' × (made_in m d' ≡ Making.items_in is (some Making.nothing_made))
+LinesRead (got is rest) (Err _) d' = ⊥

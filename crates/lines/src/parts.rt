@@ -1,12 +1,12 @@
 // A condition and a plan of a line, added to the card in the making.
 ghost use Rattle.std.specs.Prelude.{◌≡◌, ◌≤◌, length};
 ghost use Rattle.notation.specs.Values.{behind_list};
-ghost use Rattle.lines.specs.Lines.{Held, PartOver, ReadsTree, plan_there, nodes_before, with_nodes, pool_before, with_pool};
+ghost use Rattle.lines.specs.Lines.{Held, PartOver, ReadsTree, plan_there, with_nodes, with_pool};
 
 use crate::lists::read_plan;
 use crate::made::Made;
-use crate::put::too_large;
-use conditions::read::{Reading, read_condition};
+use crate::put::{count_in, too_large};
+use conditions::read::{Nested, read_condition};
 
 // The place behind a part of a line, and what is made then.
 #[derive(Clone, Copy)]
@@ -15,58 +15,37 @@ pub struct Placed {
     pub made: Made,
 }
 
-// The same, or brackets and `!` nest too deep.
-#[derive(Clone, Copy)]
-pub enum PartRead {
-    At(usize, Made),
-    Nested,
-}
-
-// How many nodes there are, 257 if something is too large.
-pub fn nodes_before(m: Made) -> usize
-    ensures { result ≡ nodes_before m }
-{
-    if m.large { 257 } else { m.nodes }
-}
-
-fn with_nodes(mut m: Made, k: usize) -> Made
+// So many nodes. It and with_pool are no one function: what they differ in is the field, which no parameter can name.
+fn with_nodes(m: Made, k: Option<usize>) -> Made
     ensures { result ≡ with_nodes m k }
 {
-    if k > 256 {
-        return too_large(m);
+    match k {
+        Some(nodes) => Made { nodes, ..m },
+        None => too_large(m),
     }
-    m.nodes = k;
-    m
 }
 
 // "condition = or-list": its nodes.
-pub fn read_tree(text: &[u8], at: usize, card: &mut [u8], m: Made) -> PartRead
+pub fn read_tree(text: &[u8], at: usize, card: &mut [u8], m: Made) -> Result<Placed, Nested>
     requires { (at ≤ length text.now) × Held m card.old }
     ensures { ReadsTree text.now at m card.old result card.new }
 {
-    let k = nodes_before(m);
-    let read = read_condition(text, at, &mut card[576..1600], k);
-    let Reading::At(n, j) = read else {
-        return PartRead::Nested;
-    };
-    PartRead::At(n, with_nodes(m, j))
+    let k = count_in(m, m.nodes);
+    let tree = read_condition(text, at, &mut card[576..1600], k)?;
+    Ok(Placed {
+        next: tree.next,
+        made: with_nodes(m, tree.count),
+    })
 }
 
-// How many actions the pool has, 8,193 if something is too large.
-fn pool_before(m: Made) -> usize
-    ensures { result ≡ pool_before m }
-{
-    if m.large { 8193 } else { m.pool }
-}
-
-fn with_pool(mut m: Made, k: usize) -> Made
+// So many actions of the pool.
+fn with_pool(m: Made, k: Option<usize>) -> Made
     ensures { result ≡ with_pool m k }
 {
-    if k > 8192 {
-        return too_large(m);
+    match k {
+        Some(pool) => Made { pool, ..m },
+        None => too_large(m),
     }
-    m.pool = k;
-    m
 }
 
 // "list = { " " number }": a plan's actions.
@@ -74,10 +53,10 @@ pub fn plan_in(text: &[u8], at: usize, card: &mut [u8], m: Made) -> Placed
     requires { (at ≤ length text.now) × Held m card.old }
     ensures { PartOver behind_list plan_there text.now at m card.old result card.new }
 {
-    let k = pool_before(m);
-    let read = read_plan(text, at, &mut card[15936..24128], k);
+    let k = count_in(m, m.pool);
+    let plan = read_plan(text, at, &mut card[15936..24128], k);
     Placed {
-        next: read.next,
-        made: with_pool(m, read.count),
+        next: plan.next,
+        made: with_pool(m, plan.count),
     }
 }

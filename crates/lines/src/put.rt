@@ -1,23 +1,42 @@
 // An entry added to a section of the card in the making, at its end, if it has room.
-ghost use Rattle.std.specs.Prelude.{◌≡◌, ◌++◌, ◌+◌, ◌≤◌};
+ghost use Rattle.std.specs.Prelude.{◌≡◌, ◌++◌, ◌+◌, ◌*◌, ◌≤◌, length, IfSome};
 ghost use Rattle.meaning.specs.Place.{two_bytes};
 ghost use Rattle.notation.specs.Making.{weight_in, specification_in, selection_in, revision_in};
-ghost use Rattle.lines.specs.Lines.{Held, Puts, too_large, with_atoms, start_in, specification, selection, revision};
+ghost use Rattle.lines.specs.Lines.{Held, Puts, PutAt, count_in, too_large, with_atoms, start_in, specification, selection, revision};
 
 use crate::lists::Edition1Set;
 use crate::made::Made;
-use layout::bytes::copy;
-use layout::sizes::edition_1_header;
 
 // Something is too large.
-pub fn too_large(mut m: Made) -> Made
+pub fn too_large(m: Made) -> Made
     ensures { result ≡ too_large m }
 {
-    m.large = true;
-    m
+    Made { large: true, ..m }
 }
 
-// A number's bytes, low byte first.
+// So many of a part of m, None if something is too large.
+pub fn count_in(m: Made, n: usize) -> Option<usize>
+    ensures { result ≡ count_in m n }
+{
+    if m.large { None } else { Some(n) }
+}
+
+// An entry behind the n others of a section that begins at start, if it has room for one more: how many it has then, None if
+// something is too large.
+fn put(card: &mut [u8], start: usize, n: Option<usize>, entry: &[u8]) -> Option<usize>
+    requires { (start + length entry.now * 256 ≤ length card.old) × IfSome n (λ k. k ≤ 256) }
+    ensures { PutAt card.old start n entry.now result card.new }
+{
+    let n = n?;
+    if n == 256 {
+        return None;
+    }
+    let at = start + entry.len() * n;
+    card[at..at + entry.len()].copy_from_slice(entry);
+    Some(n + 1)
+}
+
+// A number's bytes, low byte first. They are written out here and below, for to_le_bytes gives eight bytes or asks for a u16.
 fn two_bytes(n: usize) -> [u8; 2]
     ensures { result ≡ two_bytes n }
 {
@@ -25,39 +44,33 @@ fn two_bytes(n: usize) -> [u8; 2]
 }
 
 // An action's weight.
-pub fn put_weight(card: &mut [u8], mut m: Made, w: usize) -> Made
+pub fn put_weight(card: &mut [u8], m: Made, w: usize) -> Made
     requires { Held m card.old }
     ensures { Puts (weight_in (two_bytes w)) m card.old result card.new }
 {
-    if m.large {
-        return m;
-    }
-    let n = m.weights;
-    if n == 256 {
-        return too_large(m);
-    }
     let e = two_bytes(w);
-    copy(card, edition_1_header() + 2 * n, &e, 0, 2);
-    m.weights = n + 1;
-    m
+    match put(card, 64, count_in(m, m.weights), &e) {
+        Some(weights) => Made { weights, ..m },
+        None => too_large(m),
+    }
 }
 
 // "Specification, 36 bytes: action, node, 0, 0, Add, Del."
 fn specification_bytes(action: u8, node: u8, add: Edition1Set, del: Edition1Set) -> [u8; 36]
     ensures { result ≡ specification action node add del }
 {
-    let mut e = [0u8; 36];
+    let mut e = [0; 36];
     e[0] = action;
     e[1] = node;
-    copy(&mut e, 4, &add, 0, 16);
-    copy(&mut e, 20, &del, 0, 16);
+    e[4..20].copy_from_slice(&add);
+    e[20..36].copy_from_slice(&del);
     e
 }
 
 // A specification of an action.
 pub fn put_specification(
     card: &mut [u8],
-    mut m: Made,
+    m: Made,
     action: u8,
     node: u8,
     add: Edition1Set,
@@ -66,17 +79,14 @@ pub fn put_specification(
     requires { Held m card.old }
     ensures { Puts (specification_in (specification action node add del)) m card.old result card.new }
 {
-    if m.large {
-        return m;
-    }
-    let n = m.specifications;
-    if n == 256 {
-        return too_large(m);
-    }
     let e = specification_bytes(action, node, add, del);
-    copy(card, 1600 + 36 * n, &e, 0, 36);
-    m.specifications = n + 1;
-    m
+    match put(card, 1600, count_in(m, m.specifications), &e) {
+        Some(specifications) => Made {
+            specifications,
+            ..m
+        },
+        None => too_large(m),
+    }
 }
 
 // "Selection rule, 8 bytes: belief node, goal node, start, length (1..1,024), zero number."
@@ -98,7 +108,7 @@ fn selection_bytes(belief: u8, goal: u8, start: usize, len: usize) -> [u8; 8]
 // A selection rule.
 pub fn put_selection(
     card: &mut [u8],
-    mut m: Made,
+    m: Made,
     belief: u8,
     goal: u8,
     start: usize,
@@ -107,17 +117,11 @@ pub fn put_selection(
     requires { Held m card.old }
     ensures { Puts (selection_in (selection belief goal start len)) m card.old result card.new }
 {
-    if m.large {
-        return m;
-    }
-    let n = m.selections;
-    if n == 256 {
-        return too_large(m);
-    }
     let e = selection_bytes(belief, goal, start, len);
-    copy(card, 10816 + 8 * n, &e, 0, 8);
-    m.selections = n + 1;
-    m
+    match put(card, 10816, count_in(m, m.selections), &e) {
+        Some(selections) => Made { selections, ..m },
+        None => too_large(m),
+    }
 }
 
 // "Revision rule, 12 bytes: node, 0, head start, head length (1..1,024), body start, body length (0..1,024), zero number."
@@ -143,7 +147,7 @@ fn revision_bytes(node: u8, head: usize, h: usize, body: usize, b: usize) -> [u8
 // A revision rule, with where its head and its body start in the pool and how long they are.
 pub fn put_revision(
     card: &mut [u8],
-    mut m: Made,
+    m: Made,
     node: u8,
     head: usize,
     h: usize,
@@ -153,34 +157,28 @@ pub fn put_revision(
     requires { Held m card.old }
     ensures { Puts (revision_in (revision node head h body b)) m card.old result card.new }
 {
-    if m.large {
-        return m;
-    }
-    let n = m.revisions;
-    if n == 256 {
-        return too_large(m);
-    }
     let e = revision_bytes(node, head, h, body, b);
-    copy(card, 12864 + 12 * n, &e, 0, 12);
-    m.revisions = n + 1;
-    m
+    match put(card, 12864, count_in(m, m.revisions), &e) {
+        Some(revisions) => Made { revisions, ..m },
+        None => too_large(m),
+    }
 }
 
 // How many atoms there are.
-pub fn put_atoms(mut m: Made, n: usize) -> Made
+pub fn put_atoms(m: Made, n: usize) -> Made
     ensures { result ≡ with_atoms m n }
 {
     if n > 65535 {
-        return too_large(m);
+        too_large(m)
+    } else {
+        Made { atoms: n, ..m }
     }
-    m.atoms = n;
-    m
 }
 
 // The start: beliefs and goals, and where its plan starts in the pool and how long it is.
 pub fn put_start(
     card: &mut [u8],
-    mut m: Made,
+    m: Made,
     beliefs: Edition1Set,
     goals: Edition1Set,
     start: usize,
@@ -192,9 +190,7 @@ pub fn put_start(
     if m.large {
         return m;
     }
-    copy(card, 32, &beliefs, 0, 16);
-    copy(card, 48, &goals, 0, 16);
-    m.start = start;
-    m.len = len;
-    m
+    card[32..48].copy_from_slice(&beliefs);
+    card[48..64].copy_from_slice(&goals);
+    Made { start, len, ..m }
 }

@@ -5,8 +5,8 @@ use Prim.Native.Nat.{ℕ, ◌≤◌}
 use Rattle.runs.specs.Order.{enabled_codes}
 use Rattle.runs.proofs.Numbers.{length_made}
 use Rattle.meaning.specs.declared.Refusal.{Refusal}
-use Rattle.meaning.specs.declared.Answer.{Answer}
-use Rattle.meaning.specs.declared.Answer.TheVariants.{Done, Refused}
+use Rattle.meaning.specs.Answers.{Answer}
+use Rattle.std.specs.Prelude.{Ok, Err}
 use Rattle.meaning.specs.declared.Configuration.{Configuration}
 use Rattle.meaning.specs.declared.Layout.{Layout}
 use Rattle.meaning.specs.declared.Listed.{Listed}
@@ -32,7 +32,7 @@ module _ (b : Bytes) (c : Configuration) (out : List ℕ) where
       ∙ sym (lists_as b c out)
 
   -- a refusal
-  pub refused_told : (a : Answer) (q : Refusal) → a ≡ Refused q → written a 0 c ≡ writes b c (enabled_codes (agent b) (state_of c).mental) out
+  pub refused_told : (a : Answer) (q : Refusal) → a ≡ Err q → written a 0 c ≡ writes b c (enabled_codes (agent b) (state_of c).mental) out
       → (w : ListedInPlace) → w ≡ record { answer = a; count = 0; judged = 0; goals = 0 } → listed_with w c ≡ lists b c out
   refused_told a q e f w g =
       ap (λ (x : ListedInPlace). listed_with x c) g
@@ -42,12 +42,12 @@ module _ (b : Bytes) (c : Configuration) (out : List ℕ) where
       none n = sym (ap (λ x. number_by x n) e)
 
   -- done
-  pub done_told : (l : Layout) → l ≡ layout b → (n j g : ℕ) → written Done n c ≡ writes b c (enabled_codes (agent b) (state_of c).mental) out
+  pub done_told : (l : Layout) → l ≡ layout b → (n j g : ℕ) → written (Ok tt) n c ≡ writes b c (enabled_codes (agent b) (state_of c).mental) out
       → j ≡ conditions_judged (agent_for l b) (state_of c).mental → g ≡ size c.mind.goals
-      → listed_with (record { answer = Done; count = n; judged = j; goals = g }) c ≡ lists b c out
+      → listed_with (record { answer = Ok tt; count = n; judged = j; goals = g }) c ≡ lists b c out
   unfolding agent goals_open state_of
   done_told l e n j g w f h =
-      told (listed_with (record { answer = Done; count = n; judged = j; goals = g }) c) w
+      told (listed_with (record { answer = Ok tt; count = n; judged = j; goals = g }) c) w
       (f ∙ ap (λ x. conditions_judged (agent_for x b) (state_of c).mental) e) h
 
   -- "at most 512"

@@ -1,6 +1,7 @@
 -- How many conditions are judged for a choice, for those of a kind and in all; and that the kinds that are passed over have no
 -- enabled choice.
 use mathlib.Core.Path.{◌≡◌, refl, ap, ap₂, ◌∙◌, sym}
+use mathlib.Core.Logic.{◌⊎◌, ⊎_elim}
 use mathlib.Core.Bool.{Bool, true, false}
 use mathlib.Core.List.{List, [], ◌∷◌}
 use Prim.Native.Nat.{ℕ, zero, suc, ◌+◌, ◌*◌, ◌/◌, ◌%◌, ◌≤◌, ◌<◌}
@@ -13,6 +14,8 @@ use lib.ListN.{length, take}
 use Rattle.paper.specs.Language.{𝐁, Plan, Specification, Selection, Revision, Config}
 use Rattle.paper.specs.Transitions.{◌⊨◌, Choice, select, act, revise}
 use Rattle.paper.specs.Next.{if, is_empty, starts_with, is_prefix, enabled}
+use Rattle.runs.specs.declared.Kind.{Kind}
+use Rattle.runs.specs.Kinds.{kind_number}
 use Rattle.runs.specs.Order.{numbers}
 use Rattle.runs.proofs.Numbers.{length_made}
 use Rattle.meaning.specs.declared.Layout.{Layout}
@@ -35,6 +38,12 @@ use Rattle.listing.specs.Listed.{enabled_code}
 use Rattle.listing.specs.Looking.{goal_judged, judged_for, look_at, look_by, sum_of, judged_in}
 
 -- ---- one choice
+
+-- an action or a revision is no selection
+pub not_selection : (κ : Kind) → (κ ≡ Kind.Action) ⊎ (κ ≡ Kind.Revision) → kind_number κ ≡ 0 → ⊥
+not_selection Kind.Selection h e = ⊎_elim (λ u. let z : ◌≡◌ {A = ℕ} 0 1 = cc in omega arith) (λ u. let z : ◌≡◌ {A = ℕ} 0 1 = cc in omega arith) h
+not_selection Kind.Action h e = omega arith
+not_selection Kind.Revision h e = omega arith
 
 module _ (l : Layout) (b : Bytes) (c : Configuration) where
   abbrev s : Config

@@ -1,5 +1,6 @@
 // The list: "The list of enabled choices goes as two-byte numbers, rising, each once, into the lent list".
-ghost use Rattle.std.specs.Prelude.{◌≡◌, ◌+◌, ◌*◌, ◌≤◌, ◌<◌, length, replicate};
+ghost use Rattle.std.specs.Prelude.{◌≡◌, ◌+◌, ◌*◌, ◌≤◌, ◌<◌, length};
+ghost use Rattle.runs.specs.Kinds.{kind_number};
 ghost use Rattle.meaning.specs.Calls.{over, lists, list_leaves};
 ghost use Rattle.door.specs.Words.{configured};
 ghost use Rattle.listing.specs.Listed.{codes_in, CardCodes, over_from};
@@ -8,9 +9,11 @@ ghost use Rattle.listing.specs.Looking.{listed_with};
 use crate::gather::gather;
 use card::check::answer_of;
 use door::admit::admit;
+use door::asked::{kind_of, number_of};
 use door::room::judge_room;
-use layout::entries::count_of;
-use meaning::{Answer, Checked, Layout, Plan, Set, Standing};
+use layout::card::Card;
+use meaning::{Answer, Plan, Set, Standing};
+use runs::Kind;
 
 // The codes of a byte of a set over a lent list, from an entry on; answers where the next may go.
 fn write_byte(codes: &[u8; 96], b: usize, out: &mut [u16], at: usize) -> usize
@@ -22,51 +25,41 @@ fn write_byte(codes: &[u8; 96], b: usize, out: &mut [u16], at: usize) -> usize
     if bits == 0 {
         return at;
     }
-    let mut j: usize = at;
-    let mut i: usize = 0;
-    while i < 8 {
+    let mut j = at;
+    for i in 0..8 {
         if (bits >> i) % 2 == 1 {
             out[j] = (8 * b + i) as u16;
             j += 1;
         }
-        i += 1;
     }
     j
 }
 
 // The codes of a kind over a lent list, from an entry on; answers where the next may go.
-fn write_kind(codes: &[u8; 96], l: Layout, kind: u8, out: &mut [u16], at: usize) -> usize
-    requires kind_bound { (kind < 3) × CardCodes l codes.now }
-    requires kind_in_bounds { at + length (codes_in codes.now (256 * kind) 256) ≤ length out.old }
-    ensures value { result ≡ at + length (codes_in codes.now (256 * kind) 256) }
-    ensures out_after { out.new ≡ over_from at (codes_in codes.now (256 * kind) 256) out.old }
+fn write_kind(codes: &[u8; 96], card: &Card, kind: Kind, out: &mut [u16], at: usize) -> usize
+    requires kind_bound { CardCodes card.now.layout codes.now }
+    requires kind_in_bounds { at + length (codes_in codes.now (256 * kind_number kind) 256) ≤ length out.old }
+    ensures value { result ≡ at + length (codes_in codes.now (256 * kind_number kind) 256) }
+    ensures out_after { out.new ≡ over_from at (codes_in codes.now (256 * kind_number kind) 256) out.old }
 {
-    let first = 32 * (kind as usize);
-    let end = first + (count_of(l, kind) + 7) / 8;
-    let mut j: usize = at;
-    let mut b: usize = first;
-    while b < end {
+    let first = 32 * (number_of(kind) as usize);
+    let end = first + (card.count_of(kind) + 7) / 8;
+    let mut j = at;
+    for b in first..end {
         j = write_byte(codes, b, out, j);
-        b += 1;
     }
     j
 }
 
-// All codes of a set over the front of a lent list.
-fn write(codes: &[u8; 96], l: Layout, out: &mut [u16])
-    requires { CardCodes l codes.now × (length (codes_in codes.now 0 768) ≤ length out.old) }
+// All codes of a set over the front of a lent list: one kind after the other.
+fn write(codes: &[u8; 96], card: &Card, out: &mut [u16])
+    requires { CardCodes card.now.layout codes.now × (length (codes_in codes.now 0 768) ≤ length out.old) }
     ensures { out.new ≡ over (codes_in codes.now 0 768) out.old }
 {
-    let second = write_kind(codes, l, 0, out, 0);
-    let third = write_kind(codes, l, 1, out, second);
-    write_kind(codes, l, 2, out, third);
-}
-
-// No code.
-fn no_codes() -> [u8; 96]
-    ensures { result ≡ replicate 96 0 }
-{
-    [0u8; 96]
+    let mut at = 0;
+    for t in 0..3 {
+        at = write_kind(codes, card, kind_of(t), out, at);
+    }
 }
 
 // What `list` answers where sets and plan are lent: all of `Listed` but what these hold.
@@ -83,7 +76,7 @@ fn refused_list(answer: Answer) -> ListedInPlace
     ensures { result ≡ record { answer = answer; count = 0; judged = 0; goals = 0 } }
 {
     ListedInPlace {
-        answer: answer,
+        answer,
         count: 0,
         judged: 0,
         goals: 0,
@@ -106,18 +99,18 @@ pub fn list(
         ≡ list_leaves card.now (configured beliefs.now goals.now m plan.now) out.old }
 {
     let admitted = admit(card, beliefs, goals, m, plan);
-    let Checked::Good(l) = admitted else {
+    let Ok(card) = admitted else {
         return refused_list(answer_of(admitted));
     };
-    let mut codes = no_codes();
-    let looked = gather(card, l, beliefs, goals, m, plan, &mut codes);
+    let mut codes = [0u8; 96];
+    let looked = gather(&card, beliefs, goals, m, plan, &mut codes);
     let room = judge_room(looked.enabled, out.len());
-    let Answer::Done = room else {
+    let Ok(()) = room else {
         return refused_list(room);
     };
-    write(&codes, l, out);
+    write(&codes, &card, out);
     ListedInPlace {
-        answer: Answer::Done,
+        answer: Ok(()),
         count: looked.enabled as u16,
         judged: looked.judged as u16,
         goals: sets::size(*goals),

@@ -13,7 +13,7 @@ use Rattle.runs.specs.Order.{numbers}
 use Rattle.runs.specs.Theorems.{Numbered}
 use Rattle.runs.proofs.Numbers.{length_made}
 use Rattle.runs.proofs.Weight.{bounded_law}
-use Rattle.meaning.specs.declared.Answer.TheVariants.{Done}
+use Rattle.std.specs.Prelude.{Ok}
 use Rattle.meaning.specs.declared.Section.{Section}
 use Rattle.meaning.specs.declared.Layout.{Layout}
 use Rattle.meaning.specs.Sizes.{set_bytes, most_atoms, header_bytes, specification_bytes}
@@ -36,7 +36,7 @@ pub record Accepted (b : Bytes) : Type 0 where
   pub pool : actions_good (layout b).actions (pool (layout b) b) ≡ true
   pub sets : sets_good (layout b) b ≡ true
 
-pub accepted : (b : Bytes) → card_answer b ≡ Done → Accepted b
+pub accepted : (b : Bytes) → card_answer b ≡ Ok tt → Accepted b
 unfolding card_answer card_table
 accepted b e =
     let passed = row_passed b card_table e in

@@ -7,7 +7,7 @@ use borrow.Author.Tests.{not-true, ltb-true}
 use lib.Dec.{ltb}
 use lib.ListN.{get_or}
 use Rattle.paper.proofs.Relation.{both, false≢true}
-use Rattle.meaning.specs.declared.Answer.TheVariants.{Done}
+use Rattle.std.specs.Prelude.{Ok}
 use Rattle.meaning.specs.declared.Layout.{Layout}
 use Rattle.meaning.specs.Kinds.{NodeKind, node_kind}
 use Rattle.meaning.specs.Card.{Bytes, layout, node_at, specification_at, selection_at, revision_at}
@@ -69,7 +69,7 @@ module _ (l : Layout) (b : Bytes) (good : nodes_good l b ≡ true) {kind : ℕ} 
   asked i e j = let (known, free) = both (ltb i l.nodes.count) _ e in without (ltb-true _ _ known) (not-true _ free)
 
 -- what is asked for as a belief condition contains no goal atom
-pub no_goal_atom : (b : Bytes) → card_answer b ≡ Done → (n : ℕ) → condition_good (layout b) (containing 2 (layout b) b) n ≡ true → Without b 2 n
+pub no_goal_atom : (b : Bytes) → card_answer b ≡ Ok tt → (n : ℕ) → condition_good (layout b) (containing 2 (layout b) b) n ≡ true → Without b 2 n
 no_goal_atom b card n e = asked (layout b) b (accepted b card).nodes goal n e
 
 pub kind_law : KindLaw

@@ -11,13 +11,12 @@ use Rattle.runs.specs.declared.Verdict.{Verdict}
 use Rattle.runs.specs.Limits.{heaviest_plan}
 use Rattle.runs.specs.Weight.{weigh, light, verdict}
 use Rattle.meaning.specs.declared.Refusal.{Refusal}
-use Rattle.meaning.specs.declared.Answer.{Answer}
-use Rattle.meaning.specs.declared.Answer.TheVariants.{Done, Refused}
+use Rattle.meaning.specs.Answers.{Answer, BoundedAnswer}
+use Rattle.std.specs.Prelude.{Ok, Err}
 use Rattle.meaning.specs.declared.Configuration.{Configuration}
 use Rattle.meaning.specs.declared.Reply.{Reply}
 use Rattle.meaning.specs.declared.Ran.{Ran}
 use Rattle.meaning.specs.declared.BoundedRefusal.{BoundedRefusal}
-use Rattle.meaning.specs.declared.BoundedAnswer.{BoundedAnswer}
 use Rattle.meaning.specs.declared.BoundedEnding.{BoundedEnding}
 use Rattle.meaning.specs.declared.BoundedReply.{BoundedReply}
 use Rattle.meaning.specs.declared.BoundedRan.{BoundedRan}
@@ -73,13 +72,13 @@ narrowed BoundedRefusal.Front = refl
 narrowed (BoundedRefusal.Condition n) = refl
 
 narrow_answer : Answer → BoundedAnswer
-narrow_answer Done = BoundedAnswer.Done
-narrow_answer (Refused r) = BoundedAnswer.Refused (narrow r)
+narrow_answer (Ok _) = Ok tt
+narrow_answer (Err r) = Err (narrow r)
 
 narrowed_answer : (a : BoundedAnswer) → narrow_answer (as_answer a) ≡ a
 unfolding narrow_answer as_answer
-narrowed_answer BoundedAnswer.Done = refl
-narrowed_answer (BoundedAnswer.Refused r) = ap (λ q. BoundedAnswer.Refused q) (narrowed r)
+narrowed_answer (Ok _) = refl
+narrowed_answer (Err r) = ap (λ q. Err q) (narrowed r)
 
 narrow_ending : Ending → BoundedEnding
 narrow_ending Ending.Spent = BoundedEnding.Spent
@@ -123,11 +122,11 @@ as_ran_one {r} {r'} e = sym (narrowed_ran r) ∙ (ap narrow_ran e ∙ narrowed_r
 
 abbrev RowsHaveWords : {X : Type 0} → List (Row X) → X → Type 0
 RowsHaveWords [] x = Unit
-RowsHaveWords (q ∷ rows) x = HasWord (Refused (q.refusal x)) × RowsHaveWords rows x
+RowsHaveWords (q ∷ rows) x = HasWord (Err (q.refusal x)) × RowsHaveWords rows x
 
 table_word : {X : Type 0} (rows : List (Row X)) (x : X) → RowsHaveWords rows x → HasWord (first_given rows x)
 unfolding first_given as_answer
-table_word [] x h = (BoundedAnswer.Done, refl)
+table_word [] x h = (Ok tt, refl)
 table_word (q ∷ rows) x (w, h) = go (q.when x) refl (table_word rows x h)
   where
     go : (t : Bool) → q.when x ≡ t → HasWord (first_given rows x) → HasWord (first_given (q ∷ rows) x)
@@ -135,19 +134,19 @@ table_word (q ∷ rows) x (w, h) = go (q.when x) refl (table_word rows x h)
     go false e ih = (ih.0, ih.1 ∙ sym (not_given q rows x e))
 
 then_word : (a a' : Answer) → HasWord a → HasWord a' → HasWord (and_then a a')
-then_word Done a' h g = g
-then_word (Refused r) a' h g = h
+then_word (Ok _) a' h g = g
+then_word (Err r) a' h g = h
 
 card_word : (b : Bytes) → HasWord (card_answer b)
 unfolding card_answer card_table as_answer as_refusal
 card_word b = table_word card_table b (word BoundedRefusal.Short, (word BoundedRefusal.Mark, (word BoundedRefusal.Short, (word BoundedRefusal.Count, (word BoundedRefusal.Offsets, (word BoundedRefusal.Weight, (word BoundedRefusal.Node, (word BoundedRefusal.Rule, (word BoundedRefusal.ActionByte, (word BoundedRefusal.Atom, tt))))))))))
   where
-    word : (r : BoundedRefusal) → HasWord (Refused (as_refusal r))
-    word r = (BoundedAnswer.Refused r, refl)
+    word : (r : BoundedRefusal) → HasWord (Err (as_refusal r))
+    word r = (Err r, refl)
 
 pub configuration_word : (b : Bytes) (c : Configuration) → HasWord (configuration_answer b c)
 unfolding configuration_answer configuration_table as_answer as_refusal
-configuration_word b c = then_word (card_answer b) _ (card_word b) (table_word (configuration_table (layout b)) c ((BoundedAnswer.Refused BoundedRefusal.Configuration, refl), tt))
+configuration_word b c = then_word (card_answer b) _ (card_word b) (table_word (configuration_table (layout b)) c ((Err BoundedRefusal.Configuration, refl), tt))
 
 -- ---- what is refused before the call is made
 
@@ -164,55 +163,55 @@ module _ (b : Bytes) (c : Configuration) where
   unfolding bounded_good
   both_good v w = ap (λ x. is_bounded x && light (weight b) (state_of c).mental.π) v ∙ le-leb _ _ w
 
-  pub bounded_refused : (q : Refusal) → configuration_answer b c ≡ Refused q → bounded_answer b c ≡ Refused q
+  pub bounded_refused : (q : Refusal) → configuration_answer b c ≡ Err q → bounded_answer b c ≡ Err q
   unfolding bounded_answer
   bounded_refused q e = ap (λ a. and_then a (first_given (bounded_table b) c)) e
 
   -- row 22, of a card and a configuration that are good or not
-  heavy : bounded_good b c ≡ false → first_given (bounded_table b) c ≡ Refused Refusal.OpenOrHeavy
+  heavy : bounded_good b c ≡ false → first_given (bounded_table b) c ≡ Err Refusal.OpenOrHeavy
   unfolding bounded_table
   heavy e = given (Refusal.OpenOrHeavy given_when (λ (x : Configuration). not (bounded_good b x))) [] c (ap not e)
 
-  not_heavy : bounded_good b c ≡ true → first_given (bounded_table b) c ≡ Done
+  not_heavy : bounded_good b c ≡ true → first_given (bounded_table b) c ≡ Ok tt
   unfolding bounded_table first_given
   not_heavy e = not_given (Refusal.OpenOrHeavy given_when (λ (x : Configuration). not (bounded_good b x))) [] c (ap not e)
 
-  pub bounded_done : bounded_answer b c ≡ Done → (configuration_answer b c ≡ Done) × (bounded_good b c ≡ true)
+  pub bounded_done : bounded_answer b c ≡ Ok tt → (configuration_answer b c ≡ Ok tt) × (bounded_good b c ≡ true)
   unfolding bounded_answer
   bounded_done e = let (f, g) = and_then_done (configuration_answer b c) _ e in (f, go g (bounded_good b c) refl)
     where
-      go : first_given (bounded_table b) c ≡ Done → (t : Bool) → bounded_good b c ≡ t → bounded_good b c ≡ true
+      go : first_given (bounded_table b) c ≡ Ok tt → (t : Bool) → bounded_good b c ≡ t → bounded_good b c ≡ true
       go g true h = h
       go g false h = absurd (done≢refused (sym g ∙ heavy h))
 
-  module _ (on : configuration_answer b c ≡ Done) where
-    pub bounded_good_lem : bounded_good b c ≡ true → bounded_answer b c ≡ Done
+  module _ (on : configuration_answer b c ≡ Ok tt) where
+    pub bounded_good_lem : bounded_good b c ≡ true → bounded_answer b c ≡ Ok tt
     unfolding bounded_answer
     bounded_good_lem e = ap (λ a. and_then a (first_given (bounded_table b) c)) on ∙ not_heavy e
 
-    pub bounded_heavy : bounded_good b c ≡ false → bounded_answer b c ≡ Refused Refusal.OpenOrHeavy
+    pub bounded_heavy : bounded_good b c ≡ false → bounded_answer b c ≡ Err Refusal.OpenOrHeavy
     unfolding bounded_answer
     bounded_heavy e = ap (λ a. and_then a (first_given (bounded_table b) c)) on ∙ heavy e
 
   -- ---- the calls
 
-  pub bounded_takes_done : (code : ℕ) → bounded_answer b c ≡ Done → bounded_takes b c code ≡ takes b c code
+  pub bounded_takes_done : (code : ℕ) → bounded_answer b c ≡ Ok tt → bounded_takes b c code ≡ takes b c code
   unfolding bounded_takes
   bounded_takes_done code e = rw (e, bounded_takes)
 
-  pub bounded_takes_refused : (code : ℕ) (q : Refusal) → bounded_answer b c ≡ Refused q → bounded_takes b c code ≡ reply (Refused q) c
+  pub bounded_takes_refused : (code : ℕ) (q : Refusal) → bounded_answer b c ≡ Err q → bounded_takes b c code ≡ reply (Err q) c
   unfolding bounded_takes
   bounded_takes_refused code q e = rw (e, bounded_takes)
 
-  pub bounded_runs_done : (budget : ℕ) → bounded_answer b c ≡ Done → bounded_runs b c budget ≡ runs b c budget
+  pub bounded_runs_done : (budget : ℕ) → bounded_answer b c ≡ Ok tt → bounded_runs b c budget ≡ runs b c budget
   unfolding bounded_runs
   bounded_runs_done budget e = rw (e, bounded_runs)
 
-  pub bounded_runs_refused : (budget : ℕ) (q : Refusal) → bounded_answer b c ≡ Refused q → bounded_runs b c budget ≡ record { answer = Refused q; count = 0; ending = Ending.Spent; configuration = c }
+  pub bounded_runs_refused : (budget : ℕ) (q : Refusal) → bounded_answer b c ≡ Err q → bounded_runs b c budget ≡ record { answer = Err q; count = 0; ending = Ending.Spent; configuration = c }
   unfolding bounded_runs
   bounded_runs_refused budget q e = rw (e, bounded_runs)
 
 -- a card or a configuration that is refused, and 22, have a word
 pub bounded_word : (b : Bytes) (c : Configuration) → HasWord (bounded_answer b c)
 unfolding bounded_answer bounded_table as_answer as_refusal
-bounded_word b c = then_word (configuration_answer b c) _ (configuration_word b c) (table_word (bounded_table b) c ((BoundedAnswer.Refused BoundedRefusal.OpenOrHeavy, refl), tt))
+bounded_word b c = then_word (configuration_answer b c) _ (configuration_word b c) (table_word (bounded_table b) c ((Err BoundedRefusal.OpenOrHeavy, refl), tt))

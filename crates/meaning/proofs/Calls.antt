@@ -11,9 +11,8 @@ use Rattle.runs.specs.declared.Offender.{Offender}
 use Rattle.runs.specs.Weight.{verdict}
 use Rattle.meaning.specs.declared.Refusal.{Refusal}
 use Rattle.meaning.specs.declared.Layout.{Layout}
-use Rattle.meaning.specs.declared.Answer.{Answer}
-use Rattle.meaning.specs.declared.Answer.TheVariants.{Done, Refused}
-use Rattle.meaning.specs.declared.Checked.{Checked}
+use Rattle.meaning.specs.Answers.{Answer, Checked}
+use Rattle.std.specs.Prelude.{Ok, Err}
 use Rattle.meaning.specs.declared.Coming.{Coming}
 use Rattle.meaning.specs.Card.{Bytes, layout, weight, agent, initial_plan, start}
 use Rattle.runs.specs.declared.Ending.{Ending}
@@ -34,82 +33,82 @@ use Rattle.meaning.specs.Calls.{checks, reply, loads, graded, grades, written, o
 use Rattle.meaning.proofs.Tables.{given, not_given}
 
 module _ (b : Bytes) where
-  pub checks_good : card_answer b ≡ Done → checks b ≡ Checked.Good (layout b)
+  pub checks_good : card_answer b ≡ Ok tt → checks b ≡ Ok (layout b)
   unfolding checks
   checks_good e = rw (e, checks)
 
-  pub checks_refused : (r : Refusal) → card_answer b ≡ Refused r → checks b ≡ Checked.Refused r
+  pub checks_refused : (r : Refusal) → card_answer b ≡ Err r → checks b ≡ Err r
   unfolding checks
   checks_refused r e = rw (e, checks)
 
-  pub loads_good : card_answer b ≡ Done → loads b ≡ reply Done (configuration_of (start b))
+  pub loads_good : card_answer b ≡ Ok tt → loads b ≡ reply (Ok tt) (configuration_of (start b))
   unfolding loads
   loads_good e = rw (e, loads)
 
-  pub loads_refused : (r : Refusal) → card_answer b ≡ Refused r → loads b ≡ reply (Refused r) empty
+  pub loads_refused : (r : Refusal) → card_answer b ≡ Err r → loads b ≡ reply (Err r) empty
   unfolding loads
   loads_refused r e = rw (e, loads)
 
-  pub grades_good : card_answer b ≡ Done → grades b ≡ graded Done (verdict (weight b) (agent b) (initial_plan b))
+  pub grades_good : card_answer b ≡ Ok tt → grades b ≡ graded (Ok tt) (verdict (weight b) (agent b) (initial_plan b))
   unfolding grades
   grades_good e = rw (e, grades)
 
-  pub grades_refused : (r : Refusal) → card_answer b ≡ Refused r → grades b ≡ graded (Refused r) (Verdict.Open Offender.InitialPlan)
+  pub grades_refused : (r : Refusal) → card_answer b ≡ Err r → grades b ≡ graded (Err r) (Verdict.Open Offender.InitialPlan)
   unfolding grades
   grades_refused r e = rw (e, grades)
 
   -- and back: what a checked card was answered with
   abbrev Judged : Checked → Type 0
-  Judged (Checked.Good l) = (card_answer b ≡ Done) × (l ≡ layout b)
-  Judged (Checked.Refused r) = card_answer b ≡ Refused r
+  Judged (Ok l) = (card_answer b ≡ Ok tt) × (l ≡ layout b)
+  Judged (Err r) = card_answer b ≡ Err r
 
   judged : Judged (checks b)
   judged = go (card_answer b) refl
     where
       go : (a : Answer) → card_answer b ≡ a → Judged (checks b)
-      go Done e = subst Judged (sym (checks_good e)) (e, refl)
-      go (Refused r) e = subst Judged (sym (checks_refused r e)) e
+      go (Ok _) e = subst Judged (sym (checks_good e)) (e, refl)
+      go (Err r) e = subst Judged (sym (checks_refused r e)) e
 
-  pub good_judged : (l : Layout) → checks b ≡ Checked.Good l → (card_answer b ≡ Done) × (l ≡ layout b)
+  pub good_judged : (l : Layout) → checks b ≡ Ok l → (card_answer b ≡ Ok tt) × (l ≡ layout b)
   good_judged l e = subst Judged e judged
 
-  pub refused_judged : (r : Refusal) → checks b ≡ Checked.Refused r → card_answer b ≡ Refused r
+  pub refused_judged : (r : Refusal) → checks b ≡ Err r → card_answer b ≡ Err r
   refused_judged r e = subst Judged e judged
 
 -- ---- the calls that are handed a configuration, on a good card
 
-module _ (b : Bytes) (c : Configuration) (card : card_answer b ≡ Done) where
-  pub configuration_refused : configuration_good (layout b) c ≡ false → configuration_answer b c ≡ Refused Refusal.Configuration
+module _ (b : Bytes) (c : Configuration) (card : card_answer b ≡ Ok tt) where
+  pub configuration_refused : configuration_good (layout b) c ≡ false → configuration_answer b c ≡ Err Refusal.Configuration
   unfolding configuration_answer configuration_table
   configuration_refused e = ap (λ a. and_then a (first_given (configuration_table (layout b)) c)) card ∙ given (Refusal.Configuration given_when (λ (x : Configuration). not (configuration_good (layout b) x))) [] c (ap not e)
 
-  pub configuration_good_lem : configuration_good (layout b) c ≡ true → configuration_answer b c ≡ Done
+  pub configuration_good_lem : configuration_good (layout b) c ≡ true → configuration_answer b c ≡ Ok tt
   unfolding configuration_answer configuration_table first_given
   configuration_good_lem e = ap (λ a. and_then a (first_given (configuration_table (layout b)) c)) card ∙ not_given (Refusal.Configuration given_when (λ (x : Configuration). not (configuration_good (layout b) x))) [] c (ap not e)
 
 module _ (b : Bytes) (c : Configuration) where
-  pub takes_refused : (code : ℕ) (r : Refusal) → configuration_answer b c ≡ Refused r → takes b c code ≡ reply (Refused r) c
+  pub takes_refused : (code : ℕ) (r : Refusal) → configuration_answer b c ≡ Err r → takes b c code ≡ reply (Err r) c
   unfolding takes
   takes_refused code r e = rw (e, takes)
 
-  pub runs_refused : (budget : ℕ) (r : Refusal) → configuration_answer b c ≡ Refused r → runs b c budget ≡ record { answer = Refused r; count = 0; ending = Ending.Spent; configuration = c }
+  pub runs_refused : (budget : ℕ) (r : Refusal) → configuration_answer b c ≡ Err r → runs b c budget ≡ record { answer = Err r; count = 0; ending = Ending.Spent; configuration = c }
   unfolding runs
   runs_refused budget r e = rw (e, runs)
 
-  pub nexts_refused : (r : Refusal) → configuration_answer b c ≡ Refused r → nexts b c ≡ record { answer = Refused r; coming = Coming.Rest; configuration = c }
+  pub nexts_refused : (r : Refusal) → configuration_answer b c ≡ Err r → nexts b c ≡ record { answer = Err r; coming = Coming.Rest; configuration = c }
   unfolding nexts
   nexts_refused r e = rw (e, nexts)
 
-module _ (b : Bytes) (c : Configuration) (good : configuration_answer b c ≡ Done) where
-  pub takes_nothing : (code : ℕ) → step_by (agent b) (state_of c) (choice code) ≡ nothing → takes b c code ≡ reply (Refused (why_closed (layout b) b (state_of c).mental (choice code))) c
+module _ (b : Bytes) (c : Configuration) (good : configuration_answer b c ≡ Ok tt) where
+  pub takes_nothing : (code : ℕ) → step_by (agent b) (state_of c) (choice code) ≡ nothing → takes b c code ≡ reply (Err (why_closed (layout b) b (state_of c).mental (choice code))) c
   unfolding takes
   takes_nothing code e = rw (good, takes, e)
 
-  pub takes_full : (code : ℕ) → step_by (agent b) (state_of c) (choice code) ≡ full → takes b c code ≡ reply (Refused Refusal.PlanFull) c
+  pub takes_full : (code : ℕ) → step_by (agent b) (state_of c) (choice code) ≡ full → takes b c code ≡ reply (Err Refusal.PlanFull) c
   unfolding takes
   takes_full code e = rw (good, takes, e)
 
-  pub takes_to : (code : ℕ) (k : Choice) (s : State) → step_by (agent b) (state_of c) (choice code) ≡ to k s → takes b c code ≡ reply Done (configuration_of s)
+  pub takes_to : (code : ℕ) (k : Choice) (s : State) → step_by (agent b) (state_of c) (choice code) ≡ to k s → takes b c code ≡ reply (Ok tt) (configuration_of s)
   unfolding takes
   takes_to code k s e = rw (good, takes, e)
 
@@ -117,7 +116,7 @@ module _ (b : Bytes) (c : Configuration) (good : configuration_answer b c ≡ Do
   unfolding runs
   runs_good budget = rw (good, runs)
 
-  pub nexts_good : nexts b c ≡ record { answer = Done; coming = coming (agent b) (state_of c); configuration = c }
+  pub nexts_good : nexts b c ≡ record { answer = Ok tt; coming = coming (agent b) (state_of c); configuration = c }
   unfolding nexts
   nexts_good = rw (good, nexts)
 
@@ -135,22 +134,22 @@ module _ (A : Agent) (s : State) where
 -- ---- list and save: xs is to be written to out
 
 module _ (b : Bytes) (c : Configuration) (xs out : List ℕ) where
-  pub written_done : write_answer b c xs out ≡ Done → (writes b c xs out ≡ written Done (length xs) c) × (leaves b c xs out ≡ over xs out)
+  pub written_done : write_answer b c xs out ≡ Ok tt → (writes b c xs out ≡ written (Ok tt) (length xs) c) × (leaves b c xs out ≡ over xs out)
   unfolding writes leaves
   written_done e = (rw (e, writes), rw (e, leaves))
 
-  pub written_refused : (r : Refusal) → write_answer b c xs out ≡ Refused r → (writes b c xs out ≡ written (Refused r) 0 c) × (leaves b c xs out ≡ out)
+  pub written_refused : (r : Refusal) → write_answer b c xs out ≡ Err r → (writes b c xs out ≡ written (Err r) 0 c) × (leaves b c xs out ≡ out)
   unfolding writes leaves
   written_refused r e = (rw (e, writes), rw (e, leaves))
 
-  pub writes_refused : (r : Refusal) → configuration_answer b c ≡ Refused r → (writes b c xs out ≡ written (Refused r) 0 c) × (leaves b c xs out ≡ out)
+  pub writes_refused : (r : Refusal) → configuration_answer b c ≡ Err r → (writes b c xs out ≡ written (Err r) 0 c) × (leaves b c xs out ≡ out)
   writes_refused r e = written_refused r (rw (e, write_answer))
 
-  module _ (good : configuration_answer b c ≡ Done) where
-    pub writes_room : leb (length xs) (length out) ≡ true → (writes b c xs out ≡ written Done (length xs) c) × (leaves b c xs out ≡ over xs out)
+  module _ (good : configuration_answer b c ≡ Ok tt) where
+    pub writes_room : leb (length xs) (length out) ≡ true → (writes b c xs out ≡ written (Ok tt) (length xs) c) × (leaves b c xs out ≡ over xs out)
     writes_room e = written_done (rw (good, write_answer) (rw (e, room_for)))
 
-    pub writes_no_room : leb (length xs) (length out) ≡ false → (writes b c xs out ≡ written (Refused Refusal.NoRoom) 0 c) × (leaves b c xs out ≡ out)
+    pub writes_no_room : leb (length xs) (length out) ≡ false → (writes b c xs out ≡ written (Err Refusal.NoRoom) 0 c) × (leaves b c xs out ≡ out)
     writes_no_room e = written_refused Refusal.NoRoom (rw (good, write_answer) (rw (e, room_for)))
 
 -- what list and save answer alike
@@ -180,22 +179,22 @@ module _ (b : Bytes) (c : Configuration) (out : List ℕ) where
       let f = e ∙ lists_as in
       ap (λ (x : Listed). x.goals) f ∙ ap (λ (x : Listed). number_by x.answer (goals_open (state_of c).mental)) (sym f)
 
-  pub lists_refused : (r : Refusal) → configuration_answer b c ≡ Refused r → (lists b c out ≡ listed (written (Refused r) 0 c) 0 0) × (list_leaves b c out ≡ out)
+  pub lists_refused : (r : Refusal) → configuration_answer b c ≡ Err r → (lists b c out ≡ listed (written (Err r) 0 c) 0 0) × (list_leaves b c out ≡ out)
   unfolding list_leaves
   lists_refused r e =
       let (x, y) = writes_refused b c codes out r e in
       (lists_as ∙ ap (λ w. listed w (conditions_judged (agent b) (state_of c).mental) (goals_open (state_of c).mental)) x, y)
 
-  pub saves_refused : (r : Refusal) → configuration_answer b c ≡ Refused r → (saves b c out ≡ written (Refused r) 0 c) × (save_leaves b c out ≡ out)
+  pub saves_refused : (r : Refusal) → configuration_answer b c ≡ Err r → (saves b c out ≡ written (Err r) 0 c) × (save_leaves b c out ≡ out)
   unfolding saves save_leaves
   saves_refused r e = writes_refused b c (place (layout b) (state_of c)) out r e
 
 -- ---- restore
 
-pub restores_good : (b p : Bytes) → place_answer b p ≡ Done → restores b p ≡ reply Done (configuration_of (placed (layout b) p))
+pub restores_good : (b p : Bytes) → place_answer b p ≡ Ok tt → restores b p ≡ reply (Ok tt) (configuration_of (placed (layout b) p))
 unfolding restores
 restores_good b p e = rw (e, restores)
 
-pub restores_refused : (b p : Bytes) (q : Refusal) → place_answer b p ≡ Refused q → restores b p ≡ reply (Refused q) empty
+pub restores_refused : (b p : Bytes) (q : Refusal) → place_answer b p ≡ Err q → restores b p ≡ reply (Err q) empty
 unfolding restores
 restores_refused b p q e = rw (e, restores)

@@ -15,7 +15,7 @@ use Rattle.paper.proofs.Relation.{both}
 use Rattle.runs.specs.Limits.{most_finished}
 use Rattle.runs.specs.Order.{State}
 use Rattle.meaning.specs.declared.Layout.{Layout}
-use Rattle.meaning.specs.declared.Answer.TheVariants.{Done}
+use Rattle.std.specs.Prelude.{Ok}
 use Rattle.meaning.specs.Sizes.{set_bytes, place_goals_at, plan_at}
 use Rattle.meaning.specs.Card.{Bytes, byte, number_at, part, widened, set_at}
 use Rattle.meaning.specs.Place.{place_header, place, placed}
@@ -86,7 +86,7 @@ pub record GoodPlace (l : Layout) (p : Bytes) : Type 0 where
   pub beliefs : set_good l.atoms (set_at l p 12) ≡ true
   pub goals : set_good l.atoms (set_at l p (place_goals_at (set_bytes l))) ≡ true
 
-pub good_place : (l : Layout) (p : Bytes) → first_given (place_table l) p ≡ Done → GoodPlace l p
+pub good_place : (l : Layout) (p : Bytes) → first_given (place_table l) p ≡ Ok tt → GoodPlace l p
 unfolding place_table
 good_place l p e =
     let passed = row_passed p (place_table l) e in
@@ -120,7 +120,7 @@ same_header y p bs h n f m l k q =
     sym h.mark0 i ∷ sym h.mark1 i ∷ e2 i ∷ e3 i ∷ low_byte p 4 n bs l i ∷ high_byte p 4 n bs l i ∷ e6 i ∷ e7 i
     ∷ low_byte p 8 f bs k i ∷ high_byte p 8 f bs k i ∷ low_byte p 10 m bs q i ∷ high_byte p 10 m bs q i ∷ []
 
-restored_saved : (y : Layout) (p : Bytes) → AreBytes p → first_given (place_table y) p ≡ Done → place y (placed y p) ≡ p
+restored_saved : (y : Layout) (p : Bytes) → AreBytes p → first_given (place_table y) p ≡ Ok tt → place y (placed y p) ≡ p
 unfolding placed place part
 restored_saved y p bs e =
     let h = good_place y p e in

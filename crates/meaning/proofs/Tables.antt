@@ -8,20 +8,20 @@ use Prim.Native.Nat.{ℕ, zero, suc}
 use native.Mathlib.Omega.{arith}
 use lib.ListN.{get_or}
 use Rattle.meaning.specs.declared.Refusal.{Refusal}
-use Rattle.meaning.specs.declared.Answer.{Answer}
-use Rattle.meaning.specs.declared.Answer.TheVariants.{Done, Refused}
+use Rattle.meaning.specs.Answers.{Answer}
+use Rattle.std.specs.Prelude.{Ok, Err}
 use Rattle.meaning.specs.Refusals.{number_of, Row, ◌given_when◌, first_given, card_table, place_table, configuration_table, and_then}
 use Rattle.meaning.specs.BoundedCalls.{bounded_table}
 use Rattle.meaning.specs.Theorems.{FirstRow, TableLaw, TableOrder}
 
-pub done≢refused : {r : Refusal} → ◌≡◌ {A = Answer} Done (Refused r) → ⊥
+pub done≢refused : {r : Refusal} → ◌≡◌ {A = Answer} (Ok tt) (Err r) → ⊥
 done≢refused e = let z : ◌≡◌ {A = ℕ} 0 1 = cc in omega arith
 
-pub refused_inj : {r q : Refusal} → Refused r ≡ Refused q → r ≡ q
+pub refused_inj : {r q : Refusal} → ◌≡◌ {A = Answer} (Err r) (Err q) → r ≡ q
 refused_inj e = cc
 
 module _ {X : Type 0} (q : Row X) (rows : List (Row X)) (x : X) where
-  pub given : q.when x ≡ true → first_given (q ∷ rows) x ≡ Refused (q.refusal x)
+  pub given : q.when x ≡ true → first_given (q ∷ rows) x ≡ Err (q.refusal x)
   unfolding first_given
   given e = rw (e, first_given)
 
@@ -30,20 +30,20 @@ module _ {X : Type 0} (q : Row X) (rows : List (Row X)) (x : X) where
   not_given e = rw (e, first_given)
 
   -- a row of a card that is answered "done" does not hold, and the rest is answered "done"
-  pub passes : first_given (q ∷ rows) x ≡ Done → (q.when x ≡ false) × (first_given rows x ≡ Done)
+  pub passes : first_given (q ∷ rows) x ≡ Ok tt → (q.when x ≡ false) × (first_given rows x ≡ Ok tt)
   passes e = go (q.when x) refl
     where
-      go : (b : Bool) → q.when x ≡ b → (q.when x ≡ false) × (first_given rows x ≡ Done)
+      go : (b : Bool) → q.when x ≡ b → (q.when x ≡ false) × (first_given rows x ≡ Ok tt)
       go true h = absurd (done≢refused (sym e ∙ given h))
       go false h = (h, sym (not_given h) ∙ e)
 
 module _ {X : Type 0} (x : X) where
-  first_row : (rows : List (Row X)) (r : Refusal) → first_given rows x ≡ Refused r → FirstRow rows x r
+  first_row : (rows : List (Row X)) (r : Refusal) → first_given rows x ≡ Err r → FirstRow rows x r
   unfolding first_given
   first_row [] r e = absurd (done≢refused e)
   first_row (q ∷ rows) r e = go (q.when x) refl (first_row rows r)
     where
-      go : (b : Bool) → q.when x ≡ b → (first_given rows x ≡ Refused r → FirstRow rows x r) → FirstRow (q ∷ rows) x r
+      go : (b : Bool) → q.when x ≡ b → (first_given rows x ≡ Err r → FirstRow rows x r) → FirstRow (q ∷ rows) x r
       go true h ih =
           record {
             before = [];
@@ -70,26 +70,26 @@ module _ {X : Type 0} (x : X) where
   skip [] rows h = refl
   skip (q ∷ before) rows h = not_given q (before ++ rows) x (h q (Memᴰ.head refl)) ∙ skip before rows (λ p i. h p (Memᴰ.tail i))
 
-  row_first : (rows : List (Row X)) (r : Refusal) → FirstRow rows x r → first_given rows x ≡ Refused r
+  row_first : (rows : List (Row X)) (r : Refusal) → FirstRow rows x r → first_given rows x ≡ Err r
   row_first rows r f =
       ap (λ rs. first_given rs x) f.stands
       ∙ skip f.before (f.row ∷ f.behind) f.passed
       ∙ given f.row f.behind x f.holds
-      ∙ ap {B = Answer} (λ s. Refused s) f.answers
+      ∙ ap {B = Answer} (λ s. Err s) f.answers
 
-  none_holds : (rows : List (Row X)) → first_given rows x ≡ Done → (q : Row X) → Memᴰ q rows → q.when x ≡ false
+  none_holds : (rows : List (Row X)) → first_given rows x ≡ Ok tt → (q : Row X) → Memᴰ q rows → q.when x ≡ false
   none_holds [] e q i = absurd (Memᴰ.not-nil i)
   none_holds (p ∷ rows) e q i =
       let (h, rest) = passes p rows x e in
       ⊎_elim (λ s. rw s h) (none_holds rows rest q) (Memᴰ.cases_cons i)
 
   -- a row by its place in the table
-  pub row_passed : (rows : List (Row X)) → first_given rows x ≡ Done → (k : ℕ) → (get_or rows k (Refusal.Short given_when (λ x. false))).when x ≡ false
+  pub row_passed : (rows : List (Row X)) → first_given rows x ≡ Ok tt → (k : ℕ) → (get_or rows k (Refusal.Short given_when (λ x. false))).when x ≡ false
   row_passed [] e k = refl
   row_passed (q ∷ rows) e zero = (passes q rows x e).0
   row_passed (q ∷ rows) e (suc k) = row_passed rows (passes q rows x e).1 k
 
-  all_passed : (rows : List (Row X)) → ((q : Row X) → Memᴰ q rows → q.when x ≡ false) → first_given rows x ≡ Done
+  all_passed : (rows : List (Row X)) → ((q : Row X) → Memᴰ q rows → q.when x ≡ false) → first_given rows x ≡ Ok tt
   unfolding first_given
   all_passed [] h = refl
   all_passed (q ∷ rows) h = not_given q rows x (h q (Memᴰ.head refl)) ∙ all_passed rows (λ p i. h p (Memᴰ.tail i))
@@ -106,6 +106,6 @@ unfolding number_of card_table place_table configuration_table bounded_table
 table_order = record { card = λ b. refl; place = λ l p. refl; configuration = λ l c. refl; bounded = λ b c. refl }
 
 -- two answers one after the other
-pub and_then_done : (a a' : Answer) → and_then a a' ≡ Done → (a ≡ Done) × (a' ≡ Done)
-and_then_done Done a' e = (refl, e)
-and_then_done (Refused r) a' e = absurd (done≢refused (sym e))
+pub and_then_done : (a a' : Answer) → and_then a a' ≡ Ok tt → (a ≡ Ok tt) × (a' ≡ Ok tt)
+and_then_done (Ok _) a' e = (refl, e)
+and_then_done (Err r) a' e = absurd (done≢refused (sym e))

@@ -1,18 +1,16 @@
 -- What a chosen move and a run for bounded cards answer, on all bytes and numbers, refusals too. 02, Wish 10: "Give a run and a
 -- chosen move for bounded cards that start from a plan weighing at most 1,024, show that 11 and the ending "full" cannot arise
 -- there, and take both out of these answers."
-use Rattle.std.specs.Prelude.{◌≡◌, Bool, true, false, not, ◌&&◌, List, [], ◌∷◌, ℕ}
+use Rattle.std.specs.Prelude.{◌≡◌, Bool, true, false, not, ◌&&◌, List, [], ◌∷◌, ℕ, Ok, Err}
 use Rattle.runs.specs.declared.Ending.{Ending}
 use Rattle.runs.specs.declared.Verdict.{Verdict}
 use Rattle.runs.specs.Weight.{light, verdict}
 use Rattle.meaning.specs.declared.Refusal.{Refusal}
-use Rattle.meaning.specs.declared.Answer.{Answer}
-use Rattle.meaning.specs.declared.Answer.TheVariants.{Done, Refused}
+use Rattle.meaning.specs.Answers.{Answer, BoundedAnswer}
 use Rattle.meaning.specs.declared.Configuration.{Configuration}
 use Rattle.meaning.specs.declared.Reply.{Reply}
 use Rattle.meaning.specs.declared.Ran.{Ran}
 use Rattle.meaning.specs.declared.BoundedRefusal.{BoundedRefusal}
-use Rattle.meaning.specs.declared.BoundedAnswer.{BoundedAnswer}
 use Rattle.meaning.specs.declared.BoundedEnding.{BoundedEnding}
 use Rattle.meaning.specs.declared.BoundedReply.{BoundedReply}
 use Rattle.meaning.specs.declared.BoundedRan.{BoundedRan}
@@ -42,8 +40,8 @@ as_refusal (BoundedRefusal.Condition n) = Refusal.Condition n
 
 -- An answer of these calls, done or refused.
 unfoldable pub as_answer : BoundedAnswer → Answer
-as_answer BoundedAnswer.Done = Done
-as_answer (BoundedAnswer.Refused r) = Refused (as_refusal r)
+as_answer (Ok _) = Ok tt
+as_answer (Err r) = Err (as_refusal r)
 
 -- An ending of such a run. 02, Wish 10: "full" is not among them.
 unfoldable pub as_ending : BoundedEnding → Ending
@@ -82,16 +80,16 @@ bounded_answer b c = and_then (configuration_answer b c) (first_given (bounded_t
 -- 02, Wish 10: "a chosen move for bounded cards": where nothing is refused before it, what take answers.
 unfoldable pub bounded_takes : Bytes → Configuration → ℕ → Reply
 bounded_takes b c code = elim (bounded_answer b c) [
-  | Done ↦ takes b c code
-  | Refused r ↦ reply (Refused r) c
+  | Ok _ ↦ takes b c code
+  | Err r ↦ reply (Err r) c
 ]
 
 -- 02, Wish 10: "a run … for bounded cards": where nothing is refused before it, what run answers. A refused one has count 0 and
 -- ends spent (docs/DECISIONS.md, "What a refused run says beside its number").
 unfoldable pub bounded_runs : Bytes → Configuration → ℕ → Ran
 bounded_runs b c budget = elim (bounded_answer b c) [
-  | Done ↦ runs b c budget
-  | Refused r ↦ record { answer = Refused r; count = 0; ending = Ending.Spent; configuration = c }
+  | Ok _ ↦ runs b c budget
+  | Err r ↦ record { answer = Err r; count = 0; ending = Ending.Spent; configuration = c }
 ]
 
 -- ---- 11 and full have no word

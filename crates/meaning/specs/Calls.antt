@@ -2,7 +2,7 @@
 -- 01, "Numbers the guide may answer": "A refusal answers the number and the configuration as it came in; load, restore and
 -- grading, which have none, answer the empty one (no atoms, empty plan, phase 0). Any count in a refusal is 0. No lent buffer
 -- is written."
-use Rattle.std.specs.Prelude.{true, false, List, [], ◌∷◌, ◌++◌, ℕ, ◌/◌, ◌%◌, leb, length, drop}
+use Rattle.std.specs.Prelude.{true, false, List, [], ◌∷◌, ◌++◌, ℕ, ◌/◌, ◌%◌, leb, length, drop, Ok, Err}
 use Rattle.std.proofs.Math.Option.{Option, none, some}
 use Rattle.std.proofs.Math.ListN.{get_elem?}
 use Rattle.paper.specs.Language.{Agent}
@@ -15,10 +15,8 @@ use Rattle.runs.specs.Step.{Reached, nothing, full, to, step, step_by}
 use Rattle.runs.specs.Run.{Outcome, run}
 use Rattle.runs.specs.Weight.{verdict}
 use Rattle.meaning.specs.declared.Refusal.{Refusal}
-use Rattle.meaning.specs.declared.Answer.{Answer}
-use Rattle.meaning.specs.declared.Answer.TheVariants.{Done, Refused}
+use Rattle.meaning.specs.Answers.{Answer, Checked}
 use Rattle.meaning.specs.declared.Configuration.{Configuration}
-use Rattle.meaning.specs.declared.Checked.{Checked}
 use Rattle.meaning.specs.declared.Reply.{Reply}
 use Rattle.meaning.specs.declared.Graded.{Graded}
 use Rattle.meaning.specs.declared.Written.{Written}
@@ -37,7 +35,7 @@ use Rattle.meaning.specs.Looking.{conditions_judged, goals_open}
 
 -- 01, "What the guide does": "check a card": its layout, or the refusal (docs/DECISIONS.md, "What check answers").
 unfoldable pub checks : Bytes → Checked
-checks b = elim (card_answer b) [ Done ↦ Checked.Good (layout b) | Refused r ↦ Checked.Refused r ]
+checks b = elim (card_answer b) [ Ok _ ↦ Ok (layout b) | Err r ↦ Err r ]
 
 -- What load, take and restore answer: 01, "Numbers the guide may answer": "the number and the configuration". Serves loads,
 -- takes and restores.
@@ -48,8 +46,8 @@ reply a c = record { answer = a; configuration = c }
 -- Refused: 01, "Numbers the guide may answer": "load, restore and grading, which have none, answer the empty one".
 unfoldable pub loads : Bytes → Reply
 loads b = elim (card_answer b) [
-  | Done ↦ reply Done (configuration_of (start b))
-  | Refused r ↦ reply (Refused r) empty
+  | Ok _ ↦ reply (Ok tt) (configuration_of (start b))
+  | Err r ↦ reply (Err r) empty
 ]
 
 -- What grading answers, with the empty configuration in any case (docs/DECISIONS.md, "What grading answers as configuration
@@ -61,8 +59,8 @@ graded a v = record { answer = a; verdict = v; configuration = empty }
 -- (docs/DECISIONS.md, "What a refused grading says").
 unfoldable pub grades : Bytes → Graded
 grades b = elim (card_answer b) [
-  | Done ↦ graded Done (verdict (weight b) (agent b) (initial_plan b))
-  | Refused r ↦ graded (Refused r) (Verdict.Open Offender.InitialPlan)
+  | Ok _ ↦ graded (Ok tt) (verdict (weight b) (agent b) (initial_plan b))
+  | Err r ↦ graded (Err r) (Verdict.Open Offender.InitialPlan)
 ]
 
 -- ---- list and save: the answer, and the lent buffer afterwards
@@ -75,7 +73,7 @@ written a n c = record { answer = a; count = n; configuration = c }
 -- 01, "Numbers the guide may answer", row 12: "the lent list or place buffer is too short": the room is looked at once what is
 -- to be written is known (docs/DECISIONS.md, "Room").
 abbrev pub room_for : List ℕ → List ℕ → Answer
-room_for xs out = elim (leb (length xs) (length out)) [ true ↦ Done | false ↦ Refused Refusal.NoRoom ]
+room_for xs out = elim (leb (length xs) (length out)) [ true ↦ Ok tt | false ↦ Err Refusal.NoRoom ]
 
 -- A lent buffer with something written at its front: 01, "Numbers the guide may answer": "what lies after them stays". Serves
 -- leaves_by.
@@ -85,19 +83,19 @@ over xs out = xs ++ drop (length xs) out
 -- 01, "Numbers the guide may answer": "They are tested in the table's order": rows 1 to 9, then 13, then 12. xs is to be written
 -- to out. Serves writes and leaves.
 abbrev pub write_answer : Bytes → Configuration → List ℕ → List ℕ → Answer
-write_answer b c xs out = elim (configuration_answer b c) [ Done ↦ room_for xs out | Refused r ↦ Refused r ]
+write_answer b c xs out = elim (configuration_answer b c) [ Ok _ ↦ room_for xs out | Err r ↦ Err r ]
 
 -- 01, "Numbers the guide may answer": "the answer tells how many". "Any count in a refusal is 0." Serves writes, and printing a
 -- condition.
 abbrev pub count_by : Answer → List ℕ → ℕ
-count_by Done xs = length xs
-count_by (Refused r) xs = 0
+count_by (Ok _) xs = length xs
+count_by (Err r) xs = 0
 
 -- 01, "Numbers the guide may answer": "what lies after them stays". "No lent buffer is written" by a refusal. Serves leaves, and
 -- printing a condition.
 abbrev pub leaves_by : Answer → List ℕ → List ℕ → List ℕ
-leaves_by Done xs out = over xs out
-leaves_by (Refused r) xs out = out
+leaves_by (Ok _) xs out = over xs out
+leaves_by (Err r) xs out = out
 
 -- What list and save answer, and what they leave in the lent buffer.
 unfoldable pub writes : Bytes → Configuration → List ℕ → List ℕ → Written
@@ -110,8 +108,8 @@ leaves b c xs out = leaves_by (write_answer b c xs out) xs out
 
 -- 01, "Numbers the guide may answer": "Any count in a refusal is 0.", of a number n. Serves listed.
 abbrev pub number_by : Answer → ℕ → ℕ
-number_by Done n = n
-number_by (Refused r) n = 0
+number_by (Ok _) n = n
+number_by (Err r) n = 0
 
 -- What list answers: 02, Wish 11: "The listing reports that number …. Also report how many goals are open". Serves lists.
 abbrev pub listed : Written → ℕ → ℕ → Listed
@@ -152,11 +150,11 @@ choice k = choice_of (k / 256) (k % 256)
 -- choice is enabled, but leaves more than 1,024 actions".
 unfoldable pub takes : Bytes → Configuration → ℕ → Reply
 takes b c code = elim (configuration_answer b c) [
-  | Refused r ↦ reply (Refused r) c
-  | Done ↦ elim (step_by (agent b) (state_of c) (choice code)) [
-    | nothing ↦ reply (Refused (why_closed (layout b) b (state_of c).mental (choice code))) c
-    | full ↦ reply (Refused Refusal.PlanFull) c
-    | to k s ↦ reply Done (configuration_of s)
+  | Err r ↦ reply (Err r) c
+  | Ok _ ↦ elim (step_by (agent b) (state_of c) (choice code)) [
+    | nothing ↦ reply (Err (why_closed (layout b) b (state_of c).mental (choice code))) c
+    | full ↦ reply (Err Refusal.PlanFull) c
+    | to k s ↦ reply (Ok tt) (configuration_of s)
   ]
 ]
 
@@ -165,14 +163,14 @@ takes b c code = elim (configuration_answer b c) [
 -- A run's outcome as it is answered: 01, "A configuration and its transitions": "the configuration reached, how many
 -- transitions were taken, and one of three endings". Serves runs.
 abbrev pub ran : Outcome → Ran
-ran o = record { answer = Done; count = o.count; ending = o.ending; configuration = configuration_of o.state }
+ran o = record { answer = Ok tt; count = o.count; ending = o.ending; configuration = configuration_of o.state }
 
 -- 01, "A configuration and its transitions": "A run takes a budget of 0 to 65,535 transitions and answers …". A refused one has
 -- count 0 and ends spent (docs/DECISIONS.md, "What a refused run says beside its number").
 unfoldable pub runs : Bytes → Configuration → ℕ → Ran
 runs b c budget = elim (configuration_answer b c) [
-  | Done ↦ ran (run (agent b) budget (state_of c))
-  | Refused r ↦ record { answer = Refused r; count = 0; ending = Ending.Spent; configuration = c }
+  | Ok _ ↦ ran (run (agent b) budget (state_of c))
+  | Err r ↦ record { answer = Err r; count = 0; ending = Ending.Spent; configuration = c }
 ]
 
 -- ---- next
@@ -196,8 +194,8 @@ coming A s = coming_of A s (guide A s)
 -- refused next says").
 unfoldable pub nexts : Bytes → Configuration → Next
 nexts b c = elim (configuration_answer b c) [
-  | Done ↦ record { answer = Done; coming = coming (agent b) (state_of c); configuration = c }
-  | Refused r ↦ record { answer = Refused r; coming = Coming.Rest; configuration = c }
+  | Ok _ ↦ record { answer = Ok tt; coming = coming (agent b) (state_of c); configuration = c }
+  | Err r ↦ record { answer = Err r; coming = Coming.Rest; configuration = c }
 ]
 
 -- ---- save
@@ -216,6 +214,6 @@ save_leaves b c out = leaves b c (place (layout b) (state_of c)) out
 -- grading, which have none, answer the empty one".
 unfoldable pub restores : Bytes → Bytes → Reply
 restores b p = elim (place_answer b p) [
-  | Done ↦ reply Done (configuration_of (placed (layout b) p))
-  | Refused r ↦ reply (Refused r) empty
+  | Ok _ ↦ reply (Ok tt) (configuration_of (placed (layout b) p))
+  | Err r ↦ reply (Err r) empty
 ]

@@ -6,9 +6,8 @@ use Rattle.std.proofs.Math.ListN as ListN
 use Rattle.paper.specs.Language.{⟨◌/◌/◌⟩}
 use Rattle.runs.specs.Order.{code, guide}
 use Rattle.runs.specs.Weight.{weigh}
-use Rattle.meaning.specs.declared.Answer.{Answer}
+use Rattle.meaning.specs.Answers.{Answer, Checked}
 use Rattle.meaning.specs.declared.Configuration.{Configuration}
-use Rattle.meaning.specs.declared.Checked.{Checked}
 use Rattle.meaning.specs.declared.Reply.{Reply}
 use Rattle.meaning.specs.declared.Graded.{Graded}
 use Rattle.meaning.specs.declared.Written.{Written}

@@ -1,3 +1,4 @@
+pub mod Answers
 pub mod Kinds
 pub mod Trees
 pub mod Sizes

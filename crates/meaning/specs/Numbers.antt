@@ -1,26 +1,24 @@
 -- 01, "Expected forms by place": "Where an answer is an enum, a definition gives this paper's number and values for each of its
 -- cases". The numbers of the refusals are in Refusals; these are of what check answers, of sheets, endings, what comes
 -- next, verdicts and offenders, as include/rigtemple.h has them.
-use Rattle.std.specs.Prelude.{ℕ}
+use Rattle.std.specs.Prelude.{ℕ, Ok, Err}
 use Rattle.runs.specs.declared.Ending.{Ending}
 use Rattle.runs.specs.declared.Offender.{Offender}
 use Rattle.runs.specs.declared.Verdict.{Verdict}
-use Rattle.meaning.specs.declared.Answer.{Answer}
-use Rattle.meaning.specs.declared.Answer.TheVariants.{Done, Refused}
-use Rattle.meaning.specs.declared.Checked.{Checked}
+use Rattle.meaning.specs.Answers.{Answer, Checked}
 use Rattle.meaning.specs.declared.Coming.{Coming}
 use Rattle.meaning.specs.Refusals.{number_of, carried}
 
 -- 01, "Numbers the guide may answer": the number of what check answers.
 unfoldable pub checked_number : Checked → ℕ
-checked_number (Checked.Good l) = 0
-checked_number (Checked.Refused r) = number_of r
+checked_number (Ok l) = 0
+checked_number (Err r) = number_of r
 
 -- 02, Wish 8: which sheet is told, 0 the master's or 1 the shed's: the one that the part lies in, and where "a sheet breaking these
 -- rules" is refused, that one.
 unfoldable pub sheet_number : Answer → ℕ → ℕ
-sheet_number Done sheet = sheet
-sheet_number (Refused r) sheet = carried r
+sheet_number (Ok _) sheet = sheet
+sheet_number (Err r) sheet = carried r
 
 -- 01, "A configuration and its transitions": "one of three endings", in the order in which they stand there.
 unfoldable pub ending_number : Ending → ℕ

@@ -1,12 +1,11 @@
 -- The refusals: 01, "Numbers the guide may answer", row by row in the table's order. A row is named by its number.
-use Rattle.std.specs.Prelude.{Bool, true, false, not, ◌&&◌, ◌||◌, List, [], ◌∷◌, ℕ, ◌+◌, ◌*◌, ◌-◌, leb, ltb, eqb, length, get_or, take, drop}
+use Rattle.std.specs.Prelude.{Bool, true, false, not, ◌&&◌, ◌||◌, List, [], ◌∷◌, ℕ, ◌+◌, ◌*◌, ◌-◌, leb, ltb, eqb, length, get_or, take, drop, Ok, Err}
 use Rattle.paper.specs.Atoms.{Atoms, ◌∈◌}
 use Rattle.paper.specs.Language.{Letter, 𝐁, 𝐆}
 use Rattle.runs.specs.Limits.{longest_plan, heaviest_action}
 use Rattle.runs.specs.Order.{numbers}
 use Rattle.meaning.specs.declared.Refusal.{Refusal}
-use Rattle.meaning.specs.declared.Answer.{Answer}
-use Rattle.meaning.specs.declared.Answer.TheVariants.{Done, Refused}
+use Rattle.meaning.specs.Answers.{Answer}
 use Rattle.meaning.specs.declared.Section.{Section}
 use Rattle.meaning.specs.declared.Span.{Span}
 use Rattle.meaning.specs.declared.Layout.{Layout}
@@ -49,8 +48,8 @@ number_of Refusal.OpenOrHeavy = 22
 
 -- 01, "Numbers the guide may answer", row 0: "done", "none below holds".
 unfoldable pub answer_number : Answer → ℕ
-answer_number Done = 0
-answer_number (Refused r) = number_of r
+answer_number (Ok _) = 0
+answer_number (Err r) = number_of r
 
 -- 02, Wish 1: "16 a condition is false, with the node", Wish 2: "17 text, with the place", Wish 8: "20 a sheet …, the shed's before
 -- the master" (which it is): the number that a refusal carries, and 0 where it carries none (docs/DECISIONS.md, "Numbers in
@@ -81,8 +80,8 @@ carried Refusal.OpenOrHeavy = 0
 
 -- The number that an answer carries, and 0 where it carries none: 02, Wish 1: "only a refused choice shows it".
 unfoldable pub answer_carried : Answer → ℕ
-answer_carried Done = 0
-answer_carried (Refused r) = carried r
+answer_carried (Ok _) = 0
+answer_carried (Err r) = carried r
 
 -- 01, "Numbers the guide may answer": a row of the table.
 pub record Row (X : Type 0) : Type 0 where
@@ -99,13 +98,13 @@ r given_when t = record { refusal = λ x. r; when = t }
 
 -- 01, "Numbers the guide may answer": "They are tested in the table's order". Row 0: "none below holds".
 unfoldable pub first_given : {X : Type 0} → List (Row X) → X → Answer
-first_given [] x = Done
-first_given (r ∷ rs) x = elim (r.when x) [ true ↦ Refused (r.refusal x) | false ↦ first_given rs x ]
+first_given [] x = Ok tt
+first_given (r ∷ rs) x = elim (r.when x) [ true ↦ Err (r.refusal x) | false ↦ first_given rs x ]
 
 -- 01, "Numbers the guide may answer": "the card first with 1 to 9, then": the first refusal of two answers.
 abbrev pub and_then : Answer → Answer → Answer
-and_then Done a = a
-and_then (Refused r) a = Refused r
+and_then (Ok _) a = a
+and_then (Err r) a = Err r
 
 -- Every member of a list is good. Serves every, actions_good, set_good and configuration_good.
 abbrev pub all : {X : Type 0} → (X → Bool) → List X → Bool

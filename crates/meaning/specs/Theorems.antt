@@ -1,5 +1,5 @@
 -- What is proved of a card's meaning (in proofs/).
-use Rattle.std.specs.Prelude.{◌≡◌, ◌↔◌, Bool, true, false, not, ℕ, ◌≤◌, ◌<◌, length, get_or, take}
+use Rattle.std.specs.Prelude.{◌≡◌, ◌↔◌, Bool, true, false, not, ℕ, ◌≤◌, ◌<◌, length, get_or, take, Ok, Err}
 use mathlib.Core.List.{List, [], ◌∷◌, ◌++◌, map, Memᴰ}
 use Rattle.paper.specs.Atoms.{◌∈◌}
 use Rattle.paper.specs.Language.{Letter, 𝐁, 𝐆, Config}
@@ -9,7 +9,6 @@ use Rattle.runs.specs.Limits.{longest_plan, most_finished}
 use Rattle.runs.specs.Order.{State}
 use Rattle.runs.specs.Theorems.{NoneBelieved, Numbered, GradeLaws}
 use Rattle.meaning.specs.declared.Refusal.{Refusal}
-use Rattle.meaning.specs.declared.Answer.TheVariants.{Done, Refused}
 use Rattle.meaning.specs.declared.Layout.{Layout}
 use Rattle.meaning.specs.declared.Configuration.{Configuration}
 use Rattle.meaning.specs.Sizes.{set_bytes}
@@ -41,9 +40,9 @@ pub record FirstRow {X : Type 0} (rows : List (Row X)) (x : X) (r : Refusal) : T
 -- 01, "Numbers the guide may answer": "given exactly when", of a whole table.
 pub record TableLaws {X : Type 0} (rows : List (Row X)) (x : X) : Type 0 where
   -- 01, "Numbers the guide may answer": "given exactly when", and "tested in the table's order"
-  pub refused_exactly : (r : Refusal) → (first_given rows x ≡ Refused r) ↔ FirstRow rows x r
+  pub refused_exactly : (r : Refusal) → (first_given rows x ≡ Err r) ↔ FirstRow rows x r
   -- 01, "Numbers the guide may answer", row 0: "none below holds"
-  pub done_exactly : (first_given rows x ≡ Done) ↔ ((q : Row X) → Memᴰ q rows → q.when x ≡ false)
+  pub done_exactly : (first_given rows x ≡ Ok tt) ↔ ((q : Row X) → Memᴰ q rows → q.when x ≡ false)
 
 -- The same of every table and what is asked of it.
 abbrev pub TableLaw : Type 1
@@ -75,7 +74,7 @@ pub record CardLaws (b : Bytes) : Type 0 where
 
 -- 00, demands 2 and 3: "On an accepted card": each of them.
 abbrev pub CardLaw : Type 0
-CardLaw = (b : Bytes) → card_answer b ≡ Done → CardLaws b
+CardLaw = (b : Bytes) → card_answer b ≡ Ok tt → CardLaws b
 
 -- 02, Wish 5: "the goals are those not believed, and at load likewise": no goal that a card starts with is believed.
 abbrev pub StartLaw : Type 0
@@ -110,7 +109,7 @@ pub record KindLaws (b : Bytes) : Type 0 where
 
 -- The same of every accepted card.
 abbrev pub KindLaw : Type 0
-KindLaw = (b : Bytes) → card_answer b ≡ Done → KindLaws b
+KindLaw = (b : Bytes) → card_answer b ≡ Ok tt → KindLaws b
 
 -- A value turned, or not. Serves SettlerLaws.
 abbrev pub turned_by : Bool → Bool → Bool
@@ -128,7 +127,7 @@ pub record SettlerLaws (L : Letter) (l : Layout) (b : Bytes) (c : Config) (n : �
 
 -- The same of every node of an accepted card, and every configuration.
 abbrev pub SettlerLaw : Type 0
-SettlerLaw = (b : Bytes) → card_answer b ≡ Done → (L : Letter) (c : Config) (n : ℕ) → n < (layout b).nodes.count → SettlerLaws L (layout b) b c n
+SettlerLaw = (b : Bytes) → card_answer b ≡ Ok tt → (L : Letter) (c : Config) (n : ℕ) → n < (layout b).nodes.count → SettlerLaws L (layout b) b c n
 
 -- 02, Wish 1: "16 a condition is false, with the node, the belief condition before the goal condition.": why a selection rule that
 -- the card has is closed where the plan is empty.
@@ -166,4 +165,4 @@ pub record PlaceLaws : Type 0 where
   pub saved_restored : (l : Layout) (s : State) → Holds l s.mental.σ → Holds l s.mental.γ → s.phase ≤ 2
       → s.finished ≤ most_finished → placed l (place l s) ≡ s
   -- 00, demand 2: "an accepted place, restored and saved, is the same bytes"
-  pub restored_saved : (l : Layout) (p : Bytes) → AreBytes p → first_given (place_table l) p ≡ Done → place l (placed l p) ≡ p
+  pub restored_saved : (l : Layout) (p : Bytes) → AreBytes p → first_given (place_table l) p ≡ Ok tt → place l (placed l p) ≡ p

@@ -36,11 +36,7 @@ pub enum Refusal {
 }
 
 // 01, "Numbers the guide may answer": "done", row 0, or one of the others.
-#[derive(Clone, Copy)]
-pub enum Answer {
-    Done,
-    Refused(Refusal),
-}
+pub type Answer = Result<(), Refusal>;
 
 // 01, "The card, edition 1", the table: "nodes, offset" and the like: how many entries (the pool: bytes) a section has, and
 // where it starts.
@@ -146,11 +142,7 @@ pub struct Configuration {
 }
 
 // What `check` answers: 01, "Expected forms by place": "each check answers an enum": the card's layout, or the refusal.
-#[derive(Clone, Copy)]
-pub enum Checked {
-    Good(Layout),
-    Refused(Refusal),
-}
+pub type Checked = Result<Layout, Refusal>;
 
 // What `load`, `take` and `restore` answer. 01, "Numbers the guide may answer": "the number and the configuration".
 #[derive(Clone, Copy)]
@@ -233,11 +225,7 @@ pub enum BoundedRefusal {
 }
 
 // 01, "Numbers the guide may answer": "done", row 0, or one of these.
-#[derive(Clone, Copy)]
-pub enum BoundedAnswer {
-    Done,
-    Refused(BoundedRefusal),
-}
+pub type BoundedAnswer = Result<(), BoundedRefusal>;
 
 // 02, Wish 10: "the ending "full" cannot arise there": the two others.
 #[derive(Clone, Copy)]

@@ -1,27 +1,24 @@
 -- The guide's own choice and move, and a run of them, over plain values.
 use mathlib.Core.Path.{◌≡◌, refl, ap, ap₂, ◌∙◌, sym, subst}
-use mathlib.Core.Bool.{true, false, not}
+use mathlib.Core.Bool.{false}
 use mathlib.Core.List.{List}
-use mathlib.Core.Option.{Option, none, some}
 use Prim.Native.Nat.{ℕ, suc, ◌+◌, ◌-◌, ◌%◌, ◌≤◌, ◌<◌}
-use native.Mathlib.Nat.{mod-lt, sub-zero, zero-add}
+use native.Mathlib.Nat.{mod-lt}
 use native.Mathlib.Omega.{arith}
-use borrow.Author.Tests.{eqb-false, not-true}
-use lib.Dec.{eqb}
 use lib.ListN.{length, take, get_or}
 use lib.Seq.{length-take-le}
 use Rattle.paper.specs.Language.{Agent, Config}
-use Rattle.paper.specs.Transitions.{Choice, select, act, revise, Step, execute, apply_PS, apply_PR}
-use Rattle.paper.specs.Next.{enabled}
+use Rattle.paper.specs.Transitions.{Choice, Step, execute, apply_PS, apply_PR}
 use Rattle.paper.proofs.Relation.{enabled_exactly}
 use Rattle.runs.specs.declared.Ending.{Ending}
-use Rattle.runs.specs.Order.{State, kind, number, guide}
+use Rattle.runs.specs.declared.Kind.{Kind}
+use Rattle.runs.specs.Order.{State, kind, guide}
 use Rattle.runs.specs.Step.{after, Reached, nothing, full, to, step, step_by}
 use Rattle.runs.specs.Run.{ended, one_more, run}
 use Rattle.runs.specs.Theorems.{counted}
-use Rattle.runs.proofs.Order.{kind_lt, guide_takes}
+use Rattle.runs.proofs.Order.{guide_takes}
 use Rattle.runs.proofs.Run.{run_rests, run_is_full, run_goes_on, OwnStep, own_rest, own_full, own_to, own_step}
-use Rattle.meaning.specs.declared.Answer.TheVariants.{Done, Refused}
+use Rattle.std.specs.Prelude.{Ok, Err, Some}
 use Rattle.meaning.specs.declared.Refusal.{Refusal}
 use Rattle.meaning.specs.declared.Layout.{Layout}
 use Rattle.meaning.specs.declared.Configuration.{Configuration}
@@ -33,21 +30,17 @@ use Rattle.meaning.proofs.Calls.{runs_good}
 use Rattle.meaning.proofs.Configurations.{take_padded, configuration_laws}
 use Rattle.plans.proofs.Laws.{length-padded}
 use Rattle.card.specs.GoodCard.{GoodCard}
-use Rattle.door.specs.declared.asked.Chosen.{Chosen}
+use Rattle.door.specs.declared.asked.Choice as Told
 use Rattle.choices.specs.OnePass.{kept}
 use Rattle.choices.specs.Judged.{Marked}
 use Rattle.door.specs.Ready.{Ready}
-use Rattle.door.specs.Asking.{chosen, choice_at}
+use Rattle.door.specs.Asking.{chosen, choice_of}
+use Rattle.door.specs.Asking as Asking
+use Rattle.door.proofs.Told.{told_some, action_told}
 use Rattle.moves.specs.declared.step.Transition.{Transition}
 use Rattle.moves.specs.Steps.{transition_of, configuration_after, Enabled, Advances, own_move}
 
 -- ---- the choice that was found is the guide's own
-
-pub choice_back : (k : Choice) (n i : ℕ) → Chosen.At (kind k) (number k) ≡ Chosen.At n i → choice_at n i ≡ k
-unfolding kind number
-choice_back (select m) n i e = let a : 0 ≡ n = cc in let b : m ≡ i = cc in rw (← a, ← b)
-choice_back (act m) n i e = let a : 1 ≡ n = cc in let b : m ≡ i = cc in rw (← a, ← b)
-choice_back (revise m) n i e = let a : 2 ≡ n = cc in let b : m ≡ i = cc in rw (← a, ← b)
 
 module _ (l : Layout) (b : Bytes) (c : Configuration) where
   abbrev A : Agent
@@ -56,26 +49,10 @@ module _ (l : Layout) (b : Bytes) (c : Configuration) where
   abbrev s : State
   s = state_of c
 
-  pub chose : (n i : ℕ) → chosen (guide A s) ≡ Chosen.At n i → (n < 3) × Enabled l b c (choice_at n i) × (step A s (choice_at n i) ≡ step_by A s (guide A s))
-  chose n i = go (guide A s) refl
-    where
-      go : (o : Option Choice) → guide A s ≡ o → chosen o ≡ Chosen.At n i → (n < 3) × Enabled l b c (choice_at n i) × (step A s (choice_at n i) ≡ step_by A s (guide A s))
-      go none e f = absurd (let z : ◌≡◌ {A = ℕ} 0 1 = cc in omega arith)
-      go (some k) e f =
-          let q = choice_back k n i f in
-          let a : kind k ≡ n = cc in
-          let t = (enabled_exactly A s.mental k).1 (guide_takes A s k e).leads in (
-            subst (λ x. x < 3) a (kind_lt k),
-            ap (enabled A s.mental) q ∙ t,
-            ap (step A s) q ∙ sym (ap (step_by A s) e),
-          )
-
-  pub chose_none : chosen (guide A s) ≡ Chosen.Nothing → step_by A s (guide A s) ≡ nothing
-  chose_none = go (guide A s) refl
-    where
-      go : (o : Option Choice) → guide A s ≡ o → chosen o ≡ Chosen.Nothing → step_by A s (guide A s) ≡ nothing
-      go none e f = ap (step_by A s) e
-      go (some k) e f = absurd (let z : ◌≡◌ {A = ℕ} 0 1 = cc in omega arith)
+  pub chose : (t : Told.Choice) → Some t ≡ chosen (guide A s) → Enabled l b c (choice_of t) × (step A s (choice_of t) ≡ step_by A s (guide A s))
+  chose t e =
+      let g = told_some (guide A s) t e in
+      ((enabled_exactly A s.mental (choice_of t)).1 (guide_takes A s (choice_of t) g).leads, sym (ap (step_by A s) g))
 
 -- ---- a configuration that is ready, and one after a move
 
@@ -108,25 +85,16 @@ pub record Running (l : Layout) (b : Bytes) (budget : ℕ) (start : State) (c : 
   pub ready : Ready l b c
   pub same : counted count (run (agent_for l b) (budget - count) (state_of c)) ≡ run (agent_for l b) budget start
 
-pub running_start : (l : Layout) (b : Bytes) (budget : ℕ) (c : Configuration) → Ready l b c → Running l b budget (state_of c) c 0
-running_start l b budget c h =
-    let o = run (agent_for l b) budget (state_of c) in
-    record {
-      within = omega arith;
-      ready = h;
-      same = ap (λ n. counted 0 (run (agent_for l b) n (state_of c))) (sub-zero budget) ∙ (λ i. record { state = o.state; count = zero-add o.count i; ending = o.ending });
-    }
-
 module _ (l : Layout) (b : Bytes) (budget : ℕ) (start : State) (c : Configuration) (count : ℕ) (r : Running l b budget start c count) where
   -- what is answered where the run ends here
   abbrev Answered : Ending → Configuration → Type 0
-  Answered e d = record { answer = Done; count = count; ending = e; configuration = d } ≡ ran (run (agent_for l b) budget start)
+  Answered e d = record { answer = Ok tt; count = count; ending = e; configuration = d } ≡ ran (run (agent_for l b) budget start)
 
   ends : (e : Ending) → run (agent_for l b) (budget - count) (state_of c) ≡ ended e (state_of c) → Answered e c
   ends e q =
       let n : count ≡ count + 0 = omega arith in
       let o : counted count (ended e (state_of c)) ≡ run (agent_for l b) budget start = ap (counted count) (sym q) ∙ r.same in
-      (λ i. record { answer = Done; count = n i; ending = e; configuration = sym (ready_back l b c r.ready) i }) ∙ ap ran o
+      (λ i. record { answer = Ok tt; count = n i; ending = e; configuration = sym (ready_back l b c r.ready) i }) ∙ ap ran o
 
   pub running_spent : budget ≤ count → Answered Ending.Spent c
   unfolding run
@@ -170,21 +138,21 @@ module _ (l : Layout) (b : Bytes) (budget : ℕ) (start : State) (c : Configurat
         go q (own_to k d g y h) = absurd (let u = sym (is (to k (after t k d)) q) ∙ e in let z : ◌≡◌ {A = ℕ} 0 1 = cc in omega arith)
 
     -- a move that is taken: where the run goes on, and that marks stay true unless it was an action
-    pub record Moved (n : ℕ) : Type 0 where
+    pub record Moved (κ : Kind) : Type 0 where
       pub goes : Running l b budget start left (count + 1)
-      pub keeps : not (eqb n 1) ≡ true → (marks : List ℕ) → Marked l b c.mind.beliefs c.mind.goals marks
+      pub keeps : (κ ≡ Kind.Action → ⊥) → (marks : List ℕ) → Marked l b c.mind.beliefs c.mind.goals marks
           → Marked l b left.mind.beliefs left.mind.goals marks
 
-    pub running_moved : (n i : ℕ) → x ≡ Transition.Taken n i → Moved n
+    pub running_moved : (u : Told.Choice) → x ≡ Transition.Taken u → Moved u.kind
     unfolding after configuration_of state_of
-    running_moved n i e = go refl (own_step B t)
+    running_moved u e = go refl (own_step B t)
       where
-        on : (k : Choice) (d : Config) → Step B t.mental k d → length d.π ≤ 1024 → step_by B t (guide B t) ≡ to k (after t k d) → Moved n
+        on : (k : Choice) (d : Config) → Step B t.mental k d → length d.π ≤ 1024 → step_by B t (guide B t) ≡ to k (after t k d) → Moved u.kind
         on k d y h q =
             let t' = after t k d in
             let at : left ≡ configuration_of t' = told.1 ∙ ap (λ z. configuration_after z c) q in
-            let u : Transition.Taken (kind k) (number k) ≡ Transition.Taken n i = sym (is (to k t') q) ∙ e in
-            let a : kind k ≡ n = cc in
+            let taken : Transition.Taken (Asking.told k) ≡ Transition.Taken u = sym (is (to k t') q) ∙ e in
+            let a : Asking.told k ≡ u = cc in
             let o = run B (budget - (count + 1)) t' in
             let m : count + 1 + o.count ≡ count + suc o.count = omega arith in
             let w : counted count (one_more o) ≡ run B budget start = ap (counted count) (sym (from_here ∙ run_goes_on B (budget - (count + 1)) t k t' q)) ∙ r.same in
@@ -196,20 +164,20 @@ module _ (l : Layout) (b : Bytes) (budget : ℕ) (start : State) (c : Configurat
                 same = ap (λ z. counted (count + 1) (run B (budget - (count + 1)) z)) (configuration_laws.of_state t' h) ∙ (λ j. record { state = o.state; count = m j; ending = o.ending }) ∙ w;
               });
               keeps = λ z marks v.
-                  (let s = no_action_keeps y (λ g. eqb-false n 1 (not-true _ z) (sym a ∙ g)) in
+                  (let s = no_action_keeps y (λ g. z (ap (λ (v : Told.Choice). v.kind) (sym a) ∙ action_told k g)) in
                   let β : left.mind.beliefs ≡ c.mind.beliefs = ap (λ (g : Configuration). g.mind.beliefs) at ∙ s.0 in
                   let γ : left.mind.goals ≡ c.mind.goals = ap (λ (g : Configuration). g.mind.goals) at ∙ s.1 in
                   λ j g. v j g ∙ ap₂ (λ x y. get_or (kept l b x y) j (false, 0)) (sym β) (sym γ));
             }
 
-        go : {o : Reached} → step_by B t (guide B t) ≡ o → OwnStep B t o → Moved n
+        go : {o : Reached} → step_by B t (guide B t) ≡ o → OwnStep B t o → Moved u.kind
         go q (own_rest a) = absurd (let u = sym (is nothing q) ∙ e in let z : ◌≡◌ {A = ℕ} 0 1 = cc in omega arith)
         go q (own_full k d g y h) = absurd (let u = sym (is full q) ∙ e in let z : ◌≡◌ {A = ℕ} 0 1 = cc in omega arith)
         go q (own_to k d g y h) = on k d y h q
 
 -- ---- a run of an accepted card and configuration, by the layout that was read
 
-pub runs_by : (b : Bytes) (c : Configuration) → configuration_answer b c ≡ Done → (budget : ℕ) (l : Layout) → l ≡ layout b
+pub runs_by : (b : Bytes) (c : Configuration) → configuration_answer b c ≡ Ok tt → (budget : ℕ) (l : Layout) → l ≡ layout b
     → ran (run (agent_for l b) budget (state_of c)) ≡ runs b c budget
 unfolding agent
 runs_by b c good budget l s = ap (λ (x : Layout). ran (run (agent_for x b) budget (state_of c))) s ∙ sym (runs_good b c good budget)
@@ -217,10 +185,10 @@ runs_by b c good budget l s = ap (λ (x : Layout). ran (run (agent_for x b) budg
 -- ---- the guide's own move on any card and configuration
 
 module _ (b : Bytes) (c : Configuration) where
-  pub own_refused : (r : Refusal) → configuration_answer b c ≡ Refused r → own_move b c ≡ nothing
+  pub own_refused : (r : Refusal) → configuration_answer b c ≡ Err r → own_move b c ≡ nothing
   unfolding own_move
   own_refused r e = rw (e, own_move)
 
-  pub own_accepted : configuration_answer b c ≡ Done → (l : Layout) → l ≡ layout b → step_by (agent_for l b) (state_of c) (guide (agent_for l b) (state_of c)) ≡ own_move b c
+  pub own_accepted : configuration_answer b c ≡ Ok tt → (l : Layout) → l ≡ layout b → step_by (agent_for l b) (state_of c) (guide (agent_for l b) (state_of c)) ≡ own_move b c
   unfolding own_move agent
   own_accepted e l s = ap (λ x. step_by (agent_for x b) (state_of c) (guide (agent_for x b) (state_of c))) s ∙ sym (rw (e, own_move))

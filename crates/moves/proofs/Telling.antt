@@ -1,8 +1,8 @@
 -- What comes next, over plain values: told of the choice that was found.
 use mathlib.Core.Path.{◌≡◌, refl, ap, ◌∙◌, sym}
 use mathlib.Core.Bool.{true, false}
-use mathlib.Core.Option.{Option, none, some}
-use Prim.Native.Nat.{ℕ, zero, suc, ◌+◌, ◌*◌, ◌-◌, ◌<◌, ◌≤◌}
+use mathlib.Core.Logic.{◌⊎◌, ⊎_elim}
+use Prim.Native.Nat.{ℕ, ◌+◌, ◌-◌, ◌<◌, ◌≤◌}
 use native.Mathlib.Omega.{arith}
 use native.Mathlib.Decide.{dec_lt}
 use lib.Dec.{ltb}
@@ -10,10 +10,12 @@ use borrow.Author.Tests.{lt-ltb, le-ltb}
 use Rattle.paper.specs.Language.{Agent}
 use Rattle.paper.specs.Transitions.{Choice, revise}
 use Rattle.paper.proofs.Relation.{enabled_exactly, false≢true}
-use Rattle.runs.specs.Order.{State, kind, number, code, guide}
+use Rattle.runs.specs.declared.Kind.{Kind}
+use Rattle.runs.specs.Kinds.{kind_number}
+use Rattle.runs.specs.Order.{State, code, guide}
 use Rattle.runs.specs.Step.{Reached, nothing, full, to, step}
 use Rattle.runs.proofs.Step.{StepsTo, none_there, too_long, taken, steps_to}
-use Rattle.meaning.specs.declared.Answer.TheVariants.{Done}
+use Rattle.std.specs.Prelude.{Ok, Some, None}
 use Rattle.meaning.specs.declared.Coming.{Coming}
 use Rattle.meaning.specs.declared.Layout.{Layout}
 use Rattle.meaning.specs.declared.RevisionEntry.{RevisionEntry}
@@ -23,36 +25,27 @@ use Rattle.meaning.specs.Configurations.{state_of}
 use Rattle.meaning.specs.Refusals.{configuration_answer}
 use Rattle.meaning.specs.Calls.{coming_by, coming_of, coming, nexts}
 use Rattle.meaning.proofs.Calls.{nexts_good}
-use Rattle.door.specs.declared.asked.Chosen.{Chosen}
+use Rattle.door.specs.declared.asked.Choice as Told
 use Rattle.door.specs.Ready.{Ready}
-use Rattle.door.specs.Asking.{chosen, choice_at}
+use Rattle.door.specs.Asking.{chosen, choice_at, choice_of}
+use Rattle.door.proofs.Told.{told_some, told_none}
 use Rattle.moves.specs.Steps.{Enabled}
 use Rattle.moves.specs.Next.{is_full}
 use Rattle.moves.proofs.Stepping.{selection_known, specification_known, revision_known, selects_to, acts_to, revises_to, revises_full}
-use Rattle.moves.proofs.Running.{choice_back}
-
--- ---- the code of a choice
-
-pub code_at : (n i : ℕ) → n < 3 → code (choice_at n i) ≡ 256 * n + i
-unfolding code kind number
-code_at zero i h = refl
-code_at (suc zero) i h = refl
-code_at (suc (suc zero)) i h = refl
-code_at (suc (suc (suc n))) i h = absurd (omega arith)
 
 module _ (l : Layout) (b : Bytes) (c : Configuration) (ready : Ready l b c) where
-  pub number_lt : (n i : ℕ) → n < 3 → Enabled l b c (choice_at n i) → i < 256
-  number_lt zero i h e = let k = selection_known l b c ready i e in let m = ready.card.layout.selections in omega arith
-  number_lt (suc zero) i h e = let k = specification_known l b c ready i e in let m = ready.card.layout.specifications in omega arith
-  number_lt (suc (suc zero)) i h e = let k = revision_known l b c ready i e in let m = ready.card.layout.revisions in omega arith
-  number_lt (suc (suc (suc n))) i h e = absurd (omega arith)
+  pub number_lt : (κ : Kind) (i : ℕ) → Enabled l b c (choice_at (kind_number κ) i) → i < 256
+  number_lt Kind.Selection i e = let k = selection_known l b c ready i e in let m = ready.card.layout.selections in omega arith
+  number_lt Kind.Action i e = let k = specification_known l b c ready i e in let m = ready.card.layout.specifications in omega arith
+  number_lt Kind.Revision i e = let k = revision_known l b c ready i e in let m = ready.card.layout.revisions in omega arith
 
   -- ---- whether a plan is too long
 
-  pub never_too_long : (n i : ℕ) → n < 2 → Enabled l b c (choice_at n i) → false ≡ is_full (step (agent_for l b) (state_of c) (choice_at n i))
-  never_too_long zero i h e = ap is_full (sym (selects_to l b c ready i e))
-  never_too_long (suc zero) i h e = ap is_full (sym (acts_to l b c ready i e))
-  never_too_long (suc (suc n)) i h e = absurd (omega arith)
+  pub never_too_long : (κ : Kind) (i : ℕ) → (κ ≡ Kind.Selection) ⊎ (κ ≡ Kind.Action) → Enabled l b c (choice_at (kind_number κ) i)
+      → false ≡ is_full (step (agent_for l b) (state_of c) (choice_at (kind_number κ) i))
+  never_too_long Kind.Selection i h e = ap is_full (sym (selects_to l b c ready i e))
+  never_too_long Kind.Action i h e = ap is_full (sym (acts_to l b c ready i e))
+  never_too_long Kind.Revision i h e = absurd (⊎_elim (λ u. let z : ◌≡◌ {A = ℕ} 0 1 = cc in omega arith) (λ u. let z : ◌≡◌ {A = ℕ} 0 1 = cc in omega arith) h)
 
   pub revision_too_long : (i : ℕ) → Enabled l b c (revise i) → (r : RevisionEntry) → r ≡ revision_at l b i
       → (most n : ℕ) → most ≡ 1024 → n ≡ r.body.length + (c.mind.length - r.head.length)
@@ -85,32 +78,24 @@ module _ (l : Layout) (b : Bytes) (c : Configuration) where
   told_move k e (too_long c' x y) h = absurd (false≢true (sym h))
   told_move k e (taken c' x y) h = refl
 
-  comes : (n i : ℕ) → chosen (guide A s) ≡ Chosen.At n i → coming A s ≡ coming_by (choice_at n i) (step A s (choice_at n i))
+  comes : (t : Told.Choice) → Some t ≡ chosen (guide A s) → coming A s ≡ coming_by (choice_of t) (step A s (choice_of t))
   unfolding coming
-  comes n i = go (guide A s) refl
-    where
-      go : (o : Option Choice) → guide A s ≡ o → chosen o ≡ Chosen.At n i → coming_of A s (guide A s) ≡ coming_by (choice_at n i) (step A s (choice_at n i))
-      go none e f = absurd (let z : ◌≡◌ {A = ℕ} 0 1 = cc in omega arith)
-      go (some k) e f = ap (coming_of A s) e ∙ ap (λ x. coming_by x (step A s x)) (sym (choice_back k n i f))
+  comes t e = ap (coming_of A s) (told_some (guide A s) t e)
 
-  module _ (n i : ℕ) (e : chosen (guide A s) ≡ Chosen.At n i) where
-    pub comes_full : true ≡ is_full (step A s (choice_at n i)) → coming A s ≡ Coming.Full (code (choice_at n i))
-    comes_full h = comes n i e ∙ told_full (choice_at n i) (step A s (choice_at n i)) (sym h)
+  module _ (t : Told.Choice) (e : Some t ≡ chosen (guide A s)) where
+    pub comes_full : true ≡ is_full (step A s (choice_of t)) → coming A s ≡ Coming.Full (code (choice_of t))
+    comes_full h = comes t e ∙ told_full (choice_of t) (step A s (choice_of t)) (sym h)
 
-    pub comes_move : Enabled l b c (choice_at n i) → false ≡ is_full (step A s (choice_at n i)) → coming A s ≡ Coming.Move (code (choice_at n i))
-    comes_move k h = comes n i e ∙ told_move (choice_at n i) k (steps_to A s (choice_at n i)) (sym h)
+    pub comes_move : Enabled l b c (choice_of t) → false ≡ is_full (step A s (choice_of t)) → coming A s ≡ Coming.Move (code (choice_of t))
+    comes_move k h = comes t e ∙ told_move (choice_of t) k (steps_to A s (choice_of t)) (sym h)
 
-  pub comes_rest : chosen (guide A s) ≡ Chosen.Nothing → coming A s ≡ Coming.Rest
+  pub comes_rest : None ≡ chosen (guide A s) → coming A s ≡ Coming.Rest
   unfolding coming
-  comes_rest = go (guide A s) refl
-    where
-      go : (o : Option Choice) → guide A s ≡ o → chosen o ≡ Chosen.Nothing → coming_of A s (guide A s) ≡ Coming.Rest
-      go none e f = ap (coming_of A s) e
-      go (some k) e f = absurd (let z : ◌≡◌ {A = ℕ} 0 1 = cc in omega arith)
+  comes_rest e = ap (coming_of A s) (told_none (guide A s) e)
 
 -- ---- an accepted card and configuration
 
-pub next_accepted : (b : Bytes) (c : Configuration) → configuration_answer b c ≡ Done → (l : Layout) → l ≡ layout b
-    → record { answer = Done; coming = coming (agent_for l b) (state_of c); configuration = c } ≡ nexts b c
+pub next_accepted : (b : Bytes) (c : Configuration) → configuration_answer b c ≡ Ok tt → (l : Layout) → l ≡ layout b
+    → record { answer = Ok tt; coming = coming (agent_for l b) (state_of c); configuration = c } ≡ nexts b c
 unfolding agent
-next_accepted b c e l s = ap (λ x. record { answer = Done; coming = coming (agent_for x b) (state_of c); configuration = c }) s ∙ sym (nexts_good b c e)
+next_accepted b c e l s = ap (λ x. record { answer = Ok tt; coming = coming (agent_for x b) (state_of c); configuration = c }) s ∙ sym (nexts_good b c e)

@@ -1,16 +1,14 @@
 -- What a transition comes to, as the code tells it and as it leaves the lent sets and plan.
-use Rattle.std.specs.Prelude.{◌≡◌, true, ℕ, zero, suc, ◌+◌, ◌%◌}
-use Rattle.std.proofs.Math.Option.{Option, none, some}
+use Rattle.std.specs.Prelude.{◌≡◌, true, ℕ, zero, suc, ◌+◌, ◌%◌, Ok, Err}
 use Rattle.paper.specs.Atoms.{Atoms}
-use Rattle.paper.specs.Language.{Config}
 use Rattle.paper.specs.Transitions.{Choice}
 use Rattle.paper.specs.Next.{enabled}
 use Rattle.runs.specs.Limits.{most_finished}
-use Rattle.runs.specs.Order.{kind, number, guide}
+use Rattle.runs.specs.Kinds.{kind_number}
+use Rattle.runs.specs.Order.{guide}
 use Rattle.runs.specs.Step.{up_to, Reached, nothing, full, to, step, step_by}
 use Rattle.meaning.specs.declared.Refusal.{Refusal}
-use Rattle.meaning.specs.declared.Answer.{Answer}
-use Rattle.meaning.specs.declared.Answer.TheVariants.{Done, Refused}
+use Rattle.meaning.specs.Answers.{Answer}
 use Rattle.meaning.specs.declared.Layout.{Layout}
 use Rattle.meaning.specs.declared.Standing.{Standing}
 use Rattle.meaning.specs.declared.Configuration.{Configuration}
@@ -20,9 +18,9 @@ use Rattle.meaning.specs.Configurations.{state_of, configuration_of}
 use Rattle.meaning.specs.Refusals.{configuration_answer}
 use Rattle.meaning.specs.Calls.{reply}
 use Rattle.layout.specs.PlaceParts.{configured}
-use Rattle.door.specs.declared.asked.Asked.{Asked}
+use Rattle.door.specs.declared.asked.Choice as Told
 use Rattle.door.specs.Ready.{Ready}
-use Rattle.door.specs.Asking.{asked}
+use Rattle.door.specs.Asking.{told}
 use Rattle.moves.specs.declared.step.Transition.{Transition}
 use Rattle.moves.specs.declared.step.Stepped.{Stepped}
 
@@ -30,7 +28,7 @@ use Rattle.moves.specs.declared.step.Stepped.{Stepped}
 abbrev pub transition_of : Reached → Transition
 transition_of nothing = Transition.Nothing
 transition_of full = Transition.Full
-transition_of (to k s) = Transition.Taken (kind k) (number k)
+transition_of (to k s) = Transition.Taken (told k)
 
 -- the configuration afterwards: as it came in, unless a transition was taken
 abbrev pub configuration_after : Reached → Configuration → Configuration
@@ -52,7 +50,7 @@ Advances l b c t d = Steps (step_by (agent_for l b) (state_of c) (guide (agent_f
 
 -- the guide's own move on any card and configuration: none where they are refused
 unfoldable pub own_move : Bytes → Configuration → Reached
-own_move b c = elim (configuration_answer b c) [ Done ↦ step_by (agent b) (state_of c) (guide (agent b) (state_of c)) | Refused r ↦ nothing ]
+own_move b c = elim (configuration_answer b c) [ Ok _ ↦ step_by (agent b) (state_of c) (guide (agent b) (state_of c)) | Err r ↦ nothing ]
 
 -- a choice of a card is enabled
 abbrev pub Enabled : Layout → Bytes → Configuration → Choice → Type 0
@@ -74,23 +72,18 @@ abbrev pub finished_at : ℕ → ℕ → ℕ
 finished_at f zero = up_to most_finished (suc f)
 finished_at f (suc n) = f
 
--- a transition taken: the plan's length, the finished count before, and the kind and number of the choice
-abbrev pub taken_to : ℕ → ℕ → ℕ → ℕ → Stepped
-taken_to n f k i = record {
-  standing = record { length = n; phase = (k + 1) % 3; finished = finished_at f n };
-  transition = Transition.Taken k i;
+-- a transition taken: the plan's length, the finished count before, and the choice
+abbrev pub taken_to : ℕ → ℕ → Told.Choice → Stepped
+taken_to n f t = record {
+  standing = record { length = n; phase = (kind_number t.kind + 1) % 3; finished = finished_at f n };
+  transition = Transition.Taken t;
 }
 
 -- 01, "Numbers the guide may answer", rows 0 and 11; q is the refusal of a choice that has no transition
 abbrev pub answer_to : Refusal → Transition → Answer
-answer_to q (Transition.Taken k i) = Done
-answer_to q Transition.Nothing = Refused q
-answer_to q Transition.Full = Refused Refusal.PlanFull
-
--- why the choice of a code is closed, if it is: where there is none, 02, Wish 1: "no such rule or specification"
-abbrev pub asked_for : Layout → Bytes → Config → Option Choice → Asked
-asked_for l b c none = Asked.NoRule
-asked_for l b c (some k) = asked l b c k
+answer_to q (Transition.Taken t) = Ok tt
+answer_to q Transition.Nothing = Err q
+answer_to q Transition.Full = Err Refusal.PlanFull
 
 -- what taking a choice answers
 abbrev pub taken_by : Refusal → Reached → Configuration → Reply

@@ -10,31 +10,29 @@ use card::check::answer_of;
 use choices::ask::choose;
 use choices::truth::{Marks, judge_nodes, no_marks};
 use door::admit::admit;
-use door::asked::Chosen;
-use meaning::{Answer, Checked, Layout, Plan, Set, Standing};
+use layout::card::Card;
+use meaning::{Answer, Plan, Set, Standing};
 
 // The guide's own move, where every node's truth is known.
 pub fn advance(
-    card: &[u8],
-    l: Layout,
+    card: &Card,
     beliefs: &mut Set,
     goals: &mut Set,
     m: Standing,
     plan: &mut Plan,
     marks: &Marks,
 ) -> Stepped
-    requires { Judged l card.now (configured beliefs.old goals.old m plan.old) marks.now }
-    ensures { Advances l card.now (configured beliefs.old goals.old m plan.old)
+    requires { Judged card.now.layout card.now.bytes.now (configured beliefs.old goals.old m plan.old) marks.now }
+    ensures { Advances card.now.layout card.now.bytes.now (configured beliefs.old goals.old m plan.old)
         result.transition (configured beliefs.new goals.new result.standing plan.new) }
 {
-    let chosen = choose(card, l, m, plan, marks);
-    let Chosen::At(kind, i) = chosen else {
+    let Some(choice) = choose(card, m, plan, marks) else {
         return Stepped {
             standing: m,
             transition: Transition::Nothing,
         };
     };
-    step(card, l, beliefs, goals, m, plan, kind, i)
+    step(card, beliefs, goals, m, plan, choice)
 }
 
 // What making one move answers beside the sets and the plan.
@@ -59,7 +57,7 @@ pub fn advance_once(
         (configured beliefs.new goals.new result.step.standing plan.new) }
 {
     let admitted = admit(card, beliefs, goals, m, plan);
-    let Checked::Good(l) = admitted else {
+    let Ok(card) = admitted else {
         return AdvancedInPlace {
             answer: answer_of(admitted),
             step: Stepped {
@@ -69,10 +67,9 @@ pub fn advance_once(
         };
     };
     let mut marks = no_marks();
-    judge_nodes(card, l, beliefs, goals, &mut marks);
-    let s = advance(card, l, beliefs, goals, m, plan, &marks);
+    judge_nodes(&card, beliefs, goals, &mut marks);
     AdvancedInPlace {
-        answer: Answer::Done,
-        step: s,
+        answer: Ok(()),
+        step: advance(&card, beliefs, goals, m, plan, &marks),
     }
 }

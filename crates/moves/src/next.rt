@@ -1,9 +1,8 @@
 // What comes next: the guide's own choice, and whether its plan fits. No move is made, and no plan is copied.
-ghost use Rattle.std.specs.Prelude.{◌≡◌, ◌<◌};
-ghost use Rattle.runs.specs.Order.{code};
+ghost use Rattle.std.specs.Prelude.{◌≡◌};
 ghost use Rattle.runs.specs.Step.{step};
 ghost use Rattle.meaning.specs.Calls as Calls;
-ghost use Rattle.door.specs.Words.{agent_for, state_of, configured, choice_at};
+ghost use Rattle.door.specs.Words.{agent_for, state_of, configured, choice_of};
 ghost use Rattle.choices.specs.Judged.{SomeSets, AllSets};
 ghost use Rattle.moves.specs.Steps.{SomeOpen, AllOpen};
 ghost use Rattle.moves.specs.Next.{is_full, next_with};
@@ -13,10 +12,11 @@ use card::check::answer_of;
 use choices::ask::choose;
 use choices::truth::{Marks, judge_nodes, no_marks};
 use door::admit::admit;
-use door::asked::Chosen;
-use layout::entries::read_revision;
+use door::asked::Choice;
+use layout::card::Card;
 use layout::limits::longest_plan;
-use meaning::{Answer, Checked, Coming, Layout, Plan, Set, Standing};
+use meaning::{Answer, Coming, Plan, Set, Standing};
+use runs::Kind;
 
 // What `next` answers where sets and plan are lent: all of `Next` but the configuration, which stays.
 #[derive(Clone, Copy)]
@@ -25,42 +25,36 @@ pub struct NextInPlace {
     pub coming: Coming,
 }
 
-// "A choice is coded as 256 times the kind … plus the number of the rule or specification, from 0."
-fn code_of(kind: u8, i: usize) -> u16
-    requires { (kind < 3) × (i < 256) }
-    ensures { result ≡ code (choice_at kind i) }
-{
-    256 * (kind as u16) + (i as u16)
-}
-
 // Whether an enabled choice "would leave more than 1,024 actions": a revision alone can.
-fn too_long(card: &[u8], l: Layout, m: Standing, plan: &Plan, kind: u8, i: usize) -> bool
-    requires { (kind < 3) × SomeOpen l card.now m plan.now (choice_at kind i) }
-    ensures { AllOpen l card.now m plan.now (choice_at kind i)
-        (λ σ γ. result ≡ is_full (step (agent_for l card.now) (state_of (configured σ γ m plan.now)) (choice_at kind i))) }
+fn too_long(card: &Card, m: Standing, plan: &Plan, choice: Choice) -> bool
+    requires { SomeOpen card.now.layout card.now.bytes.now m plan.now (choice_of choice) }
+    ensures { AllOpen card.now.layout card.now.bytes.now m plan.now (choice_of choice)
+        (λ σ γ. result ≡ is_full (step (agent_for card.now.layout card.now.bytes.now) (state_of (configured σ γ m plan.now)) (choice_of choice))) }
 {
-    if kind < 2 {
-        return false;
+    match choice.kind {
+        Kind::Selection | Kind::Action => false,
+        Kind::Revision => {
+            let e = card.revision(choice.number);
+            longest_plan() < revised_length(e, m.length as usize)
+        }
     }
-    let e = read_revision(card, l, i);
-    longest_plan() < revised_length(e, m.length as usize)
 }
 
 // What comes next, where every node's truth is known.
-fn coming(card: &[u8], l: Layout, m: Standing, plan: &Plan, marks: &Marks) -> Coming
-    requires { SomeSets l card.now m plan.now marks.now }
-    ensures { AllSets l card.now m plan.now marks.now
-        (λ c. result ≡ Calls.coming (agent_for l card.now) (state_of c)) }
+fn coming(card: &Card, m: Standing, plan: &Plan, marks: &Marks) -> Coming
+    requires { SomeSets card.now.layout card.now.bytes.now m plan.now marks.now }
+    ensures { AllSets card.now.layout card.now.bytes.now m plan.now marks.now
+        (λ c. result ≡ Calls.coming (agent_for card.now.layout card.now.bytes.now) (state_of c)) }
 {
-    let chosen = choose(card, l, m, plan, marks);
-    let Chosen::At(kind, i) = chosen else {
+    let Some(choice) = choose(card, m, plan, marks) else {
         return Coming::Rest;
     };
-    let code = code_of(kind, i);
-    if too_long(card, l, m, plan, kind, i) {
-        return Coming::Full(code);
+    let code = choice.code();
+    if too_long(card, m, plan, choice) {
+        Coming::Full(code)
+    } else {
+        Coming::Move(code)
     }
-    Coming::Move(code)
 }
 
 // "The guide shows the next move.": told, and not made. A refusal says rest.
@@ -69,16 +63,16 @@ pub fn next(card: &[u8], beliefs: &Set, goals: &Set, m: Standing, plan: &Plan) -
         ≡ Calls.nexts card.now (configured beliefs.now goals.now m plan.now) }
 {
     let admitted = admit(card, beliefs, goals, m, plan);
-    let Checked::Good(l) = admitted else {
+    let Ok(card) = admitted else {
         return NextInPlace {
             answer: answer_of(admitted),
             coming: Coming::Rest,
         };
     };
     let mut marks = no_marks();
-    judge_nodes(card, l, beliefs, goals, &mut marks);
+    judge_nodes(&card, beliefs, goals, &mut marks);
     NextInPlace {
-        answer: Answer::Done,
-        coming: coming(card, l, m, plan, &marks),
+        answer: Ok(()),
+        coming: coming(&card, m, plan, &marks),
     }
 }

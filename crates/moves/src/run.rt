@@ -1,7 +1,6 @@
 // A run: "A run takes a budget of 0 to 65,535 transitions", each the guide's own.
-ghost use Rattle.std.specs.Prelude.{◌≡◌, true, length};
+ghost use Rattle.std.specs.Prelude.{◌≡◌, true, length, Ok};
 ghost use Rattle.runs.specs.Run.{run};
-ghost use Rattle.meaning.specs.declared.Answer.TheVariants.{Done};
 ghost use Rattle.door.specs.Words.{agent_for, state_of, configured, GoodCard, Ready, ran_with};
 ghost use Rattle.meaning.specs.Calls.{ran, runs};
 ghost use Rattle.choices.specs.Judged.{Marked};
@@ -12,29 +11,30 @@ use card::check::answer_of;
 use choices::truth::{Marks, judge_nodes, no_marks};
 use door::admit::admit;
 use door::in_place::RanInPlace;
-use meaning::{Answer, Checked, Layout, Plan, Set, Standing};
-use runs::Ending;
+use layout::card::Card;
+use meaning::{Plan, Set, Standing};
+use runs::{Ending, Kind};
 
 // The nodes are judged, unless their marks are known to be true.
-pub fn refresh(card: &[u8], l: Layout, beliefs: &Set, goals: &Set, known: bool, marks: &mut Marks)
-    requires { GoodCard l card.now × (length marks.old ≡ 256)
-        × (known ≡ true → Marked l card.now beliefs.now goals.now marks.old) }
-    ensures { Marked l card.now beliefs.now goals.now marks.new
+pub fn refresh(card: &Card, beliefs: &Set, goals: &Set, known: bool, marks: &mut Marks)
+    requires { GoodCard card.now.layout card.now.bytes.now × (length marks.old ≡ 256)
+        × (known ≡ true → Marked card.now.layout card.now.bytes.now beliefs.now goals.now marks.old) }
+    ensures { Marked card.now.layout card.now.bytes.now beliefs.now goals.now marks.new
         × (length marks.new ≡ 256) }
 {
     if !known {
-        judge_nodes(card, l, beliefs, goals, marks);
+        judge_nodes(card, beliefs, goals, marks);
     }
 }
 
 // Where a run ends.
 fn ended(m: Standing, count: u16, ending: Ending) -> RanInPlace
-    ensures { result ≡ record { answer = Done; count = count; ending = ending; standing = m } }
+    ensures { result ≡ record { answer = Ok tt; count = count; ending = ending; standing = m } }
 {
     RanInPlace {
-        answer: Answer::Done,
-        count: count,
-        ending: ending,
+        answer: Ok(()),
+        count,
+        ending,
         standing: m,
     }
 }
@@ -42,41 +42,31 @@ fn ended(m: Standing, count: u16, ending: Ending) -> RanInPlace
 // At most budget moves of the guide's own. The budget is looked at first. The nodes are judged at most once a move: their marks
 // stay true until an action.
 pub fn run_on(
-    card: &[u8],
-    l: Layout,
+    card: &Card,
     beliefs: &mut Set,
     goals: &mut Set,
     m: Standing,
     plan: &mut Plan,
     budget: u16,
 ) -> RanInPlace
-    requires { Ready l card.now (configured beliefs.old goals.old m plan.old) }
+    requires { Ready card.now.layout card.now.bytes.now (configured beliefs.old goals.old m plan.old) }
     ensures { ran_with result beliefs.new goals.new plan.new
-        ≡ ran (run (agent_for l card.now) budget (state_of (configured beliefs.old goals.old m plan.old))) }
+        ≡ ran (run (agent_for card.now.layout card.now.bytes.now) budget (state_of (configured beliefs.old goals.old m plan.old))) }
 {
     let mut cur = m;
     let mut marks = no_marks();
     let mut known = false;
-    let mut count: u16 = 0;
-    while count < budget {
-        refresh(card, l, beliefs, goals, known, &mut marks);
-        let s = advance(card, l, beliefs, goals, cur, plan, &marks);
-        let transition = s.transition;
+    for count in 0..budget {
+        refresh(card, beliefs, goals, known, &mut marks);
+        let s = advance(card, beliefs, goals, cur, plan, &marks);
         cur = s.standing;
-        match transition {
-            Transition::Taken(kind, _) => {
-                known = kind != 1;
-                count += 1;
-            }
-            Transition::Nothing => {
-                return ended(cur, count, Ending::Rest);
-            }
-            Transition::Full => {
-                return ended(cur, count, Ending::Full);
-            }
+        match s.transition {
+            Transition::Taken(choice) => known = !matches!(choice.kind, Kind::Action),
+            Transition::Nothing => return ended(cur, count, Ending::Rest),
+            Transition::Full => return ended(cur, count, Ending::Full),
         }
     }
-    ended(cur, count, Ending::Spent)
+    ended(cur, budget, Ending::Spent)
 }
 
 // What is reached, the count, and why the run ended; sets and plan are changed in place.
@@ -92,7 +82,7 @@ pub fn run(
         ≡ runs card.now (configured beliefs.old goals.old m plan.old) budget }
 {
     let admitted = admit(card, beliefs, goals, m, plan);
-    let Checked::Good(l) = admitted else {
+    let Ok(card) = admitted else {
         return RanInPlace {
             answer: answer_of(admitted),
             count: 0,
@@ -100,5 +90,5 @@ pub fn run(
             standing: m,
         };
     };
-    run_on(card, l, beliefs, goals, m, plan, budget)
+    run_on(&card, beliefs, goals, m, plan, budget)
 }

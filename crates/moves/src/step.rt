@@ -2,18 +2,19 @@
 ghost use Rattle.std.specs.Prelude.{◌≡◌, ◌+◌, ◌-◌, ◌%◌, ◌≤◌, ◌<◌};
 ghost use Rattle.paper.specs.Transitions.{select, act, revise};
 ghost use Rattle.layout.specs.GoodLayout.{TwoByteSpan};
-ghost use Rattle.door.specs.Words.{configured, Ready, choice_at};
+ghost use Rattle.door.specs.Words.{configured, Ready, choice_of};
 ghost use Rattle.moves.specs.Steps.{Enabled, SomeOpen, AllOpen, StepsBy, finished_at, taken_to};
 
-use layout::bytes::size;
-use layout::entries::{act_on, pool_at, read_revision, read_selection};
+use door::asked::{Choice, number_of};
+use layout::card::Card;
 use layout::limits::{longest_plan, most_finished};
-use meaning::{Layout, Plan, RevisionEntry, Set, Standing};
+use meaning::{Plan, RevisionEntry, Set, Standing};
+use runs::Kind;
 
-// What a transition comes to: it is taken, by the kind and number of a choice; there is none; or its plan would be too long.
+// What a transition comes to: it is taken, by a choice; there is none; or its plan would be too long.
 #[derive(Clone, Copy)]
 pub enum Transition {
-    Taken(u8, usize),
+    Taken(Choice),
     Nothing,
     Full,
 }
@@ -29,70 +30,71 @@ pub struct Stepped {
 fn finished_with(finished: u16, n: usize) -> u16
     ensures { result ≡ finished_at finished n }
 {
-    if 0 < n {
-        return finished;
+    if (n == 0) & (finished < most_finished()) {
+        finished + 1
+    } else {
+        finished
     }
-    let most = most_finished();
-    if finished < most {
-        return finished + 1;
-    }
-    most
 }
 
 // "After any transition, the guide's or a chosen one, the phase is the kind taken plus 1, modulo 3."
-fn taken(n: usize, finished: u16, kind: u8, i: usize) -> Stepped
-    requires { (n ≤ 1024) × (kind < 3) }
-    ensures { result ≡ taken_to n finished kind i }
+fn taken(n: usize, finished: u16, choice: Choice) -> Stepped
+    requires { n ≤ 1024 }
+    ensures { result ≡ taken_to n finished choice }
 {
     Stepped {
         standing: Standing {
             length: n as u16,
-            phase: (kind + 1) % 3,
+            phase: (number_of(choice.kind) + 1) % 3,
             finished: finished_with(finished, n),
         },
-        transition: Transition::Taken(kind, i),
+        transition: Transition::Taken(choice),
     }
 }
 
 // Selection rule i: "The rule's plan becomes the plan."
-fn step_selection(card: &[u8], l: Layout, m: Standing, plan: &mut Plan, i: usize) -> Stepped
-    requires { SomeOpen l card.now m plan.old (select i) }
-    ensures { AllOpen l card.now m plan.old (select i) (λ σ γ.
-        StepsBy l card.now (configured σ γ m plan.old) (select i)
+fn step_selection(card: &Card, m: Standing, plan: &mut Plan, i: usize) -> Stepped
+    requires { SomeOpen card.now.layout card.now.bytes.now m plan.old (select i) }
+    ensures { AllOpen card.now.layout card.now.bytes.now m plan.old (select i) (λ σ γ.
+        StepsBy card.now.layout card.now.bytes.now (configured σ γ m plan.old) (select i)
         result.transition (configured σ γ result.standing plan.new)) }
 {
-    let e = read_selection(card, l, i);
-    let s = e.plan;
-    let at = pool_at(l, s.start);
-    plans::replace_front(plan, 0, 0, card, at, s.length as usize);
-    taken(s.length as usize, m.finished, 0, i)
+    let e = card.selection(i);
+    let n = e.plan.length as usize;
+    plans::replace_front(plan, 0, 0, card.bytes, card.pool_at(e.plan.start), n);
+    let choice = Choice {
+        kind: Kind::Selection,
+        number: i,
+    };
+    taken(n, m.finished, choice)
 }
 
 // Specification i: "Beliefs become (beliefs with Add) without Del.", "after an action the goals are those not believed", "The first
 // action leaves the plan." The sets are changed in copies, which the compiler knows to lie apart.
 fn step_action(
-    card: &[u8],
-    l: Layout,
+    card: &Card,
     beliefs: &mut Set,
     goals: &mut Set,
     m: Standing,
     plan: &mut Plan,
     i: usize,
 ) -> Stepped
-    requires { Ready l card.now (configured beliefs.old goals.old m plan.old)
-        × Enabled l card.now (configured beliefs.old goals.old m plan.old) (act i) }
-    ensures { StepsBy l card.now (configured beliefs.old goals.old m plan.old) (act i)
+    requires { Ready card.now.layout card.now.bytes.now (configured beliefs.old goals.old m plan.old)
+        × Enabled card.now.layout card.now.bytes.now (configured beliefs.old goals.old m plan.old) (act i) }
+    ensures { StepsBy card.now.layout card.now.bytes.now (configured beliefs.old goals.old m plan.old) (act i)
         result.transition (configured beliefs.new goals.new result.standing plan.new) }
 {
     let n = m.length as usize;
-    let room = size(beliefs);
     let mut believed = *beliefs;
-    act_on(&mut believed, card, l, i);
-    let wanted = sets::difference(*goals, believed);
+    card.act_on(&mut believed, i);
+    *goals = sets::difference(*goals, believed);
     *beliefs = believed;
-    *goals = wanted;
     plans::drop_front(plan, n, 1);
-    taken(n - 1, m.finished, 1, i)
+    let choice = Choice {
+        kind: Kind::Action,
+        number: i,
+    };
+    taken(n - 1, m.finished, choice)
 }
 
 // How many actions a revision leaves of a plan of n, whose front is its head: "The body takes the head's place; the rest stays."
@@ -100,21 +102,17 @@ pub fn revised_length(e: RevisionEntry, n: usize) -> usize
     requires { (e.head.length ≤ n) × (n ≤ 1024) × TwoByteSpan e.body }
     ensures { result ≡ e.body.length + (n - e.head.length) }
 {
-    let head = e.head;
-    let body = e.body;
-    (body.length as usize) + (n - (head.length as usize))
+    e.body.length as usize + (n - e.head.length as usize)
 }
 
 // Revision rule i: "The body takes the head's place; the rest stays." A plan that would be too long is not made.
-fn step_revision(card: &[u8], l: Layout, m: Standing, plan: &mut Plan, i: usize) -> Stepped
-    requires { SomeOpen l card.now m plan.old (revise i) }
-    ensures { AllOpen l card.now m plan.old (revise i) (λ σ γ.
-        StepsBy l card.now (configured σ γ m plan.old) (revise i)
+fn step_revision(card: &Card, m: Standing, plan: &mut Plan, i: usize) -> Stepped
+    requires { SomeOpen card.now.layout card.now.bytes.now m plan.old (revise i) }
+    ensures { AllOpen card.now.layout card.now.bytes.now m plan.old (revise i) (λ σ γ.
+        StepsBy card.now.layout card.now.bytes.now (configured σ γ m plan.old) (revise i)
         result.transition (configured σ γ result.standing plan.new)) }
 {
-    let e = read_revision(card, l, i);
-    let head = e.head;
-    let body = e.body;
+    let e = card.revision(i);
     let n = m.length as usize;
     let after = revised_length(e, n);
     if longest_plan() < after {
@@ -123,37 +121,38 @@ fn step_revision(card: &[u8], l: Layout, m: Standing, plan: &mut Plan, i: usize)
             transition: Transition::Full,
         };
     }
-    let at = pool_at(l, body.start);
     plans::replace_front(
         plan,
         n,
-        head.length as usize,
-        card,
-        at,
-        body.length as usize,
+        e.head.length as usize,
+        card.bytes,
+        card.pool_at(e.body.start),
+        e.body.length as usize,
     );
-    taken(after, m.finished, 2, i)
+    let choice = Choice {
+        kind: Kind::Revision,
+        number: i,
+    };
+    taken(after, m.finished, choice)
 }
 
-// The transition of an enabled choice, by its kind and number.
+// The transition of an enabled choice.
 pub fn step(
-    card: &[u8],
-    l: Layout,
+    card: &Card,
     beliefs: &mut Set,
     goals: &mut Set,
     m: Standing,
     plan: &mut Plan,
-    kind: u8,
-    i: usize,
+    choice: Choice,
 ) -> Stepped
-    requires { Ready l card.now (configured beliefs.old goals.old m plan.old) × (kind < 3)
-        × Enabled l card.now (configured beliefs.old goals.old m plan.old) (choice_at kind i) }
-    ensures { StepsBy l card.now (configured beliefs.old goals.old m plan.old)
-        (choice_at kind i) result.transition (configured beliefs.new goals.new result.standing plan.new) }
+    requires { Ready card.now.layout card.now.bytes.now (configured beliefs.old goals.old m plan.old)
+        × Enabled card.now.layout card.now.bytes.now (configured beliefs.old goals.old m plan.old) (choice_of choice) }
+    ensures { StepsBy card.now.layout card.now.bytes.now (configured beliefs.old goals.old m plan.old)
+        (choice_of choice) result.transition (configured beliefs.new goals.new result.standing plan.new) }
 {
-    match kind {
-        0 => step_selection(card, l, m, plan, i),
-        1 => step_action(card, l, beliefs, goals, m, plan, i),
-        _ => step_revision(card, l, m, plan, i),
+    match choice.kind {
+        Kind::Selection => step_selection(card, m, plan, choice.number),
+        Kind::Action => step_action(card, beliefs, goals, m, plan, choice.number),
+        Kind::Revision => step_revision(card, m, plan, choice.number),
     }
 }

@@ -53,10 +53,7 @@ not_every t n i h e = go (every n t) refl
     go false f = sym f
 
 -- the name in front of offset i: from and to are its offsets as they are read
-module _ (least : ℕ) (s : Bytes) (i from to : ℕ) (h : 0 < i) (ef : from ≡ number_at s (2 * i)) (et : to ≡ offset_at s i) where
-  pub from_is : from ≡ offset_at s (i - 1)
-  from_is = ef ∙ (let e : 2 * i ≡ 2 + 2 * (i - 1) = omega arith in ap (number_at s) e)
-
+module _ (least : ℕ) (s : Bytes) (i from to : ℕ) (h : 0 < i) (from_is : from ≡ offset_at s (i - 1)) (et : to ≡ offset_at s i) where
   to_is : to ≡ offset_at s (i - 1 + 1)
   to_is = et ∙ (let e : i ≡ i - 1 + 1 = omega arith in ap (offset_at s) e)
 

@@ -7,8 +7,8 @@ use native.Mathlib.Omega.{arith}
 use borrow.Author.Tests.{leb-true}
 use lib.Dec.{leb, ltb}
 use Rattle.paper.proofs.Relation.{both}
-use Rattle.meaning.specs.declared.Answer.{Answer}
-use Rattle.meaning.specs.declared.Answer.TheVariants.{Done, Refused}
+use Rattle.meaning.specs.Answers.{Answer}
+use Rattle.std.specs.Prelude.{Ok, Err}
 use Rattle.meaning.specs.Card.{Bytes, layout}
 use Rattle.meaning.specs.Refusals.{Row, first_given, and_then, carried, answer_carried, card_table, card_answer}
 use Rattle.meaning.specs.Numbers.{sheet_number}
@@ -33,8 +33,8 @@ table_small (q ∷ rows) x e = go (q.when x) refl (table_small rows x)
     go false h ih = subst (λ a. answer_carried a ≤ 1) (sym (not_given q rows x h)) (ih (both (leb (carried (q.refusal x)) 1) _ e).1)
 
 then_small : (a c : Answer) → answer_carried a ≤ 1 → answer_carried c ≤ 1 → answer_carried (and_then a c) ≤ 1
-then_small Done c h k = k
-then_small (Refused r) c h k = h
+then_small (Ok _) c h k = k
+then_small (Err r) c h k = h
 
 answer_small : (b : Bytes) (q : Question) → answer_carried (name_answer b q) ≤ 1
 unfolding name_answer card_answer card_table name_table small carried
@@ -49,5 +49,5 @@ unfolding answer_carried sheet_number
 sheet_told b q n told = go (name_answer b q) refl
   where
     go : (a : Answer) → name_answer b q ≡ a → sheet_number n.answer n.sheet ≤ 1
-    go Done e = subst (λ (n : Named). sheet_number n.answer n.sheet ≤ 1) (sym (told ∙ names_found b q e)) (found_told q)
-    go (Refused r) e = subst (λ (n : Named). sheet_number n.answer n.sheet ≤ 1) (sym (told ∙ on_refusal b q r e)) (subst (λ a. answer_carried a ≤ 1) e (answer_small b q))
+    go (Ok _) e = subst (λ (n : Named). sheet_number n.answer n.sheet ≤ 1) (sym (told ∙ names_found b q e)) (found_told q)
+    go (Err r) e = subst (λ (n : Named). sheet_number n.answer n.sheet ≤ 1) (sym (told ∙ on_refusal b q r e)) (subst (λ a. answer_carried a ≤ 1) e (answer_small b q))

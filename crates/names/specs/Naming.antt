@@ -1,9 +1,8 @@
 -- What the call answers that is asked for an action's name (02, Wish 8), on all bytes and numbers.
-use Rattle.std.specs.Prelude.{◌≡◌, not, List, [], ◌∷◌, ℕ, ◌+◌, ltb}
+use Rattle.std.specs.Prelude.{◌≡◌, not, List, [], ◌∷◌, ℕ, ◌+◌, ltb, Ok, Err}
 use Rattle.paper.specs.Next.{if}
 use Rattle.meaning.specs.declared.Refusal.{Refusal}
-use Rattle.meaning.specs.declared.Answer.{Answer}
-use Rattle.meaning.specs.declared.Answer.TheVariants.{Done, Refused}
+use Rattle.meaning.specs.Answers.{Answer}
 use Rattle.meaning.specs.declared.Span.{Span}
 use Rattle.meaning.specs.Card.{Bytes, layout}
 use Rattle.meaning.specs.Refusals.{Row, ◌given_when◌, first_given, and_then, card_answer}
@@ -46,13 +45,13 @@ refused_name a = named a 0 (record { start = 0; length = 0 })
 unfoldable pub found : Question → Named
 found q =
     if (ltb 0 (name_span q.shed q.action).length)
-    (named Done 1 (name_span q.shed q.action))
-    (named Done 0 (name_span q.master q.action))
+    (named (Ok tt) 1 (name_span q.shed q.action))
+    (named (Ok tt) 0 (name_span q.master q.action))
 
 -- What the call answers.
 abbrev pub answered : Answer → Question → Named
-answered Done q = found q
-answered (Refused r) q = refused_name (Refused r)
+answered (Ok _) q = found q
+answered (Err r) q = refused_name (Err r)
 
 unfoldable pub names : Bytes → Question → Named
 names b q = answered (name_answer b q) q

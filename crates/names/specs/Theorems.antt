@@ -1,7 +1,6 @@
 -- What is proved of sheets, and of the call.
-use Rattle.std.specs.Prelude.{◌≡◌, true, ◌⊎◌, [], ℕ, ◌+◌, ◌*◌, ◌≤◌, ◌<◌, length}
+use Rattle.std.specs.Prelude.{◌≡◌, true, ◌⊎◌, [], ℕ, ◌+◌, ◌*◌, ◌≤◌, ◌<◌, length, Ok, Err}
 use Rattle.meaning.specs.declared.Refusal.{Refusal}
-use Rattle.meaning.specs.declared.Answer.TheVariants.{Done, Refused}
 use Rattle.meaning.specs.Card.{Bytes, layout, number_at}
 use Rattle.utf8.specs.Grammar.{UTF8_octets}
 use Rattle.names.specs.declared.Named.{Named}
@@ -35,12 +34,12 @@ pub record PartOf (q : Question) (n : Named) : Type 0 where
 pub record DoneName (b : Bytes) (q : Question) : Type 0 where
   pub known : q.action < (layout b).actions
   pub part : PartOf q (names b q)
-  pub own : 0 < (name_span q.shed q.action).length → names b q ≡ named Done 1 (name_span q.shed q.action)
-  pub other : (name_span q.shed q.action).length ≡ 0 → names b q ≡ named Done 0 (name_span q.master q.action)
+  pub own : 0 < (name_span q.shed q.action).length → names b q ≡ named (Ok tt) 1 (name_span q.shed q.action)
+  pub other : (name_span q.shed q.action).length ≡ 0 → names b q ≡ named (Ok tt) 0 (name_span q.master q.action)
 
 abbrev pub OnDone : Type 0
-OnDone = (b : Bytes) (q : Question) → name_answer b q ≡ Done → DoneName b q
+OnDone = (b : Bytes) (q : Question) → name_answer b q ≡ Ok tt → DoneName b q
 
 -- 02, Wish 8: "Refusals, with an empty part of the master"
 abbrev pub OnRefusal : Type 0
-OnRefusal = (b : Bytes) (q : Question) (r : Refusal) → name_answer b q ≡ Refused r → names b q ≡ refused_name (Refused r)
+OnRefusal = (b : Bytes) (q : Question) (r : Refusal) → name_answer b q ≡ Err r → names b q ≡ refused_name (Err r)

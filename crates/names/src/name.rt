@@ -1,27 +1,21 @@
 // The call: the card, then the shed's sheet, then the master's, then the action; and the part that holds its name.
 ghost use Rattle.std.specs.Prelude.{◌≡◌, ◌+◌, ◌≤◌};
-ghost use Rattle.meaning.specs.Refusals.{first_given};
-ghost use Rattle.names.specs.Naming.{asked, name_table, refused_name, found, names, Names, name_of, place_of};
+ghost use Rattle.names.specs.Naming.{asked, name_answer, refused_name, found, names, Names, name_of, place_of};
 ghost use Rattle.names.specs.Working.{SheetsReady};
 
 use crate::Named;
 use crate::sheet::{master_good, name_span, shed_good};
-use card::check::{answer_of, check, row};
-use meaning::{Answer, Checked, Refusal, Span};
+use card::check::{check, row};
+use meaning::{Answer, Refusal, Span};
 
-// "20 a sheet breaking these rules, the shed's before the master; then 21 unknown action"
-fn judge(shed: &[u8], master: &[u8], action: usize, n: usize) -> Answer
-    requires { n ≤ 256 }
-    ensures { result ≡ first_given (name_table n) (asked shed.now master.now action) }
+// The card's rows, then "20 a sheet breaking these rules, the shed's before the master; then 21 unknown action".
+fn judge(card: &[u8], shed: &[u8], master: &[u8], action: usize) -> Answer
+    ensures { result ≡ name_answer card.now (asked shed.now master.now action) }
 {
-    let own = row(shed_good(shed, n), Refusal::Sheet(1));
-    let Answer::Done = own else {
-        return own;
-    };
-    let other = row(master_good(master, n), Refusal::Sheet(0));
-    let Answer::Done = other else {
-        return other;
-    };
+    let l = check(card)?;
+    let n = l.actions as usize;
+    row(shed_good(shed, n), Refusal::Sheet(1))?;
+    row(master_good(master, n), Refusal::Sheet(0))?;
     row(action < n, Refusal::NoAction)
 }
 
@@ -48,14 +42,14 @@ fn find(shed: &[u8], master: &[u8], action: usize) -> Named
     let own = name_span(shed, action);
     if 0 < own.length {
         return Named {
-            answer: Answer::Done,
+            answer: Ok(()),
             sheet: 1,
             part: own,
         };
     }
     let other = name_span(master, action);
     Named {
-        answer: Answer::Done,
+        answer: Ok(()),
         sheet: 0,
         part: other,
     }
@@ -66,12 +60,8 @@ pub fn named(card: &[u8], shed: &[u8], master: &[u8], action: usize) -> Named
     ensures names { Names card.now (asked shed.now master.now action) result }
     ensures length_bound { result.part.start + result.part.length ≤ 65535 }
 {
-    let checked = check(card);
-    let Checked::Good(l) = checked else {
-        return refused_name(answer_of(checked));
-    };
-    let judged = judge(shed, master, action, l.actions as usize);
-    let Answer::Done = judged else {
+    let judged = judge(card, shed, master, action);
+    let Ok(()) = judged else {
         return refused_name(judged);
     };
     find(shed, master, action)

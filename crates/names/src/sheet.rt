@@ -16,7 +16,7 @@ fn head_good(sheet: &[u8], n: usize) -> bool
     let count = number_at(sheet, 0);
     let first = number_at(sheet, 2);
     let last = number_at(sheet, 2 + 2 * n);
-    (count == n) & ((first == 2 * n + 4) & (last == sheet.len()))
+    (count == n) & (first == 2 * n + 4) & (last == sheet.len())
 }
 
 // "offsets that never fall", and "the names, each in UTF-8", of so many bytes at least.
@@ -25,18 +25,15 @@ fn names_good(sheet: &[u8], n: usize, least: usize) -> bool
     ensures { result ≡ every n (name_good least sheet.now) }
 {
     let mut to = sheet.len();
-    let mut i = n;
-    while 0 < i {
-        let from = number_at(sheet, 2 * i);
+    for i in (0..n).rev() {
+        let from = number_at(sheet, 2 + 2 * i);
         if to < from + least {
             return false;
         }
-        if utf8_part(sheet, from, to) {
-            to = from;
-            i -= 1;
-        } else {
+        if !utf8_part(sheet, from, to) {
             return false;
         }
+        to = from;
     }
     true
 }
@@ -46,14 +43,7 @@ fn sheet_good(sheet: &[u8], n: usize, least: usize) -> bool
     requires { (n ≤ 256) × (least ≤ 1) }
     ensures { result ≡ sheet_good least n sheet.now }
 {
-    if sheet.len() < 2 * n + 4 {
-        return false;
-    }
-    if head_good(sheet, n) {
-        names_good(sheet, n, least)
-    } else {
-        false
-    }
+    (2 * n + 4 <= sheet.len()) && (head_good(sheet, n) && names_good(sheet, n, least))
 }
 
 // "may have one in its own language (an empty part: none)"
@@ -61,10 +51,7 @@ pub fn shed_good(sheet: &[u8], n: usize) -> bool
     requires { n ≤ 256 }
     ensures { result ≡ shed_good n sheet.now }
 {
-    if sheet.len() == 0 {
-        return true;
-    }
-    sheet_good(sheet, n, 0)
+    (sheet.len() == 0) || sheet_good(sheet, n, 0)
 }
 
 // "no master name is empty"

@@ -11,8 +11,8 @@ use lib.ListN.{length}
 use Rattle.paper.specs.Next.{if}
 use Rattle.paper.proofs.Relation.{none≢some, some_inj}
 use Rattle.meaning.specs.declared.Refusal.{Refusal}
-use Rattle.meaning.specs.declared.Answer.{Answer}
-use Rattle.meaning.specs.declared.Answer.TheVariants.{Done, Refused}
+use Rattle.meaning.specs.Answers.{Answer}
+use Rattle.std.specs.Prelude.{Ok, Err}
 use Rattle.meaning.specs.Card.{Bytes, trees}
 use Rattle.meaning.specs.Assembled.{assembled}
 use Rattle.meaning.specs.Calls.{over}
@@ -35,8 +35,8 @@ pub record TextComputed : Type 0 where
   pub leaves : Bytes
 
 abbrev answered_by : Answer → Said → Bytes → TextComputed
-answered_by Done s out = record { answer = Done; count = length (built s); leaves = over (built s) out }
-answered_by (Refused q) s out = record { answer = Refused q; count = 0; leaves = out }
+answered_by (Ok _) s out = record { answer = Ok tt; count = length (built s); leaves = over (built s) out }
+answered_by (Err q) s out = record { answer = Err q; count = 0; leaves = out }
 
 -- by the items that are read; nothing, if conditions nest deeper than they are read
 abbrev items_answered : Read (List Item) → Bytes → Option TextComputed
@@ -45,7 +45,7 @@ items_answered (got is t) out = some (answered_by (said_answer (said_by is) out)
 
 -- by where the scan goes wrong, if it does
 abbrev scan_answered : Option ℕ → Read (List Item) → Bytes → Option TextComputed
-scan_answered (some p) items out = some (record { answer = Refused (Refusal.Text p); count = 0; leaves = out })
+scan_answered (some p) items out = some (record { answer = Err (Refusal.Text p); count = 0; leaves = out })
 scan_answered none items out = items_answered items out
 
 -- What reading a text answers, with conditions that nest as deep as the text is long.
@@ -70,8 +70,8 @@ module _ (t out : Bytes) where
   read_said s x is u false e = absurd (got_not_nested e)
 
   said_answered : (s : Said) → Text t s → (a : Answer) → said_answer s out ≡ a → Answers (answered_by a s out)
-  said_answered s x Done e = done x e
-  said_answered s x (Refused q) e = refused x e
+  said_answered s x (Ok _) e = done x e
+  said_answered s x (Err q) e = refused x e
 
   items_answered_lem : Derived t → (r : Read (List Item)) → items_at (length t) (length t) t ≡ r
       → (a : TextComputed) → items_answered r out ≡ some a → Answers a

@@ -11,8 +11,8 @@ use lib.ListN.{length, take, drop, take-append-drop}
 use lib.Seq.{take_at}
 use Rattle.paper.proofs.Relation.{both, false≢true}
 use Rattle.meaning.specs.declared.Refusal.{Refusal}
-use Rattle.meaning.specs.declared.Answer.{Answer}
-use Rattle.meaning.specs.declared.Answer.TheVariants.{Done, Refused}
+use Rattle.meaning.specs.Answers.{Answer}
+use Rattle.std.specs.Prelude.{Ok, Err}
 use Rattle.meaning.specs.Card.{Bytes}
 use Rattle.meaning.specs.Refusals.{number_of, answer_number, carried, Row, first_given, and_then, all, card_table, card_answer}
 use Rattle.meaning.specs.Calls.{over, room_for}
@@ -28,41 +28,41 @@ use Rattle.notation.proofs.ReadingOnce.{unambiguous}
 -- ---- the refusals of a card are 1 to 9
 
 rows-below : {X : Type 0} (x : X) (rows : List (Row X)) (q : Refusal) → all (λ r. leb (number_of (r.refusal x)) 9) rows ≡ true
-    → first_given rows x ≡ Refused q → number_of q ≤ 9
+    → first_given rows x ≡ Err q → number_of q ≤ 9
 unfolding first_given
 rows-below x [] q h e = absurd (done≢refused e)
 rows-below x (r ∷ rows) q h e = go (r.when x) (rows-below x rows q (both (leb (number_of (r.refusal x)) 9) _ h).1) e
   where
-    go : (b : Bool) → (first_given rows x ≡ Refused q → number_of q ≤ 9)
-        → (elim b [ true ↦ Refused (r.refusal x) | false ↦ first_given rows x ]) ≡ Refused q → number_of q ≤ 9
+    go : (b : Bool) → (first_given rows x ≡ Err q → number_of q ≤ 9)
+        → (elim b as (λ z. Answer) [ true ↦ Err (r.refusal x) | false ↦ first_given rows x ]) ≡ Err q → number_of q ≤ 9
     go true ih f = subst (λ z. number_of z ≤ 9) (refused_inj f) (leb-true _ 9 (both _ _ h).0)
     go false ih f = ih f
 
-pub card_below : (b : Bytes) (q : Refusal) → card_answer b ≡ Refused q → number_of q ≤ 9
+pub card_below : (b : Bytes) (q : Refusal) → card_answer b ≡ Err q → number_of q ≤ 9
 unfolding card_answer card_table number_of
 card_below b q e = rows-below b card_table q refl e
 
 -- ---- what a text within the grammar is answered, by cases
 
 data SaidJudged (s : Said) (out : Bytes) : Answer → Type 0 where
-  is_nested : shallow s ≡ false → SaidJudged s out (Refused Refusal.Nested)
-  is_large : shallow s ≡ true → (numbers_fit s && entries_fit s) ≡ false → SaidJudged s out (Refused Refusal.Large)
-  of_card : {q : Refusal} → shallow s ≡ true → (numbers_fit s && entries_fit s) ≡ true → card_answer (built s) ≡ Refused q → number_of q ≤ 9
-      → SaidJudged s out (Refused q)
-  no_room : shallow s ≡ true → (numbers_fit s && entries_fit s) ≡ true → card_answer (built s) ≡ Done → length out < length (built s)
-      → SaidJudged s out (Refused Refusal.NoRoom)
-  all_good : shallow s ≡ true → (numbers_fit s && entries_fit s) ≡ true → card_answer (built s) ≡ Done → length (built s) ≤ length out
-      → SaidJudged s out Done
+  is_nested : shallow s ≡ false → SaidJudged s out (Err Refusal.Nested)
+  is_large : shallow s ≡ true → (numbers_fit s && entries_fit s) ≡ false → SaidJudged s out (Err Refusal.Large)
+  of_card : {q : Refusal} → shallow s ≡ true → (numbers_fit s && entries_fit s) ≡ true → card_answer (built s) ≡ Err q → number_of q ≤ 9
+      → SaidJudged s out (Err q)
+  no_room : shallow s ≡ true → (numbers_fit s && entries_fit s) ≡ true → card_answer (built s) ≡ Ok tt → length out < length (built s)
+      → SaidJudged s out (Err Refusal.NoRoom)
+  all_good : shallow s ≡ true → (numbers_fit s && entries_fit s) ≡ true → card_answer (built s) ≡ Ok tt → length (built s) ≤ length out
+      → SaidJudged s out (Ok tt)
 
 -- the same by what each row says
 judge_by : (s : Said) (out : Bytes) (n f : Bool) (c : Answer) (r : Bool) → shallow s ≡ n → (numbers_fit s && entries_fit s) ≡ f → card_answer (built s) ≡ c
     → leb (length (built s)) (length out) ≡ r
-    → SaidJudged s out (elim (not n) [ true ↦ Refused Refusal.Nested | false ↦ elim (not f) [ true ↦ Refused Refusal.Large | false ↦ and_then c (elim r [ true ↦ Done | false ↦ Refused Refusal.NoRoom ]) ] ])
+    → SaidJudged s out (elim (not n) [ true ↦ Err Refusal.Nested | false ↦ elim (not f) [ true ↦ Err Refusal.Large | false ↦ and_then c (elim r [ true ↦ Ok tt | false ↦ Err Refusal.NoRoom ]) ] ])
 judge_by s out false f c r en ef ec er = is_nested en
 judge_by s out true false c r en ef ec er = is_large en ef
-judge_by s out true true (Refused q) r en ef ec er = of_card en ef ec (card_below (built s) q ec)
-judge_by s out true true Done true en ef ec er = all_good en ef ec (leb-true _ _ er)
-judge_by s out true true Done false en ef ec er = no_room en ef ec (leb-false _ _ er)
+judge_by s out true true (Err q) r en ef ec er = of_card en ef ec (card_below (built s) q ec)
+judge_by s out true true (Ok _) true en ef ec er = all_good en ef ec (leb-true _ _ er)
+judge_by s out true true (Ok _) false en ef ec er = no_room en ef ec (leb-false _ _ er)
 
 judged_said : (s : Said) (out : Bytes) → SaidJudged s out (said_answer s out)
 unfolding said_answer text_table first_given
@@ -71,8 +71,8 @@ judged_said s out =
     (judge_by s out (shallow s) (numbers_fit s && entries_fit s) (card_answer (built s)) (leb (length (built s)) (length out)) refl refl refl refl)
   where
     in_order : (n f : Bool)
-        → (elim n [ true ↦ Refused Refusal.Nested | false ↦ elim f [ true ↦ Refused Refusal.Large | false ↦ and_then (card_answer (built s)) (room_for (built s) out) ] ])
-        ≡ and_then (elim n [ true ↦ Refused Refusal.Nested | false ↦ elim f [ true ↦ Refused Refusal.Large | false ↦ Done ] ]) (and_then (card_answer (built s)) (room_for (built s) out))
+        → (elim n [ true ↦ Err Refusal.Nested | false ↦ elim f [ true ↦ Err Refusal.Large | false ↦ and_then (card_answer (built s)) (room_for (built s) out) ] ])
+        ≡ and_then (elim n [ true ↦ Err Refusal.Nested | false ↦ elim f [ true ↦ Err Refusal.Large | false ↦ Ok tt ] ]) (and_then (card_answer (built s)) (room_for (built s) out))
     in_order true f = refl
     in_order false true = refl
     in_order false false = refl
@@ -84,14 +84,14 @@ pub same_number : {a b : Answer} → a ≡ b → answer_number a ≡ answer_numb
 same_number e = ap answer_number e
 
 module _ {s : Said} {out : Bytes} where
-  when_nested : {a : Answer} → SaidJudged s out a → shallow s ≡ false → a ≡ Refused Refusal.Nested
+  when_nested : {a : Answer} → SaidJudged s out a → shallow s ≡ false → a ≡ Err Refusal.Nested
   when_nested (is_nested e) f = refl
   when_nested (is_large e g) f = absurd (false≢true (sym f ∙ e))
   when_nested (of_card e g h i) f = absurd (false≢true (sym f ∙ e))
   when_nested (no_room e g h i) f = absurd (false≢true (sym f ∙ e))
   when_nested (all_good e g h i) f = absurd (false≢true (sym f ∙ e))
 
-  nested_when : {a : Answer} → SaidJudged s out a → a ≡ Refused Refusal.Nested → shallow s ≡ false
+  nested_when : {a : Answer} → SaidJudged s out a → a ≡ Err Refusal.Nested → shallow s ≡ false
   unfolding answer_number number_of
   nested_when (is_nested e) f = e
   nested_when (is_large e g) f = let z : ◌≡◌ {A = ℕ} 25 18 = same_number f in absurd (omega arith)
@@ -99,14 +99,14 @@ module _ {s : Said} {out : Bytes} where
   nested_when (no_room e g h i) f = let z : ◌≡◌ {A = ℕ} 12 18 = same_number f in absurd (omega arith)
   nested_when (all_good e g h i) f = absurd (done≢refused f)
 
-  when_large : {a : Answer} → SaidJudged s out a → shallow s ≡ true → (numbers_fit s && entries_fit s) ≡ false → a ≡ Refused Refusal.Large
+  when_large : {a : Answer} → SaidJudged s out a → shallow s ≡ true → (numbers_fit s && entries_fit s) ≡ false → a ≡ Err Refusal.Large
   when_large (is_nested e) f k = absurd (false≢true (sym e ∙ f))
   when_large (is_large e g) f k = refl
   when_large (of_card e g h i) f k = absurd (false≢true (sym k ∙ g))
   when_large (no_room e g h i) f k = absurd (false≢true (sym k ∙ g))
   when_large (all_good e g h i) f k = absurd (false≢true (sym k ∙ g))
 
-  large_when : {a : Answer} → SaidJudged s out a → a ≡ Refused Refusal.Large → (shallow s ≡ true) × ((numbers_fit s && entries_fit s) ≡ false)
+  large_when : {a : Answer} → SaidJudged s out a → a ≡ Err Refusal.Large → (shallow s ≡ true) × ((numbers_fit s && entries_fit s) ≡ false)
   unfolding answer_number number_of
   large_when (is_nested e) f = let z : ◌≡◌ {A = ℕ} 18 25 = same_number f in absurd (omega arith)
   large_when (is_large e g) f = (e, g)
@@ -122,15 +122,15 @@ module _ {s : Said} {out : Bytes} where
   when_within (of_card e g h i) f k = sym (ap (λ c. and_then c (room_for (built s) out)) h)
   when_within (no_room e g h i) f k = sym (ap (λ c. and_then c (room_for (built s) out)) h ∙ short (lt-leb _ _ i))
     where
-      short : leb (length (built s)) (length out) ≡ false → room_for (built s) out ≡ Refused Refusal.NoRoom
+      short : leb (length (built s)) (length out) ≡ false → room_for (built s) out ≡ Err Refusal.NoRoom
       short e = rw (e, room_for)
   when_within (all_good e g h i) f k = sym (ap (λ c. and_then c (room_for (built s) out)) h ∙ enough (le-leb _ _ i))
     where
-      enough : leb (length (built s)) (length out) ≡ true → room_for (built s) out ≡ Done
+      enough : leb (length (built s)) (length out) ≡ true → room_for (built s) out ≡ Ok tt
       enough e = rw (e, room_for)
 
-  card_when : {a : Answer} → SaidJudged s out a → (q : Refusal) → number_of q ≤ 9 → a ≡ Refused q
-      → (shallow s ≡ true) × ((numbers_fit s && entries_fit s) ≡ true) × (card_answer (built s) ≡ Refused q)
+  card_when : {a : Answer} → SaidJudged s out a → (q : Refusal) → number_of q ≤ 9 → a ≡ Err q
+      → (shallow s ≡ true) × ((numbers_fit s && entries_fit s) ≡ true) × (card_answer (built s) ≡ Err q)
   unfolding answer_number number_of
   card_when (is_nested e) q l f = let z : 18 ≡ number_of q = same_number f in absurd (omega arith)
   card_when (is_large e g) q l f = let z : 25 ≡ number_of q = same_number f in absurd (omega arith)
@@ -138,8 +138,8 @@ module _ {s : Said} {out : Bytes} where
   card_when (no_room e g h i) q l f = let z : 12 ≡ number_of q = same_number f in absurd (omega arith)
   card_when (all_good e g h i) q l f = absurd (done≢refused f)
 
-  room_when : {a : Answer} → SaidJudged s out a → a ≡ Refused Refusal.NoRoom
-      → (shallow s ≡ true) × ((numbers_fit s && entries_fit s) ≡ true) × (card_answer (built s) ≡ Done) × (length out < length (built s))
+  room_when : {a : Answer} → SaidJudged s out a → a ≡ Err Refusal.NoRoom
+      → (shallow s ≡ true) × ((numbers_fit s && entries_fit s) ≡ true) × (card_answer (built s) ≡ Ok tt) × (length out < length (built s))
   unfolding answer_number number_of
   room_when (is_nested e) f = let z : ◌≡◌ {A = ℕ} 18 12 = same_number f in absurd (omega arith)
   room_when (is_large e g) f = let z : ◌≡◌ {A = ℕ} 25 12 = same_number f in absurd (omega arith)
@@ -147,15 +147,15 @@ module _ {s : Said} {out : Bytes} where
   room_when (no_room e g h i) f = (e, g, h, i)
   room_when (all_good e g h i) f = absurd (done≢refused f)
 
-  done_when : {a : Answer} → SaidJudged s out a → a ≡ Done
-      → (shallow s ≡ true) × ((numbers_fit s && entries_fit s) ≡ true) × (card_answer (built s) ≡ Done) × (length (built s) ≤ length out)
+  done_when : {a : Answer} → SaidJudged s out a → a ≡ Ok tt
+      → (shallow s ≡ true) × ((numbers_fit s && entries_fit s) ≡ true) × (card_answer (built s) ≡ Ok tt) × (length (built s) ≤ length out)
   done_when (is_nested e) f = absurd (done≢refused (sym f))
   done_when (is_large e g) f = absurd (done≢refused (sym f))
   done_when (of_card e g h i) f = absurd (done≢refused (sym f))
   done_when (no_room e g h i) f = absurd (done≢refused (sym f))
   done_when (all_good e g h i) f = (e, g, h, i)
 
-  never_text : {a : Answer} → SaidJudged s out a → (p : ℕ) → a ≡ Refused (Refusal.Text p) → ⊥
+  never_text : {a : Answer} → SaidJudged s out a → (p : ℕ) → a ≡ Err (Refusal.Text p) → ⊥
   unfolding answer_number number_of
   never_text (is_nested e) p f = let z : ◌≡◌ {A = ℕ} 18 17 = same_number f in omega arith
   never_text (is_large e g) p f = let z : ◌≡◌ {A = ℕ} 25 17 = same_number f in omega arith
@@ -167,7 +167,7 @@ module _ {s : Said} {out : Bytes} where
 
 -- no text, with its place; or what a text says
 data TextFound (t out : Bytes) (a : Answer) : Type 0 where
-  wrong_at : (p : ℕ) → a ≡ Refused (Refusal.Text p) → WrongAt t p → TextFound t out a
+  wrong_at : (p : ℕ) → a ≡ Err (Refusal.Text p) → WrongAt t p → TextFound t out a
   says : (s : Said) → Text t s → SaidJudged s out a → TextFound t out a
 
 found : {t out left : Bytes} {a : Answer} {n : ℕ} → Reads t out a n left → TextFound t out a
@@ -217,62 +217,62 @@ same_place {t} {p} {q} v w = go (ltb p q) refl (ltb q p) refl
 
 -- ---- the laws
 
-enough : (s : Said) (out : Bytes) → card_answer (built s) ≡ Done → length (built s) ≤ length out → and_then (card_answer (built s)) (room_for (built s) out) ≡ Done
+enough : (s : Said) (out : Bytes) → card_answer (built s) ≡ Ok tt → length (built s) ≤ length out → and_then (card_answer (built s)) (room_for (built s) out) ≡ Ok tt
 enough s out c h = let e = le-leb (length (built s)) (length out) h in rw (c, room_for, e)
 
-short : (s : Said) (out : Bytes) → card_answer (built s) ≡ Done → length out < length (built s)
-    → and_then (card_answer (built s)) (room_for (built s) out) ≡ Refused Refusal.NoRoom
+short : (s : Said) (out : Bytes) → card_answer (built s) ≡ Ok tt → length out < length (built s)
+    → and_then (card_answer (built s)) (room_for (built s) out) ≡ Err Refusal.NoRoom
 short s out c h = let e = lt-leb (length (built s)) (length out) h in rw (c, room_for, e)
 
 module _ {t out : Bytes} {a : Answer} where
-  done_to : TextFound t out a → a ≡ Done → (s : Said) × (WithinLimits t s × ((card_answer (built s) ≡ Done) × (length (built s) ≤ length out)))
+  done_to : TextFound t out a → a ≡ Ok tt → (s : Said) × (WithinLimits t s × ((card_answer (built s) ≡ Ok tt) × (length (built s) ≤ length out)))
   done_to (wrong_at p f w) e = absurd (done≢refused (sym e ∙ f))
   done_to (says s x j) e = let d = done_when j e in (s, (within x d.0 d.1, (d.2, d.3)))
 
-  text_not : TextFound t out a → (p : ℕ) → a ≡ Refused (Refusal.Text p) → Derived t → ⊥
+  text_not : TextFound t out a → (p : ℕ) → a ≡ Err (Refusal.Text p) → Derived t → ⊥
   text_not (wrong_at p f w) q e d = w.not_derived d
   text_not (says s x j) q e d = never_text j q e
 
-  text_to : TextFound t out a → (Derived t → ⊥) → (p : ℕ) × (a ≡ Refused (Refusal.Text p))
+  text_to : TextFound t out a → (Derived t → ⊥) → (p : ℕ) × (a ≡ Err (Refusal.Text p))
   text_to (wrong_at p f w) d = (p, f)
   text_to (says s x j) d = absurd (d (s, x))
 
-  place_to : TextFound t out a → (p : ℕ) → a ≡ Refused (Refusal.Text p) → WrongAt t p
+  place_to : TextFound t out a → (p : ℕ) → a ≡ Err (Refusal.Text p) → WrongAt t p
   unfolding carried
   place_to (wrong_at q f w) p e = subst (WrongAt t) (ap carried (refused_inj (sym f ∙ e))) w
   place_to (says s x j) p e = absurd (never_text j p e)
 
-  place_from : TextFound t out a → (p : ℕ) → WrongAt t p → a ≡ Refused (Refusal.Text p)
-  place_from (wrong_at q f w) p v = f ∙ ap (λ z. Refused (Refusal.Text z)) (same_place w v)
+  place_from : TextFound t out a → (p : ℕ) → WrongAt t p → a ≡ Err (Refusal.Text p)
+  place_from (wrong_at q f w) p v = f ∙ ap (λ z. Err (Refusal.Text z)) (same_place w v)
   place_from (says s x j) p v = absurd (v.not_derived (s, x))
 
-  nested_to : TextFound t out a → a ≡ Refused Refusal.Nested → (s : Said) × (Text t s × (shallow s ≡ false))
+  nested_to : TextFound t out a → a ≡ Err Refusal.Nested → (s : Said) × (Text t s × (shallow s ≡ false))
   unfolding answer_number number_of
   nested_to (wrong_at p f w) e = let z : ◌≡◌ {A = ℕ} 17 18 = same_number (sym f ∙ e) in absurd (omega arith)
   nested_to (says s x j) e = (s, (x, nested_when j e))
 
-  large_to : TextFound t out a → a ≡ Refused Refusal.Large → (s : Said) × (Text t s × ((shallow s ≡ true) × ((numbers_fit s && entries_fit s) ≡ false)))
+  large_to : TextFound t out a → a ≡ Err Refusal.Large → (s : Said) × (Text t s × ((shallow s ≡ true) × ((numbers_fit s && entries_fit s) ≡ false)))
   unfolding answer_number number_of
   large_to (wrong_at p f w) e = let z : ◌≡◌ {A = ℕ} 17 25 = same_number (sym f ∙ e) in absurd (omega arith)
   large_to (says s x j) e = (s, (x, large_when j e))
 
-  card_to : TextFound t out a → (q : Refusal) → number_of q ≤ 9 → a ≡ Refused q → (s : Said) × (WithinLimits t s × (card_answer (built s) ≡ Refused q))
+  card_to : TextFound t out a → (q : Refusal) → number_of q ≤ 9 → a ≡ Err q → (s : Said) × (WithinLimits t s × (card_answer (built s) ≡ Err q))
   unfolding answer_number number_of
   card_to (wrong_at p f w) q h e = let z : 17 ≡ number_of q = same_number (sym f ∙ e) in absurd (omega arith)
   card_to (says s x j) q h e = let d = card_when j q h e in (s, (within x d.0 d.1, d.2))
 
-  room_to : TextFound t out a → a ≡ Refused Refusal.NoRoom → (s : Said) × (WithinLimits t s × ((card_answer (built s) ≡ Done) × (length out < length (built s))))
+  room_to : TextFound t out a → a ≡ Err Refusal.NoRoom → (s : Said) × (WithinLimits t s × ((card_answer (built s) ≡ Ok tt) × (length out < length (built s))))
   unfolding answer_number number_of
   room_to (wrong_at p f w) e = let z : ◌≡◌ {A = ℕ} 17 12 = same_number (sym f ∙ e) in absurd (omega arith)
   room_to (says s x j) e = let d = room_when j e in (s, (within x d.0 d.1, (d.2, d.3)))
 
-written : {t out left : Bytes} {a : Answer} {n : ℕ} → Reads t out a n left → (s : Said) → Text t s → a ≡ Done → (n ≡ length (built s)) × (left ≡ over (built s) out)
+written : {t out left : Bytes} {a : Answer} {n : ℕ} → Reads t out a n left → (s : Said) → Text t s → a ≡ Ok tt → (n ≡ length (built s)) × (left ≡ over (built s) out)
 written (no_text w) s x e = absurd (done≢refused (sym e))
 written (refused x' f) s x e = absurd (done≢refused (sym e))
 written {t} {out} (done {s = s'} x' f) s x e =
     let same = unambiguous.text t s' s x' x in (ap (λ z. length (built z)) same, ap (λ z. over (built z) out) same)
 
-unwritten : {t out left : Bytes} {a : Answer} {n : ℕ} → Reads t out a n left → (q : Refusal) → a ≡ Refused q → (n ≡ 0) × (left ≡ out)
+unwritten : {t out left : Bytes} {a : Answer} {n : ℕ} → Reads t out a n left → (q : Refusal) → a ≡ Err q → (n ≡ 0) × (left ≡ out)
 unwritten (no_text w) q e = (refl, refl)
 unwritten (refused x f) q e = (refl, refl)
 unwritten (done x f) q e = absurd (done≢refused e)
@@ -299,10 +299,10 @@ read_law t out a n left r =
 in_front : (c out left : Bytes) (n : ℕ) → n ≡ length c → left ≡ over c out → take n left ≡ c
 in_front c out left n h g = rw (h, g) (take_at c (drop (length c) out) (length c) refl)
 
-pub done_leaves : {t out left : Bytes} {n : ℕ} → Reads t out Done n left
-    → (s : Said) × (WithinLimits t s × ((card_answer (built s) ≡ Done) × (take n left ≡ built s)))
+pub done_leaves : {t out left : Bytes} {n : ℕ} → Reads t out (Ok tt) n left
+    → (s : Said) × (WithinLimits t s × ((card_answer (built s) ≡ Ok tt) × (take n left ≡ built s)))
 done_leaves {t} {out} {left} {n} r =
-    let laws = read_law t out Done n left r in
+    let laws = read_law t out (Ok tt) n left r in
     let (s, (within, (card, room))) = laws.done_exactly.0 refl in
     let (count, wrote) = laws.built_then s within.derived refl in
     (s, (within, (card, in_front (built s) out left n count wrote)))
@@ -326,12 +326,12 @@ one_answer t out _ a' _ n' _ left' (done {s = s} x f) r =
 
 -- and there is one: a text is derived or not, and what it says is refused or not
 answered : (t out : Bytes) (s : Said) → Text t s → (a : Answer) → said_answer s out ≡ a → (a : Answer) × ((n : ℕ) × ((left : Bytes) × Reads t out a n left))
-answered t out s x Done e = (Done, (length (built s), (over (built s) out, done x e)))
-answered t out s x (Refused q) e = (Refused q, (0, (out, refused x e)))
+answered t out s x (Ok _) e = (Ok tt, (length (built s), (over (built s) out, done x e)))
+answered t out s x (Err q) e = (Err q, (0, (out, refused x e)))
 
 some_answer : (t out : Bytes) (o : Option ℕ) → Scanned t o → (a : Answer) × ((n : ℕ) × ((left : Bytes) × Reads t out a n left))
 some_answer t out none (s, x) = answered t out s x (said_answer s out) refl
-some_answer t out (some p) w = (Refused (Refusal.Text p), (0, (out, no_text w)))
+some_answer t out (some p) w = (Err (Refusal.Text p), (0, (out, no_text w)))
 
 pub read_determined : ReadDetermined
 read_determined = record { read = one_answer; some_answer = λ t out. some_answer t out (judge t (lines first)) (scanned t) }

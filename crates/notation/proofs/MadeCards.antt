@@ -10,7 +10,7 @@ use lib.ListN.{length}
 use Rattle.paper.proofs.Relation.{both, false≢true}
 use Rattle.meaning.specs.declared.Refusal.{Refusal}
 use Rattle.meaning.specs.declared.Layout.{Layout}
-use Rattle.meaning.specs.declared.Answer.TheVariants.{Refused}
+use Rattle.std.specs.Prelude.{Err}
 use Rattle.meaning.specs.Sizes.{edition_set}
 use Rattle.meaning.specs.Card.{Bytes, layout}
 use Rattle.meaning.specs.Refusals.{number_of, Row, first_given, all, has_edition, card_long_enough, card_mark_good, offsets_good, card_table, card_answer}
@@ -125,7 +125,7 @@ fourth_alone o p q r t rows b d e f g =
 
 -- a number that no row has is not answered
 not_among : (rows : List (Row Bytes)) (b : Bytes) (r : Refusal) → all (λ n. not (eqb n (number_of r))) (row_numbers rows b) ≡ true
-    → first_given rows b ≡ Refused r → ⊥
+    → first_given rows b ≡ Err r → ⊥
 unfolding first_given
 not_among [] b r a e = done≢refused e
 not_among (q ∷ rows) b r a e = by_row (q.when b) refl (not_among rows b r rest.1)
@@ -133,7 +133,7 @@ not_among (q ∷ rows) b r a e = by_row (q.when b) refl (not_among rows b r rest
     rest : (not (eqb (number_of (q.refusal b)) (number_of r)) ≡ true) × (all (λ n. not (eqb n (number_of r))) (row_numbers rows b) ≡ true)
     rest = both (not (eqb (number_of (q.refusal b)) (number_of r))) (all (λ n. not (eqb n (number_of r))) (row_numbers rows b)) a
 
-    by_row : (v : Bool) → q.when b ≡ v → (first_given rows b ≡ Refused r → ⊥) → ⊥
+    by_row : (v : Bool) → q.when b ≡ v → (first_given rows b ≡ Err r → ⊥) → ⊥
     by_row true h f =
         let same : q.refusal b ≡ r = refused_inj (sym (given q rows b h) ∙ e) in
         let equal : eqb (number_of (q.refusal b)) (number_of r) ≡ true = eq-eqb (number_of (q.refusal b)) (number_of r) (ap number_of same) in

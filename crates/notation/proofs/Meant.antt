@@ -14,7 +14,7 @@ use Rattle.paper.specs.Transitions.{struck_by}
 use Rattle.paper.proofs.Relation.{both}
 use Rattle.runs.specs.Order.{numbers}
 use Rattle.meaning.specs.declared.Layout.{Layout}
-use Rattle.meaning.specs.declared.Answer.TheVariants.{Done}
+use Rattle.std.specs.Prelude.{Ok}
 use Rattle.meaning.specs.Trees.{Tree}
 use Rattle.meaning.specs.Sizes.{edition_set}
 use Rattle.meaning.specs.Card.{Bytes, byte, number_at, span, part, widened, initial_beliefs, initial_goals, layout, weights, plan, specification_at, selection_at, revision_at, specification_of, selection_of, revision_of, agent_of, agent_for, agent, initial_plan, start}
@@ -168,7 +168,7 @@ module _ (s : Said) (n : numbers_fit s ≡ Bool.true) (e : entries_fit s ≡ Boo
 
   -- ---- all of it
 
-  module _ (card : card_answer (built s) ≡ Done) where
+  module _ (card : card_answer (built s) ≡ Ok tt) where
     rules : rules_good (containing 1 l b) (containing 2 l b) l b ≡ Bool.true
     rules = subst (λ l. rules_good (containing 1 l b) (containing 2 l b) l b ≡ Bool.true) (built_layout s n e) (accepted b card).rules
 

@@ -9,7 +9,7 @@ use native.Mathlib.Omega.{arith}
 use lib.Dec.{eqb, leb, ltb}
 use lib.ListN.{length}
 use Rattle.meaning.specs.declared.Refusal.{Refusal}
-use Rattle.meaning.specs.declared.Answer.TheVariants.{Done}
+use Rattle.std.specs.Prelude.{Ok}
 use Rattle.meaning.specs.declared.Layout.{Layout}
 use borrow.Author.Tests.{ne_eqb, le-leb, lt-ltb}
 use Rattle.meaning.specs.Trees.{Tree, true, believes, goal, and, or}
@@ -206,7 +206,7 @@ print_laws = record { same_tree = λ t. (reads t).as_or; fewest_brackets = λ r.
 -- ---- the whole call, and the examples
 
 -- no row holds
-rows_pass : (l : Layout) (b : Bytes) (n : ℕ) → n < l.nodes.count → depth_of (tree_at l b n) ≤ 32 → size (tree_at l b n) ≤ 256 → first_given (print_table l b) n ≡ Done
+rows_pass : (l : Layout) (b : Bytes) (n : ℕ) → n < l.nodes.count → depth_of (tree_at l b n) ≤ 32 → size (tree_at l b n) ≤ 256 → first_given (print_table l b) n ≡ Ok tt
 unfolding print_table first_given
 rows_pass l b n known shallow few =
     let unknown : Row ℕ = Refusal.Rule given_when (λ n. Bool.not (ltb n l.nodes.count)) in
@@ -219,8 +219,8 @@ rows_pass l b n known shallow few =
 pub prints_any : PrintsAny
 unfolding printed print_answer print_leaves
 prints_any b n out card known shallow few room =
-    let fits : room_for (printed b n) out ≡ Done = rw (le-leb (length (printed b n)) (length out) room, room_for) in
-    let done : print_answer b n out ≡ Done = (λ i. and_then (card i) (and_then (rows_pass (layout b) b n known shallow few i) (fits i))) in
+    let fits : room_for (printed b n) out ≡ Ok tt = rw (le-leb (length (printed b n)) (length out) room, room_for) in
+    let done : print_answer b n out ≡ Ok tt = (λ i. and_then (card i) (and_then (rows_pass (layout b) b n known shallow few i) (fits i))) in
     (done, ap (λ a. leaves_by a (printed b n) out) done, (reads (tree_at (layout b) b n)).as_or)
 
 pub print_cases_lem : PrintCases

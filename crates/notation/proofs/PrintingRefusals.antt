@@ -7,8 +7,8 @@ use borrow.Author.Tests.{leb-true, leb-false, le-leb, lt-leb, ltb-true, ltb-fals
 use lib.Dec.{leb, ltb}
 use lib.ListN.{length}
 use Rattle.meaning.specs.declared.Refusal.{Refusal}
-use Rattle.meaning.specs.declared.Answer.{Answer}
-use Rattle.meaning.specs.declared.Answer.TheVariants.{Done, Refused}
+use Rattle.meaning.specs.Answers.{Answer}
+use Rattle.std.specs.Prelude.{Ok, Err}
 use Rattle.meaning.specs.Trees.{Tree}
 use Rattle.meaning.specs.Card.{Bytes, layout, tree_at}
 use Rattle.meaning.specs.Refusals.{number_of, answer_number, first_given, and_then, card_answer}
@@ -22,15 +22,15 @@ use Rattle.notation.proofs.Laws.{card_below, same_number}
 -- ---- the answer by what each row asks: the node is known, its text is shallow, its nodes are few, and there is room
 
 abbrev by : Bool → Bool → Bool → Bool → Answer
-by false d f r = Refused Refusal.Rule
-by true false f r = Refused Refusal.Nested
-by true true false r = Refused Refusal.Large
-by true true true false = Refused Refusal.NoRoom
-by true true true true = Done
+by false d f r = Err Refusal.Rule
+by true false f r = Err Refusal.Nested
+by true true false r = Err Refusal.Large
+by true true true false = Err Refusal.NoRoom
+by true true true true = Ok tt
 
 in_order : (k d f r : Bool)
-    → and_then (elim (not k) [ true ↦ Refused Refusal.Rule | false ↦ elim (not d) [ true ↦ Refused Refusal.Nested | false ↦ elim (not f) [ true ↦ Refused Refusal.Large | false ↦ Done ] ] ])
-    (elim r [ true ↦ Done | false ↦ Refused Refusal.NoRoom ])
+    → and_then (elim (not k) [ true ↦ Err Refusal.Rule | false ↦ elim (not d) [ true ↦ Err Refusal.Nested | false ↦ elim (not f) [ true ↦ Err Refusal.Large | false ↦ Ok tt ] ] ])
+    (elim r [ true ↦ Ok tt | false ↦ Err Refusal.NoRoom ])
     ≡ by k d f r
 in_order false d f r = refl
 in_order true false f r = refl
@@ -98,55 +98,55 @@ module _ (b : Bytes) (n : ℕ) (out : Bytes) where
   abbrev room : Bool
   room = leb (length (printed b n)) (length out)
 
-  answered : card_answer b ≡ Done → print_answer b n out ≡ by known shallow few room
+  answered : card_answer b ≡ Ok tt → print_answer b n out ≡ by known shallow few room
   unfolding print_answer print_table first_given
   answered card =
       ap (λ a. and_then a (and_then (first_given (print_table (layout b) b) n) (room_for (printed b n) out))) card ∙ in_order known shallow few room
 
-  answered_as : card_answer b ≡ Done → (k d f r : Bool) → known ≡ k → shallow ≡ d → few ≡ f → room ≡ r → print_answer b n out ≡ by k d f r
+  answered_as : card_answer b ≡ Ok tt → (k d f r : Bool) → known ≡ k → shallow ≡ d → few ≡ f → room ≡ r → print_answer b n out ≡ by k d f r
   answered_as card k d f r ek ed ef er = answered card ∙ (λ i. by (ek i) (ed i) (ef i) (er i))
 
   abbrev behind : Answer
   behind = and_then (first_given (print_table (layout b) b) n) (room_for (printed b n) out)
 
   -- a number that no card is refused with is answered of an accepted card
-  accepted_then : (q : Refusal) → 10 ≤ number_of q → print_answer b n out ≡ Refused q → card_answer b ≡ Done
+  accepted_then : (q : Refusal) → 10 ≤ number_of q → print_answer b n out ≡ Err q → card_answer b ≡ Ok tt
   unfolding print_answer answer_number
   accepted_then q above e = go (card_answer b) refl
     where
-      go : (c : Answer) → card_answer b ≡ c → card_answer b ≡ Done
-      go Done h = h
-      go (Refused p) h =
+      go : (c : Answer) → card_answer b ≡ c → card_answer b ≡ Ok tt
+      go (Ok _) h = h
+      go (Err p) h =
           let same : number_of p ≡ number_of q = same_number (sym (ap (λ c. and_then c behind) h) ∙ e) in
           absurd (omega (arith, card_below b p h))
 
   -- what each row asked, by the answer
-  asked : {x : Answer} {m : ℕ} → card_answer b ≡ Done → answer_number x ≡ m → print_answer b n out ≡ x → answer_number (by known shallow few room) ≡ m
+  asked : {x : Answer} {m : ℕ} → card_answer b ≡ Ok tt → answer_number x ≡ m → print_answer b n out ≡ x → answer_number (by known shallow few room) ≡ m
   asked card is e = same_number (sym (answered card) ∙ e) ∙ is
 
-  card_refused : (q : Refusal) → card_answer b ≡ Refused q → print_answer b n out ≡ Refused q
+  card_refused : (q : Refusal) → card_answer b ≡ Err q → print_answer b n out ≡ Err q
   unfolding print_answer
   card_refused q e = ap (λ c. and_then c behind) e
 
-  unknown_to : card_answer b ≡ Done → print_answer b n out ≡ Refused Refusal.Rule → (layout b).nodes.count ≤ n
+  unknown_to : card_answer b ≡ Ok tt → print_answer b n out ≡ Err Refusal.Rule → (layout b).nodes.count ≤ n
   unfolding answer_number number_of
   unknown_to card e = ltb-false _ _ (by_unknown known shallow few room (asked card refl e))
 
-  nested_to : print_answer b n out ≡ Refused Refusal.Nested → KnownNode b n × (32 < depth_of tree)
+  nested_to : print_answer b n out ≡ Err Refusal.Nested → KnownNode b n × (32 < depth_of tree)
   unfolding answer_number number_of
   nested_to e =
       let card = accepted_then Refusal.Nested (omega arith) e in
       let (k, d) = by_nested known shallow few room (asked card refl e) in
       ((card, ltb-true _ _ k), leb-false _ _ d)
 
-  large_to : print_answer b n out ≡ Refused Refusal.Large → KnownNode b n × ((depth_of tree ≤ 32) × (256 < size tree))
+  large_to : print_answer b n out ≡ Err Refusal.Large → KnownNode b n × ((depth_of tree ≤ 32) × (256 < size tree))
   unfolding answer_number number_of
   large_to e =
       let card = accepted_then Refusal.Large (omega arith) e in
       let (k, d, f) = by_large known shallow few room (asked card refl e) in
       ((card, ltb-true _ _ k), (leb-true _ _ d, leb-false _ _ f))
 
-  room_to : print_answer b n out ≡ Refused Refusal.NoRoom
+  room_to : print_answer b n out ≡ Err Refusal.NoRoom
       → KnownNode b n × ((depth_of tree ≤ 32) × ((size tree ≤ 256) × (length out < length (printed b n))))
   unfolding answer_number number_of
   room_to e =
@@ -154,7 +154,7 @@ module _ (b : Bytes) (n : ℕ) (out : Bytes) where
       let (k, d, f, r) = by_room known shallow few room (asked card refl e) in
       ((card, ltb-true _ _ k), (leb-true _ _ d, (leb-true _ _ f, leb-false _ _ r)))
 
-  done_to : print_answer b n out ≡ Done → KnownNode b n × ((depth_of tree ≤ 32) × ((size tree ≤ 256) × (length (printed b n) ≤ length out)))
+  done_to : print_answer b n out ≡ Ok tt → KnownNode b n × ((depth_of tree ≤ 32) × ((size tree ≤ 256) × (length (printed b n) ≤ length out)))
   unfolding print_answer answer_number
   done_to e =
       let card = (and_then_done (card_answer b) behind e).0 in

@@ -8,7 +8,7 @@ use borrow.Author.Tests.{leb-true, le-leb}
 use lib.Dec.{leb}
 use lib.ListN.{length}
 use Rattle.paper.proofs.Relation.{both}
-use Rattle.meaning.specs.declared.Answer.TheVariants.{Done}
+use Rattle.std.specs.Prelude.{Ok}
 use Rattle.meaning.specs.Trees.{Tree, true, believes, goal, not, and, or}
 use Rattle.meaning.specs.Card.{Bytes, layout, trees, tree_at}
 use Rattle.meaning.specs.Refusals.{all}
@@ -128,5 +128,5 @@ text_prints t out n left reads k known =
     let good = conditions_print (conditions s) (text_no_deeper within.derived) within.not_nested (entries_each s entries).4 in
     let node : k < (layout (built s)).nodes.count = subst (λ b. k < (layout b).nodes.count) whole known in
     let (deep, few) = node_prints s numbers entries good k node in
-    subst (λ b. (length (printed b k) ≤ 894) × ((room : Bytes) → length (printed b k) ≤ length room → print_answer b k room ≡ Done)) (sym whole)
+    subst (λ b. (length (printed b k) ≤ 894) × ((room : Bytes) → length (printed b k) ≤ length room → print_answer b k room ≡ Ok tt)) (sym whole)
     (print_room (built s) k (accepted, node) few, λ room fits. (print_refusals (built s) k room).done_exactly.1 ((accepted, node), (deep, (few, fits))))

@@ -1,9 +1,8 @@
 -- Cases of reading and printing: the stripe card as text (docs/TEXT.md), and texts at the edges of the limits.
-use Rattle.std.specs.Prelude.{◌≡◌, List, [], ◌∷◌, ◌++◌, map, ℕ, replicate}
+use Rattle.std.specs.Prelude.{◌≡◌, List, [], ◌∷◌, ◌++◌, map, ℕ, replicate, Ok, Err}
 use Prim.Native.Char.{code}
 use Prim.Native.String.{String}
 use Rattle.meaning.specs.declared.Refusal.{Refusal}
-use Rattle.meaning.specs.declared.Answer.TheVariants.{Done, Refused}
 use Rattle.meaning.specs.Trees.{Tree, true, believes, goal, not, and, or}
 use Rattle.meaning.specs.Card.{Bytes}
 use Rattle.meaning.specs.Assembled.{assembled}
@@ -61,22 +60,22 @@ lent n = replicate n 0xEE
 -- The cases of reading.
 pub record TextCases : Type 0 where
   -- docs/TEXT.md: "the text above makes a card of 283 bytes that runs as the stripe card of 255 does"; what lies behind it stays
-  pub stripe_read : Reads stripe_text (lent 285) Done 283 (stripe_of_text ++ lent 2)
+  pub stripe_read : Reads stripe_text (lent 285) (Ok tt) 283 (stripe_of_text ++ lent 2)
   pub stripe_runs : shown_run (runs stripe_of_text (loads stripe_of_text).configuration 1000)
       ≡ 0 ∷ 1 ∷ 6 ∷ (set 5 ++ (set 0 ++ (2 ∷ [])))
-  pub stripe_no_room : Reads stripe_text (lent 282) (Refused Refusal.NoRoom) 0 (lent 282)
+  pub stripe_no_room : Reads stripe_text (lent 282) (Err Refusal.NoRoom) 0 (lent 282)
   -- 02, Wish 2: "the place of the first byte that no continuation could make right (the length, if it just ends)"
-  pub nothing : Reads [] [] (Refused (Refusal.Text 0)) 0 []
-  pub just_ends : Reads (word "atoms 4") [] (Refused (Refusal.Text 7)) 0 []
-  pub capital : Reads (line "Atoms 4") [] (Refused (Refusal.Text 0)) 0 []
-  pub behind_33_brackets : Reads (asking (replicate 33 (code "(") ++ word "&")) [] (Refused (Refusal.Text 58)) 0 []
+  pub nothing : Reads [] [] (Err (Refusal.Text 0)) 0 []
+  pub just_ends : Reads (word "atoms 4") [] (Err (Refusal.Text 7)) 0 []
+  pub capital : Reads (line "Atoms 4") [] (Err (Refusal.Text 0)) 0 []
+  pub behind_33_brackets : Reads (asking (replicate 33 (code "(") ++ word "&")) [] (Err (Refusal.Text 58)) 0 []
   -- 02, Wish 2: "brackets and `!` together may nest 32 deep"
-  pub nested_32 : Reads (asking (replicate 32 (code "!") ++ word "T")) [] (Refused Refusal.NoRoom) 0 []
-  pub nested_33 : Reads (asking (replicate 33 (code "!") ++ word "T")) (lent 300) (Refused Refusal.Nested) 0 (lent 300)
+  pub nested_32 : Reads (asking (replicate 32 (code "!") ++ word "T")) [] (Err Refusal.NoRoom) 0 []
+  pub nested_33 : Reads (asking (replicate 33 (code "!") ++ word "T")) (lent 300) (Err Refusal.Nested) 0 (lent 300)
   -- 02, Wish 2: "a number too large for its field"
-  pub atom_256 : Reads (asking (word "B256")) (lent 300) (Refused Refusal.Large) 0 (lent 300)
+  pub atom_256 : Reads (asking (word "B256")) (lent 300) (Err Refusal.Large) 0 (lent 300)
   -- "then 3 and 5 to 9": an atom that the card does not have
-  pub atom_1 : Reads (asking (word "B1")) (lent 300) (Refused Refusal.Node) 0 (lent 300)
+  pub atom_1 : Reads (asking (word "B1")) (lent 300) (Err Refusal.Node) 0 (lent 300)
 
 -- ---- printing
 

@@ -1,11 +1,10 @@
 -- A text means what it says: the agent, the weights and the start of a card, held beside the lines of a text.
-use Rattle.std.specs.Prelude.{◌≡◌, ◌↔◌, Bool, ℕ, get_or, take}
+use Rattle.std.specs.Prelude.{◌≡◌, ◌↔◌, Bool, ℕ, get_or, take, Ok}
 use mathlib.Core.List.{List, [], ◌∷◌, Memᴰ}
 use Rattle.paper.specs.Atoms.{Atoms, ◌∈◌}
 use Rattle.paper.specs.Language.{Letter, 𝐁, 𝐆, Query, ⊤, atom, ¬', ◌∧'◌, ◌∨'◌, Specification, Selection, Revision, ⟨◌/◌/◌⟩}
 use Rattle.paper.specs.Transitions.{struck_by}
 use Rattle.runs.specs.Order.{State}
-use Rattle.meaning.specs.declared.Answer.TheVariants.{Done}
 use Rattle.meaning.specs.declared.Layout.{Layout}
 use Rattle.meaning.specs.Trees.{Tree, true, believes, goal, not, and, or}
 use Rattle.meaning.specs.Card.{Bytes, widened, layout, conditions, condition, weights, agent, initial_beliefs, initial_goals, start, tree_at}
@@ -83,7 +82,7 @@ pub record Means (s : Said) (b : Bytes) : Type 0 where
 -- 02, Wish 2: "builds an edition 1 card": of every text that is answered done, what the lent buffer holds then means the lines of
 -- the text.
 abbrev pub MeantLaw : Type 0
-MeantLaw = (t out : Bytes) (n : ℕ) (left : Bytes) → Reads t out Done n left → (s : Said) × (Text t s × Means s (take n left))
+MeantLaw = (t out : Bytes) (n : ℕ) (left : Bytes) → Reads t out (Ok tt) n left → (s : Said) × (Text t s × Means s (take n left))
 
 -- docs/TEXT.md: "A set's numbers may come in any order and twice": the set has just those atoms.
 abbrev pub SetLaw : Type 0

@@ -2,7 +2,7 @@
 use Rattle.std.specs.Prelude.{◌≡◌, Bool, not, List, [], ◌∷◌, ◌++◌, ℕ, zero, suc, max, ◌+◌, ◌/◌, ◌%◌, leb, ltb}
 use Prim.Native.Char.{code}
 use Rattle.meaning.specs.declared.Refusal.{Refusal}
-use Rattle.meaning.specs.declared.Answer.{Answer}
+use Rattle.meaning.specs.Answers.{Answer}
 use Rattle.meaning.specs.declared.Layout.{Layout}
 use Rattle.meaning.specs.Trees.{Tree, true, believes, goal, and, or}
 use Rattle.meaning.specs.Trees as Trees

@@ -1,8 +1,7 @@
 -- What reading a text answers (02, Wish 2; docs/TEXT.md, "Refusals"), and what the lent buffer then holds.
-use Rattle.std.specs.Prelude.{◌≡◌, Bool, not, ◌&&◌, List, [], ◌∷◌, ◌++◌, ℕ, suc, ◌≤◌, ◌<◌, leb, length, take}
+use Rattle.std.specs.Prelude.{◌≡◌, Bool, not, ◌&&◌, List, [], ◌∷◌, ◌++◌, ℕ, suc, ◌≤◌, ◌<◌, leb, length, take, Ok, Err}
 use Rattle.meaning.specs.declared.Refusal.{Refusal}
-use Rattle.meaning.specs.declared.Answer.{Answer}
-use Rattle.meaning.specs.declared.Answer.TheVariants.{Done, Refused}
+use Rattle.meaning.specs.Answers.{Answer}
 use Rattle.meaning.specs.Trees.{Tree, true, believes, goal, and, or}
 use Rattle.meaning.specs.Trees as Trees
 use Rattle.meaning.specs.Card.{Bytes}
@@ -81,6 +80,6 @@ said_answer s out = and_then (first_given text_table s) (and_then (card_answer (
 -- What reading a text answers: the number, how many bytes the card has, and what the lent buffer holds. 02, Wish 2: "Refusals, in
 -- this order: 17 text, …"; 01, "Numbers the guide may answer": "Any count in a refusal is 0. No lent buffer is written."
 pub data Reads (t out : Bytes) : Answer → ℕ → Bytes → Type 0 where
-  no_text : {p : ℕ} → WrongAt t p → Reads t out (Refused (Refusal.Text p)) 0 out
-  refused : {s : Said} {q : Refusal} → Text t s → said_answer s out ≡ Refused q → Reads t out (Refused q) 0 out
-  done : {s : Said} → Text t s → said_answer s out ≡ Done → Reads t out Done (length (built s)) (over (built s) out)
+  no_text : {p : ℕ} → WrongAt t p → Reads t out (Err (Refusal.Text p)) 0 out
+  refused : {s : Said} {q : Refusal} → Text t s → said_answer s out ≡ Err q → Reads t out (Err q) 0 out
+  done : {s : Said} → Text t s → said_answer s out ≡ Ok tt → Reads t out (Ok tt) (length (built s)) (over (built s) out)

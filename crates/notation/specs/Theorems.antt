@@ -1,10 +1,9 @@
 -- What is proved of the grammar, of the card that a text stands for, of every answer to a text that meets the contract `Reads`,
 -- and of printed texts (in proofs/).
-use Rattle.std.specs.Prelude.{◌≡◌, ◌↔◌, true, false, ◌&&◌, List, [], ◌∷◌, ◌++◌, ℕ, ◌≤◌, ◌<◌, eqb, length, take, drop}
+use Rattle.std.specs.Prelude.{◌≡◌, ◌↔◌, true, false, ◌&&◌, List, [], ◌∷◌, ◌++◌, ℕ, ◌≤◌, ◌<◌, eqb, length, take, drop, Ok, Err}
 use Prim.Native.Char.{code}
 use Rattle.meaning.specs.declared.Refusal.{Refusal}
-use Rattle.meaning.specs.declared.Answer.{Answer}
-use Rattle.meaning.specs.declared.Answer.TheVariants.{Done, Refused}
+use Rattle.meaning.specs.Answers.{Answer}
 use Rattle.meaning.specs.Trees.{Tree}
 use Rattle.meaning.specs.Card.{Bytes, layout, node_at, tree_at}
 use Rattle.meaning.specs.Refusals.{number_of, Row, first_given, card_table, card_answer}
@@ -38,11 +37,11 @@ pub record BuiltLaws (s : Said) : Type 0 where
   -- 02, Wish 2: "then 3 and 5 to 9 as for the card it would build": the card is judged by these rows alone.
   pub judged : card_answer (built s) ≡ first_given rows_of_text (built s)
   -- 01, "Numbers the guide may answer", row 1: it is long enough.
-  pub not_short : card_answer (built s) ≡ Refused Refusal.Short → ⊥
+  pub not_short : card_answer (built s) ≡ Err Refusal.Short → ⊥
   -- 01, "Numbers the guide may answer", row 2: it begins as edition 1 does.
-  pub not_unmarked : card_answer (built s) ≡ Refused Refusal.Mark → ⊥
+  pub not_unmarked : card_answer (built s) ≡ Err Refusal.Mark → ⊥
   -- 01, "Numbers the guide may answer", row 4: its sections follow one another with no gap, and it ends with the pool.
-  pub not_displaced : card_answer (built s) ≡ Refused Refusal.Offsets → ⊥
+  pub not_displaced : card_answer (built s) ≡ Err Refusal.Offsets → ⊥
   -- 01, "The card, edition 1": no card of edition 1 is longer.
   pub room : length (built s) ≤ 24128
   -- 02, Wish 9: "Text cards stay edition 1"
@@ -83,25 +82,25 @@ pub record WithinLimits (t : Bytes) (s : Said) : Type 0 where
 -- buffer `out`.
 pub record ReadLaws (t out : Bytes) (a : Answer) (n : ℕ) (left : Bytes) : Type 0 where
   -- "The reader accepts exactly this grammar and builds an edition 1 card"
-  pub done_exactly : (a ≡ Done)
-      ↔ ((s : Said) × (WithinLimits t s × ((card_answer (built s) ≡ Done) × (length (built s) ≤ length out))))
-  pub built_then : (s : Said) → Text t s → a ≡ Done → (n ≡ length (built s)) × (left ≡ over (built s) out)
+  pub done_exactly : (a ≡ Ok tt)
+      ↔ ((s : Said) × (WithinLimits t s × ((card_answer (built s) ≡ Ok tt) × (length (built s) ≤ length out))))
+  pub built_then : (s : Said) → Text t s → a ≡ Ok tt → (n ≡ length (built s)) × (left ≡ over (built s) out)
   -- docs/TEXT.md: "A refusal writes nothing"
-  pub nothing_written : (q : Refusal) → a ≡ Refused q → (n ≡ 0) × (left ≡ out)
+  pub nothing_written : (q : Refusal) → a ≡ Err q → (n ≡ 0) × (left ≡ out)
   -- "17 text, with the place of the first byte that no continuation could make right (the length, if it just ends)"
-  pub text_exactly : ((p : ℕ) × (a ≡ Refused (Refusal.Text p))) ↔ (Derived t → ⊥)
-  pub place_exactly : (p : ℕ) → (a ≡ Refused (Refusal.Text p)) ↔ WrongAt t p
+  pub text_exactly : ((p : ℕ) × (a ≡ Err (Refusal.Text p))) ↔ (Derived t → ⊥)
+  pub place_exactly : (p : ℕ) → (a ≡ Err (Refusal.Text p)) ↔ WrongAt t p
   -- "18 nested too deep"
-  pub nested_exactly : (a ≡ Refused Refusal.Nested) ↔ ((s : Said) × (Text t s × (shallow s ≡ false)))
+  pub nested_exactly : (a ≡ Err Refusal.Nested) ↔ ((s : Said) × (Text t s × (shallow s ≡ false)))
   -- "25 a number too large for its field, or more entries or pool bytes than edition 1 allows"
-  pub large_exactly : (a ≡ Refused Refusal.Large)
+  pub large_exactly : (a ≡ Err Refusal.Large)
       ↔ ((s : Said) × (Text t s × ((shallow s ≡ true) × ((numbers_fit s && entries_fit s) ≡ false))))
   -- "then 3 and 5 to 9 as for the card it would build"
   pub card_exactly : (q : Refusal) → number_of q ≤ 9
-      → (a ≡ Refused q) ↔ ((s : Said) × (WithinLimits t s × (card_answer (built s) ≡ Refused q)))
+      → (a ≡ Err q) ↔ ((s : Said) × (WithinLimits t s × (card_answer (built s) ≡ Err q)))
   -- "12"
-  pub room_exactly : (a ≡ Refused Refusal.NoRoom)
-      ↔ ((s : Said) × (WithinLimits t s × ((card_answer (built s) ≡ Done) × (length out < length (built s)))))
+  pub room_exactly : (a ≡ Err Refusal.NoRoom)
+      ↔ ((s : Said) × (WithinLimits t s × ((card_answer (built s) ≡ Ok tt) × (length out < length (built s)))))
 
 -- 01, "What the contracts settle": "the contract determines the answer and every byte and number in lent buffers afterwards;
 -- equality of any two conforming answers is proved"; and there is one for every text and every buffer.
@@ -139,30 +138,30 @@ pub record PrintLaws : Type 0 where
 -- grammar of a condition".
 abbrev pub PrintsAny : Type 0
 PrintsAny =
-    (b : Bytes) (n : ℕ) (out : Bytes) → card_answer b ≡ Done → n < (layout b).nodes.count
+    (b : Bytes) (n : ℕ) (out : Bytes) → card_answer b ≡ Ok tt → n < (layout b).nodes.count
     → depth_of (tree_at (layout b) b n) ≤ 32 → size (tree_at (layout b) b n) ≤ 256 → length (printed b n) ≤ length out
-    → (print_answer b n out ≡ Done) × (print_leaves b n out ≡ over (printed b n) out) × OrList (printed b n) (as_printed (tree_at (layout b) b n))
+    → (print_answer b n out ≡ Ok tt) × (print_leaves b n out ≡ over (printed b n) out) × OrList (printed b n) (as_printed (tree_at (layout b) b n))
 
 -- A node of an accepted card.
 abbrev pub KnownNode : Bytes → ℕ → Type 0
-KnownNode b n = (card_answer b ≡ Done) × (n < (layout b).nodes.count)
+KnownNode b n = (card_answer b ≡ Ok tt) × (n < (layout b).nodes.count)
 
 -- 02, Wish 2: "and refuses: 7 no such node, 18, 25 over 256 nodes, 12.": each exactly when, in this order, behind the card's.
 pub record PrintRefusals (b : Bytes) (n : ℕ) (out : Bytes) : Type 0 where
   -- docs/TEXT.md: "It refuses: the card with 1 to 9"
-  pub card_first : (q : Refusal) → card_answer b ≡ Refused q → print_answer b n out ≡ Refused q
+  pub card_first : (q : Refusal) → card_answer b ≡ Err q → print_answer b n out ≡ Err q
   -- docs/TEXT.md: "7 if there is no such node"
-  pub unknown_exactly : card_answer b ≡ Done → (print_answer b n out ≡ Refused Refusal.Rule) ↔ ((layout b).nodes.count ≤ n)
+  pub unknown_exactly : card_answer b ≡ Ok tt → (print_answer b n out ≡ Err Refusal.Rule) ↔ ((layout b).nodes.count ≤ n)
   -- docs/TEXT.md: "18 if the text nests more than 32 deep"
-  pub nested_exactly : (print_answer b n out ≡ Refused Refusal.Nested) ↔ (KnownNode b n × (32 < depth_of (tree_at (layout b) b n)))
+  pub nested_exactly : (print_answer b n out ≡ Err Refusal.Nested) ↔ (KnownNode b n × (32 < depth_of (tree_at (layout b) b n)))
   -- docs/TEXT.md: "25 if it has more than 256 nodes, a shared one counted each time it is printed"
-  pub large_exactly : (print_answer b n out ≡ Refused Refusal.Large)
+  pub large_exactly : (print_answer b n out ≡ Err Refusal.Large)
       ↔ (KnownNode b n × ((depth_of (tree_at (layout b) b n) ≤ 32) × (256 < size (tree_at (layout b) b n))))
   -- docs/TEXT.md: "12 if the lent buffer is shorter than the text"
-  pub room_exactly : (print_answer b n out ≡ Refused Refusal.NoRoom)
+  pub room_exactly : (print_answer b n out ≡ Err Refusal.NoRoom)
       ↔ (KnownNode b n × ((depth_of (tree_at (layout b) b n) ≤ 32) × ((size (tree_at (layout b) b n) ≤ 256) × (length out < length (printed b n)))))
   -- 02, Wish 2: "a printer writes any condition of at most 256 printed nodes nested within the limit back as text"
-  pub done_exactly : (print_answer b n out ≡ Done)
+  pub done_exactly : (print_answer b n out ≡ Ok tt)
       ↔ (KnownNode b n × ((depth_of (tree_at (layout b) b n) ≤ 32) × ((size (tree_at (layout b) b n) ≤ 256) × (length (printed b n) ≤ length out))))
 
 -- The same of every card, node and buffer.
@@ -177,6 +176,6 @@ PrintRoom = (b : Bytes) (n : ℕ) → KnownNode b n → size (tree_at (layout b)
 -- of a card that was made from a text, in 894 bytes.
 abbrev pub TextPrints : Type 0
 TextPrints =
-    (t out : Bytes) (n : ℕ) (left : Bytes) → Reads t out Done n left → (k : ℕ) → k < (layout (take n left)).nodes.count
+    (t out : Bytes) (n : ℕ) (left : Bytes) → Reads t out (Ok tt) n left → (k : ℕ) → k < (layout (take n left)).nodes.count
     → (length (printed (take n left) k) ≤ 894)
-    × ((room : Bytes) → length (printed (take n left) k) ≤ length room → print_answer (take n left) k room ≡ Done)
+    × ((room : Bytes) → length (printed (take n left) k) ≤ length room → print_answer (take n left) k room ≡ Ok tt)

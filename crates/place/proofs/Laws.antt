@@ -8,9 +8,8 @@ use lib.Seq.{length-take-le}
 use Rattle.meaning.specs.declared.Refusal.{Refusal}
 use Rattle.meaning.specs.declared.Layout.{Layout}
 use Rattle.meaning.specs.declared.Configuration.{Configuration}
-use Rattle.meaning.specs.declared.Checked.{Checked}
-use Rattle.meaning.specs.declared.Answer.{Answer}
-use Rattle.meaning.specs.declared.Answer.TheVariants.{Done, Refused}
+use Rattle.meaning.specs.Answers.{Answer}
+use Rattle.std.specs.Prelude.{Ok, Err}
 use Rattle.meaning.specs.Sizes.{set_bytes, plan_at}
 use Rattle.meaning.specs.Card.{Bytes, layout, start}
 use Rattle.meaning.specs.Place.{place_header, place, placed}
@@ -20,36 +19,32 @@ use Rattle.meaning.specs.Calls.{checks, reply, loads, restores}
 use Rattle.meaning.proofs.Places.{good_place}
 use Rattle.meaning.proofs.Calls as Calls
 use Rattle.meaning.proofs.Calls.{good_judged, refused_judged, loads_refused}
-use Rattle.card.specs.Rows.{answer_of}
 use Rattle.door.specs.Ready.{Ready}
 use Rattle.place.specs.Rows.{Sized}
 
 -- what the rows of a place's header leave of it
-pub sized : (l : Layout) (p : Bytes) → first_given (place_table l) p ≡ Done → Sized l p
+pub sized : (l : Layout) (p : Bytes) → first_given (place_table l) p ≡ Ok tt → Sized l p
 sized l p e =
     let g = good_place l p e in
     record { fits = g.fits; phase = g.phase; ends = g.ends }
 
 -- ---- a refused card
 
-module _ (b : Bytes) (v : Checked) (r : Refusal) (told : v ≡ Checked.Refused r) (e : v ≡ checks b) (a : Answer) (so : a ≡ answer_of v) where
-  refusal : a ≡ Refused r
-  refusal = so ∙ ap answer_of told
-
+module _ (b : Bytes) (r : Refusal) (told : checks b ≡ Err r) (a : Answer) (refusal : a ≡ Err r) where
   pub load_card_refused : (c : Configuration) → c ≡ empty → reply a c ≡ loads b
-  load_card_refused c s = (λ i. reply (refusal i) (s i)) ∙ sym (loads_refused b r (refused_judged b r (sym e ∙ told)))
+  load_card_refused c s = (λ i. reply (refusal i) (s i)) ∙ sym (loads_refused b r (refused_judged b r told))
 
   pub restore_card_refused : (p : Bytes) (c : Configuration) → c ≡ empty → reply a c ≡ restores b p
   unfolding place_answer
   restore_card_refused p c s =
       (λ i. reply (refusal i) (s i))
-      ∙ sym (Calls.restores_refused b p r (ap (λ x. and_then x (first_given (place_table (layout b)) p)) (refused_judged b r (sym e ∙ told))))
+      ∙ sym (Calls.restores_refused b p r (ap (λ x. and_then x (first_given (place_table (layout b)) p)) (refused_judged b r told)))
 
 -- ---- a good card
 
-module _ (b : Bytes) (l : Layout) (e : checks b ≡ Checked.Good l) where
-  pub load_good : (c : Configuration) → c ≡ configuration_of (start b) → reply Done c ≡ loads b
-  load_good c s = ap (reply Done) s ∙ sym (Calls.loads_good b (good_judged b l e).0)
+module _ (b : Bytes) (l : Layout) (e : checks b ≡ Ok l) where
+  pub load_good : (c : Configuration) → c ≡ configuration_of (start b) → reply (Ok tt) c ≡ loads b
+  load_good c s = ap (reply (Ok tt)) s ∙ sym (Calls.loads_good b (good_judged b l e).0)
 
   place_judged : (p : Bytes) → place_answer b p ≡ first_given (place_table l) p
   unfolding place_answer
@@ -57,10 +52,10 @@ module _ (b : Bytes) (l : Layout) (e : checks b ≡ Checked.Good l) where
       let (d, s) = good_judged b l e in
       ap (λ a. and_then a (first_given (place_table (layout b)) p)) d ∙ ap (λ (x : Layout). first_given (place_table x) p) (sym s)
 
-  pub restore_good : (p : Bytes) (c : Configuration) → first_given (place_table l) p ≡ Done → c ≡ configuration_of (placed l p) → reply Done c ≡ restores b p
-  restore_good p c t s = ap (reply Done) s ∙ ap (λ (x : Layout). reply Done (configuration_of (placed x p))) (good_judged b l e).1 ∙ sym (Calls.restores_good b p (place_judged p ∙ t))
+  pub restore_good : (p : Bytes) (c : Configuration) → first_given (place_table l) p ≡ Ok tt → c ≡ configuration_of (placed l p) → reply (Ok tt) c ≡ restores b p
+  restore_good p c t s = ap (reply (Ok tt)) s ∙ ap (λ (x : Layout). reply (Ok tt) (configuration_of (placed x p))) (good_judged b l e).1 ∙ sym (Calls.restores_good b p (place_judged p ∙ t))
 
-  pub restore_refused : (p : Bytes) (c : Configuration) (a : Answer) (r : Refusal) → a ≡ Refused r → a ≡ first_given (place_table l) p → c ≡ empty → reply a c ≡ restores b p
+  pub restore_refused : (p : Bytes) (c : Configuration) (a : Answer) (r : Refusal) → a ≡ Err r → a ≡ first_given (place_table l) p → c ≡ empty → reply a c ≡ restores b p
   restore_refused p c a r told t s = (λ i. reply (told i) (s i)) ∙ sym (Calls.restores_refused b p r (place_judged p ∙ sym t ∙ told))
 
 -- ---- save

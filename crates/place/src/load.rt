@@ -4,24 +4,24 @@ ghost use Rattle.std.specs.Prelude.{◌≡◌, length};
 ghost use Rattle.door.specs.Words.{start, configuration_of, empty, configured, GoodCard, reply_with};
 ghost use Rattle.meaning.specs.Calls.{loads};
 
-use card::check::{answer_of, check};
+use card::check::{accept, answer_of};
 use door::in_place::ReplyInPlace;
 use layout::bytes::size;
-use layout::entries::{initial_beliefs, initial_goals, pool_at};
-use meaning::{Answer, Checked, Layout, Plan, Set, Standing};
+use layout::card::Card;
+use meaning::{Plan, Set, Standing};
 
 // What an accepted card starts with, in the lent sets and plan.
-fn first(card: &[u8], l: Layout, beliefs: &mut Set, goals: &mut Set, plan: &mut Plan) -> Standing
-    requires { GoodCard l card.now × (length plan.old ≡ 1024) }
-    ensures { configured beliefs.new goals.new result plan.new ≡ configuration_of (start card.now) }
+fn first(card: &Card, beliefs: &mut Set, goals: &mut Set, plan: &mut Plan) -> Standing
+    requires { GoodCard card.now.layout card.now.bytes.now × (length plan.old ≡ 1024) }
+    ensures { configured beliefs.new goals.new result plan.new ≡ configuration_of (start card.now.bytes.now) }
 {
-    let initial = l.initial;
+    let initial = card.layout.initial;
     let n = initial.length;
-    let at = pool_at(l, initial.start);
-    let believed = initial_beliefs(card, l);
+    let at = card.pool_at(initial.start);
+    let believed = card.initial_beliefs();
     *beliefs = believed;
-    *goals = sets::difference(initial_goals(card, l), believed);
-    plans::fill(plan, card, at, n as usize);
+    *goals = sets::difference(card.initial_goals(), believed);
+    plans::fill(plan, card.bytes, at, n as usize);
     Standing {
         length: n,
         phase: 0,
@@ -49,17 +49,17 @@ pub fn load(card: &[u8], beliefs: &mut Set, goals: &mut Set, plan: &mut Plan) ->
     ensures { reply_with result beliefs.new goals.new plan.new ≡ loads card.now }
 {
     let room = size(plan);
-    let checked = check(card);
-    let Checked::Good(l) = checked else {
+    let accepted = accept(card);
+    let Ok(card) = accepted else {
         let none = set_empty(beliefs, goals, plan);
         return ReplyInPlace {
-            answer: answer_of(checked),
+            answer: answer_of(accepted),
             standing: none,
         };
     };
-    let m = first(card, l, beliefs, goals, plan);
+    let m = first(&card, beliefs, goals, plan);
     ReplyInPlace {
-        answer: Answer::Done,
+        answer: Ok(()),
         standing: m,
     }
 }

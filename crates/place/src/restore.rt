@@ -7,12 +7,12 @@ ghost use Rattle.place.specs.Rows.{Sized};
 
 use crate::judge::judge_place;
 use crate::load::set_empty;
-use card::check::{answer_of, check};
+use card::check::{accept, answer_of};
 use door::in_place::ReplyInPlace;
 use layout::bytes::size;
 use layout::place::read_parts;
 use layout::sizes::plan_at;
-use meaning::{Answer, Checked, Layout, Plan, Set, Standing};
+use meaning::{Layout, Plan, Set, Standing};
 
 // "plan length L at 4; … phase at 8; … beliefs at 12; goals at 28; the plan's L bytes at 44.", and the finished count "in bytes 10
 // and 11".
@@ -49,25 +49,25 @@ pub fn restore(
         ≡ restores card.now p.now }
 {
     let room = size(plan);
-    let checked = check(card);
-    let Checked::Good(l) = checked else {
+    let accepted = accept(card);
+    let Ok(card) = accepted else {
         let none = set_empty(beliefs, goals, plan);
         return ReplyInPlace {
-            answer: answer_of(checked),
+            answer: answer_of(accepted),
             standing: none,
         };
     };
-    let a = judge_place(l, p);
-    let Answer::Done = a else {
+    let a = judge_place(card.layout, p);
+    let Ok(()) = a else {
         let none = set_empty(beliefs, goals, plan);
         return ReplyInPlace {
             answer: a,
             standing: none,
         };
     };
-    let m = read(l, p, beliefs, goals, plan);
+    let m = read(card.layout, p, beliefs, goals, plan);
     ReplyInPlace {
-        answer: Answer::Done,
+        answer: Ok(()),
         standing: m,
     }
 }

@@ -9,7 +9,7 @@ use door::in_place::{WrittenInPlace, refused_write};
 use door::room::judge_room;
 use layout::bytes::size;
 use layout::place::{place_size, write_place};
-use meaning::{Answer, Checked, Plan, Set, Standing};
+use meaning::{Plan, Set, Standing};
 
 // A configuration's place in a lent buffer; how many bytes it has. A refusal writes nothing.
 pub fn save(
@@ -28,18 +28,18 @@ pub fn save(
     let believed = size(beliefs);
     let wanted = size(goals);
     let admitted = admit(card, beliefs, goals, m, plan);
-    let Checked::Good(l) = admitted else {
+    let Ok(card) = admitted else {
         return refused_write(answer_of(admitted));
     };
-    let n = place_size(l, m.length as usize);
+    let n = place_size(card.layout, m.length as usize);
     let room = judge_room(n, out.len());
-    let Answer::Done = room else {
+    let Ok(()) = room else {
         return refused_write(room);
     };
     let count = n as u16;
-    write_place(l, beliefs, goals, m, plan, out);
+    write_place(card.layout, beliefs, goals, m, plan, out);
     WrittenInPlace {
-        answer: Answer::Done,
+        answer: Ok(()),
         count: count,
     }
 }

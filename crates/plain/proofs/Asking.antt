@@ -1,5 +1,5 @@
 -- The answers of a kind, filled in one after the other, are those that the definitions give.
-use mathlib.Core.Path.{◌≡◌, refl, ap, sym, ◌∙◌, subst}
+use mathlib.Core.Path.{◌≡◌, refl, ap, sym, ◌∙◌}
 use mathlib.Core.Bool.{Bool, true, not, ◌&&◌}
 use mathlib.Core.List.{List, [], ◌∷◌}
 use Prim.Native.Nat.{ℕ, zero, suc, ◌+◌, ◌≤◌, ◌<◌}
@@ -34,13 +34,6 @@ use Rattle.plain.specs.Asking.{ask_selection, ask_specification, ask_revision, A
 
 -- ---- filled in one after the other
 
--- what a loop has of the tables: rules; and of a configuration: a plan in the first n of p
-abbrev pub rules : List Specified → List SelectionEntry → List RevisionEntry → Tables
-rules ss es rs = record { nodes = []; specifications = ss; selections = es; revisions = rs }
-
-abbrev pub planned : Bytes → ℕ → Unpacked
-planned p n = record { beliefs = []; goals = []; plan = p; standing = record { length = n; phase = 0; finished = 0 } }
-
 -- the answers of the first n, by what is due under each number, and no rule past them
 module _ (f : ℕ → Asked) where
   abbrev due : ℕ → ℕ → Asked
@@ -68,10 +61,15 @@ module _ (f : ℕ → Asked) where
       other : (i ≡ n → ⊥) → get_or (set r n x) i Asked.NoRule ≡ due n i
       other d = get_or-set_other r n i x Asked.NoRule d ∙ a i k
 
-  pub asks_all : (i n : ℕ) (r : List Asked) → i ≡ n → Asks f i r → Asks f n r
-  asks_all i n r e a = subst (λ k. Asks f k r) e a
-
 -- ---- and are those of the definitions
+
+-- of a kind, by its choices that the card has
+pub kind_asked : (l : Layout) (b : Bytes) (c : Configuration) (kind n : ℕ) → n ≡ count_of l kind
+    → (r : List Asked) → Asks (λ i. asked l b (state_of c).mental (choice_at kind i)) n r → AsksKind l b c kind r
+kind_asked l b c kind n e r a i h = elim (dec_lt i n) [
+  | yes k ↦ a i h ∙ within (λ i. asked l b (state_of c).mental (choice_at kind i)) n i k
+  | no k ↦ a i h ∙ past (λ i. asked l b (state_of c).mental (choice_at kind i)) n i (omega arith) ∙ no_rule l b (state_of c).mental kind i (omega arith)
+]
 
 -- of an accepted card and configuration, unpacked and judged
 module _ (l : Layout) (b : Bytes) (t : Tables) (u : Unpacked) (js : List Judgement)
@@ -82,31 +80,20 @@ module _ (l : Layout) (b : Bytes) (t : Tables) (u : Unpacked) (js : List Judgeme
   abbrev mark : ℕ → Bool × ℕ
   mark = judgement_at js
 
-  -- of a kind, by its choices that the card has
-  kind_asked : (kind : ℕ) (f : ℕ → Asked) → ((i : ℕ) → i < count_of l kind → f i ≡ asked l b (state_of c).mental (choice_at kind i))
-      → (r : List Asked) → Asks f (count_of l kind) r → AsksKind l b c kind r
-  kind_asked kind f each r a i h = elim (dec_lt i (count_of l kind)) [
-    | yes k ↦ a i h ∙ within f (count_of l kind) i k ∙ each i k
-    | no k ↦ a i h ∙ past f (count_of l kind) i (omega arith) ∙ no_rule l b (state_of c).mental kind i (omega arith)
-  ]
+  pub selection_asked : (i : ℕ) → i < l.selections.count → ask_selection t u js i ≡ asked l b (state_of c).mental (choice_at 0 i)
+  selection_asked i k =
+      ap (λ (e : SelectionEntry). asked_by true (eqb u.standing.length 0) (both (mark e.belief) (mark e.goal))) (tabled.selections i k)
+      ∙ asks_selection l b c mark ready judged i k
 
-  pub selections_asked : (r : List Asked) → Asks (ask_selection t u js) l.selections.count r → AsksKind l b c 0 r
-  selections_asked =
-      kind_asked 0 (ask_selection t u js)
-      (λ i k. ap (λ (e : SelectionEntry). asked_by true (eqb u.standing.length 0) (both (mark e.belief) (mark e.goal))) (tabled.selections i k)
-      ∙ asks_selection l b c mark ready judged i k)
+  pub specification_asked : (i : ℕ) → i < l.specifications.count → ask_specification t u js i ≡ asked l b (state_of c).mental (choice_at 1 i)
+  specification_asked i k =
+      ap (λ (e : Specified). asked_by true (not (eqb u.standing.length 0) && eqb e.action (get_or u.plan 0 0)) (mark e.node)) (tabled.specifications i k)
+      ∙ asks_specification l b c mark ready judged i k
 
-  pub specifications_asked : (r : List Asked) → Asks (ask_specification t u js) l.specifications.count r → AsksKind l b c 1 r
-  specifications_asked =
-      kind_asked 1 (ask_specification t u js)
-      (λ i k. ap (λ (e : Specified). asked_by true (not (eqb u.standing.length 0) && eqb e.action (get_or u.plan 0 0)) (mark e.node)) (tabled.specifications i k)
-      ∙ asks_specification l b c mark ready judged i k)
-
-  pub revisions_asked : (r : List Asked) → Asks (ask_revision l b t u js) l.revisions.count r → AsksKind l b c 2 r
-  revisions_asked =
-      kind_asked 2 (ask_revision l b t u js)
-      (λ i k. ap (λ (e : RevisionEntry). asked_by true (is_prefix (plan l b e.head) (take u.standing.length u.plan)) (mark e.node)) (tabled.revisions i k)
-      ∙ asks_revision l b c mark ready judged i k)
+  pub revision_asked : (i : ℕ) → i < l.revisions.count → ask_revision l b t u js i ≡ asked l b (state_of c).mental (choice_at 2 i)
+  revision_asked i k =
+      ap (λ (e : RevisionEntry). asked_by true (is_prefix (plan l b e.head) (take u.standing.length u.plan)) (mark e.node)) (tabled.revisions i k)
+      ∙ asks_revision l b c mark ready judged i k
 
 -- ---- the enabled ones
 

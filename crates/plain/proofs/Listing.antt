@@ -17,9 +17,8 @@ use Rattle.meaning.specs.declared.Layout.{Layout}
 use Rattle.meaning.specs.declared.Configuration.{Configuration}
 use Rattle.meaning.specs.declared.SelectionEntry.{SelectionEntry}
 use Rattle.meaning.specs.declared.Refusal.{Refusal}
-use Rattle.meaning.specs.declared.Answer.{Answer}
-use Rattle.meaning.specs.declared.Answer.TheVariants.{Done, Refused}
-use Rattle.meaning.specs.declared.Checked.{Checked}
+use Rattle.meaning.specs.Answers.{Answer}
+use Rattle.std.specs.Prelude.{Ok, Err}
 use Rattle.meaning.specs.declared.Listed.{Listed}
 use Rattle.meaning.specs.Sizes.{edition2_set}
 use Rattle.meaning.specs.Card.{Bytes, conditions, condition, selection_at, agent_for, agent}
@@ -29,12 +28,12 @@ use Rattle.meaning.specs.Calls.{over, list_leaves}
 use Rattle.layout.specs.Entries.{count_of}
 use Rattle.layout.proofs.GoodLayout.{at_most_256}
 use Rattle.demands.specs.CallContracts.{Lists}
-use Rattle.card.specs.Rows.{row_answer, answer_of}
+use Rattle.card.specs.Rows.{row_answer}
 use Rattle.door.specs.declared.asked.Asked.{Asked}
 use Rattle.door.specs.Ready.{Ready}
 use Rattle.door.specs.Admitted.{admitted}
 use Rattle.door.proofs.Asking.{no_rule}
-use Rattle.door.proofs.Accepting.{admitted_good, admitted_refused}
+use Rattle.door.proofs.Accepting.{admitted_good}
 use Rattle.door.proofs.Written.{NotWritten, refused_written, written_none, written_all}
 use Rattle.listing.specs.declared.gather.Look.{Look}
 use Rattle.listing.specs.Listed.{enabled_code, codes_of}
@@ -59,10 +58,6 @@ use Rattle.plain.proofs.Asking.{answer_enabled}
 sum_same : (f g : ℕ → ℕ) (n : ℕ) → ((i : ℕ) → i < n → f i ≡ g i) → sum_of f n ≡ sum_of g n
 sum_same f g zero h = refl
 sum_same f g (suc n) h = ap₂ ◌+◌ (sum_same f g n (λ i l. h i (omega arith))) (h n (omega arith))
-
--- one number more
-pub sum_next : (f : ℕ → ℕ) (i n v : ℕ) → n ≡ sum_of f i → v ≡ f i → n + v ≡ sum_of f (i + 1)
-sum_next f i n v e g = ap₂ ◌+◌ e g ∙ ap (sum_of f) (sym (add-one i))
 
 -- more numbers, each of which is 0
 sum_past : (f : ℕ → ℕ) (n m : ℕ) → ((i : ℕ) → i < m → f (n + i) ≡ 0) → sum_of f (n + m) ≡ sum_of f n
@@ -189,7 +184,7 @@ goals_open n v h = sym (ap₂ (λ (t : ℕ → Bool) m. how_many t (numbers 0 (8
 
 -- ---- what list answers
 
-module _ (b : Bytes) (c : Configuration) (v : Checked) (so : v ≡ admitted b c) (out : List ℕ) where
+module _ (b : Bytes) (c : Configuration) (out : List ℕ) where
   -- what is to be written
   abbrev all : List ℕ
   all = enabled_codes (agent b) (state_of c).mental
@@ -198,7 +193,7 @@ module _ (b : Bytes) (c : Configuration) (v : Checked) (so : v ≡ admitted b c)
   abbrev nothing : Answer → Listed
   nothing a = listed_with (record { answer = a; count = 0; judged = 0; goals = 0 }) c
 
-  refused_so : (a : Answer) (q : Refusal) → a ≡ Refused q → NotWritten b c all out a
+  refused_so : (a : Answer) (q : Refusal) → a ≡ Err q → NotWritten b c all out a
       → (r : Listed) → r ≡ nothing a → Lists b c out r out
   unfolding list_leaves
   refused_so a q e f r g =
@@ -206,35 +201,35 @@ module _ (b : Bytes) (c : Configuration) (v : Checked) (so : v ≡ admitted b c)
       (g ∙ refused_told b c out a q e w (record { answer = a; count = 0; judged = 0; goals = 0 }) refl, x)
 
   -- at the door
-  pub list_refused : (q : Refusal) → v ≡ Checked.Refused q → (a : Answer) → a ≡ answer_of v
+  pub list_refused : (q : Refusal) → admitted b c ≡ Err q → (a : Answer) → a ≡ Err q
       → (r : Listed) → r ≡ nothing a → Lists b c out r out
-  list_refused q e a t = refused_so a q (admitted_refused b c v so q e a t).1 (refused_written b c v so q e a t all out)
+  list_refused q e a t = refused_so a q t (refused_written b c q e a t all out)
 
-  module _ (l : Layout) (e : v ≡ Checked.Good l) (u : Unpacked) (packs : configuration_from u ≡ c) (n : ℕ) (codes : List ℕ) (long : n ≤ length codes)
+  module _ (l : Layout) (e : admitted b c ≡ Ok l) (u : Unpacked) (packs : configuration_from u ≡ c) (n : ℕ) (codes : List ℕ) (long : n ≤ length codes)
       (found : take n codes ≡ enabled_codes (agent_for l b) (state_of (configuration_from u)).mental)
     where
       the_codes : take n codes ≡ all
       unfolding agent
-      the_codes = found ∙ ap₂ (λ (x : Layout) (d : Configuration). enabled_codes (agent_for x b) (state_of d).mental) (admitted_good b c v so l e).1 packs
+      the_codes = found ∙ ap₂ (λ (x : Layout) (d : Configuration). enabled_codes (agent_for x b) (state_of d).mental) (admitted_good b c l e).1 packs
 
       how_many_lem : n ≡ length all
       how_many_lem = sym (length-take-le n codes long) ∙ ap length the_codes
 
       -- row 12
-      pub list_no_room : length out < n → (r : Listed) → r ≡ nothing (Refused Refusal.NoRoom) → Lists b c out r out
+      pub list_no_room : length out < n → (r : Listed) → r ≡ nothing (Err Refusal.NoRoom) → Lists b c out r out
       list_no_room h =
-          refused_so (Refused Refusal.NoRoom) Refusal.NoRoom refl
-          (written_none b c (admitted_good b c v so l e).0 all out n how_many_lem (Refused Refusal.NoRoom)
+          refused_so (Err Refusal.NoRoom) Refusal.NoRoom refl
+          (written_none b c (admitted_good b c l e).0 all out n how_many_lem (Err Refusal.NoRoom)
           (sym (ap (λ t. row_answer t Refusal.NoRoom) (lt-leb n (length out) h))) Refusal.NoRoom refl)
 
       -- done
       pub list_done : n ≤ length out → (j g : ℕ) → j ≡ conditions_judged (agent_for l b) (state_of (configuration_from u)).mental
           → length u.goals ≡ 256 → g ≡ how_many (λ k. get_or u.goals k false) (numbers 0 256) → (left : List ℕ) → left ≡ over (take n codes) out
-          → Lists b c out (listed_with (record { answer = Done; count = n; judged = j; goals = g }) c) left
+          → Lists b c out (listed_with (record { answer = Ok tt; count = n; judged = j; goals = g }) c) left
       unfolding list_leaves
       list_done h j g k m o left f =
-          let (good, says) = admitted_good b c v so l e in
-          let (w, x) = written_all b c good all out n how_many_lem Done
+          let (good, says) = admitted_good b c l e in
+          let (w, x) = written_all b c good all out n how_many_lem (Ok tt)
           (sym (ap (λ t. row_answer t Refusal.NoRoom) (le-leb n (length out) h))) refl left (f ∙ ap (λ xs. over xs out) the_codes) in (
             done_told b c out l says n j g w (k ∙ ap (λ (d : Configuration). conditions_judged (agent_for l b) (state_of d).mental) packs)
                 (o ∙ goals_open edition2_set u.goals m ∙ ap (λ (d : Configuration). size d.mind.goals) packs),

@@ -6,9 +6,8 @@ use Prim.Native.Nat.{ℕ, ◌+◌}
 use native.Mathlib.Omega.{arith}
 use lib.ListN.{length, replicate}
 use Rattle.paper.specs.Transitions.{struck_by}
-use Rattle.meaning.specs.declared.Answer.{Answer}
-use Rattle.meaning.specs.declared.Answer.TheVariants.{Done}
-use Rattle.meaning.specs.declared.Checked.{Checked}
+use Rattle.meaning.specs.Answers.{Answer}
+use Rattle.std.specs.Prelude.{Ok, Err}
 use Rattle.meaning.specs.declared.Configuration.{Configuration}
 use Rattle.meaning.specs.declared.Layout.{Layout}
 use Rattle.meaning.specs.declared.Refusal.{Refusal}
@@ -20,7 +19,6 @@ use Rattle.meaning.specs.Calls.{checks, reply, loads}
 use Rattle.meaning.proofs.Calls.{good_judged, refused_judged, loads_good, loads_refused}
 use Rattle.meaning.proofs.Parts.{length_part}
 use Rattle.layout.specs.PlaceParts.{configured}
-use Rattle.card.specs.Rows.{answer_of}
 use Rattle.card.specs.GoodCard.{GoodCard}
 use Rattle.unpacked.specs.Truths.{packed}
 
@@ -52,9 +50,9 @@ pub empty_made : (β γ : List Bool) → packed edition2_set β ≡ replicate ed
 unfolding empty configuration_of padded
 empty_made β γ believed wanted m so = λ i. configured (believed i) (wanted i) (so i) (replicate 1024 0)
 
-module _ (b : Bytes) (v : Checked) (e : v ≡ checks b) (c d : Configuration) (packs : d ≡ c) where
-  pub load_refused : (r : Refusal) → v ≡ Checked.Refused r → (a : Answer) → a ≡ answer_of v → c ≡ empty → reply a d ≡ loads b
-  load_refused r told a so s = (λ i. reply ((so ∙ ap answer_of told) i) ((packs ∙ s) i)) ∙ sym (loads_refused b r (refused_judged b r (sym e ∙ told)))
+module _ (b : Bytes) (c d : Configuration) (packs : d ≡ c) where
+  pub load_refused : (r : Refusal) → checks b ≡ Err r → (a : Answer) → a ≡ Err r → c ≡ empty → reply a d ≡ loads b
+  load_refused r told a so s = (λ i. reply (so i) ((packs ∙ s) i)) ∙ sym (loads_refused b r (refused_judged b r told))
 
-  pub load_done : (l : Layout) → v ≡ Checked.Good l → c ≡ configuration_of (start b) → reply Done d ≡ loads b
-  load_done l told s = ap (reply Done) (packs ∙ s) ∙ sym (loads_good b (good_judged b l (sym e ∙ told)).0)
+  pub load_done : (l : Layout) → checks b ≡ Ok l → c ≡ configuration_of (start b) → reply (Ok tt) d ≡ loads b
+  load_done l told s = ap (reply (Ok tt)) (packs ∙ s) ∙ sym (loads_good b (good_judged b l told).0)

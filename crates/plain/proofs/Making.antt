@@ -1,20 +1,15 @@
 -- Plans that are copied, the finished count, and where a transition that is made leads.
 use mathlib.Core.Path.{◌≡◌, refl, sym, ap, ap₂, ◌∙◌, subst}
-use mathlib.Core.Bool.{Bool, true, false, ◌&&◌}
+use mathlib.Core.Bool.{Bool}
 use mathlib.Core.List.{List, [], ◌++◌, append-nil}
 use Prim.Native.Nat.{ℕ, ◌+◌, ◌-◌, ◌%◌, ◌≤◌, ◌<◌}
-use native.Mathlib.Decide.{dec_lt}
 use native.Mathlib.Omega.{arith}
-use borrow.Author.Tests.{eqb-true, ltb-true, ltb-false, eq-eqb}
-use lib.Dec.{eqb, ltb}
 use lib.ListN.{length, take, drop, replicate, length-append, length-take, length-drop, drop_of_length-le}
 use lib.Seq.{take_at, drop_at, take-add, drop-drop, length-take-le, paste}
 use Rattle.paper.specs.Atoms.{Atoms, ◌∪◌, ◌∖◌}
 use Rattle.paper.specs.Language.{⟨◌/◌/◌⟩}
 use Rattle.paper.specs.Transitions.{Choice, select, act, revise, struck_by, σ', γ'}
-use Rattle.paper.proofs.Relation.{both}
-use Rattle.runs.specs.Limits.{most_finished}
-use Rattle.runs.specs.Order.{kind, number}
+use Rattle.runs.specs.Order.{kind}
 use Rattle.runs.specs.Step.{Reached, finished_with, to, step}
 use Rattle.meaning.specs.declared.Layout.{Layout}
 use Rattle.meaning.specs.declared.Span.{Span}
@@ -28,11 +23,13 @@ use Rattle.meaning.specs.Configurations.{padded, state_of, configuration_of}
 use Rattle.meaning.proofs.Parts.{length_part}
 use Rattle.layout.specs.PlaceParts.{configured}
 use Rattle.card.specs.GoodCard.{GoodSpan}
-use Rattle.plans.proofs.Laws.{drop-replicate}
+use Rattle.std.proofs.lemmas.List.{drop-replicate}
 use Rattle.door.specs.Ready.{Ready}
+use Rattle.door.specs.Asking.{told}
+use Rattle.door.proofs.Told.{told_kind}
 use Rattle.moves.specs.declared.step.Transition.{Transition}
-use Rattle.moves.specs.Steps.{finished_at, transition_of, configuration_after, StepsBy, Enabled}
-use Rattle.moves.proofs.Finished.{finished_at_lem, left_some, left_none, left_none_most}
+use Rattle.moves.specs.Steps.{transition_of, configuration_after, StepsBy, Enabled}
+use Rattle.moves.proofs.Finished.{finished_at_lem}
 use Rattle.moves.proofs.Stepping.{selection_known, plan_length, selects_to, plan_not_empty, acted_length, acts_to, revision_known, head_fits, revised_length, revises_to, revises_full}
 use Rattle.unpacked.specs.declared.configuration.Unpacked.{Unpacked}
 use Rattle.unpacked.specs.Truths.{packed, configuration_from}
@@ -83,29 +80,6 @@ module _ (b p : Bytes) (at n from len : ℕ) (whole : at + n ≤ length b) (orde
       let l : length (part b at n ++ drop from (take len p)) ≡ n + m = length-append (part b at n) (drop from (take len p)) ∙ ap₂ ◌+◌ length_front length_rest in
       (λ i. front i ++ rest i ++ behind i) ∙ ap (λ k. part b at n ++ drop from (take len p) ++ replicate (1024 - k) 0) (sym l)
 
--- ---- the two ways of finished_with, where f is a number of two bytes
-
-module _ (f n : ℕ) where
-  both_so : eqb n 0 && ltb f most_finished ≡ true → (n ≡ 0) × (f < most_finished)
-  both_so e = let x = both (eqb n 0) (ltb f most_finished) e in (eqb-true n 0 x.0, ltb-true f most_finished x.1)
-
-  pub one_more_fits : eqb n 0 && ltb f most_finished ≡ true → f + 1 ≤ most_finished
-  one_more_fits e = let x = both_so e in omega arith
-
-  pub one_more : eqb n 0 && ltb f most_finished ≡ true → f + 1 ≡ finished_at f n
-  one_more e = let x = both_so e in left_none f n (omega arith) x.1
-
-  pub as_before : f ≤ most_finished → eqb n 0 && ltb f most_finished ≡ false → f ≡ finished_at f n
-  as_before most e = elim (dec_lt 0 n) [
-    | yes l ↦ left_some f n l
-    | no l ↦
-        let z : n ≡ 0 = omega arith in
-        let x : ltb f most_finished ≡ false = ap (λ t. t && ltb f most_finished) (sym (eq-eqb n 0 z)) ∙ e in
-        let y = ltb-false f most_finished x in
-        let q : f ≡ most_finished = omega arith in
-        q ∙ left_none_most f n l (omega arith)
-  ]
-
 -- ---- a transition made
 
 -- where a choice leads, and what `taken` makes of a configuration that has changed so
@@ -113,14 +87,14 @@ module _ (l : Layout) (b : Bytes) (c : Configuration) (k : Choice) (u : Unpacked
   pub took : (σ γ : Atoms) (π : List ℕ)
       → step (agent_for l b) (state_of c) k ≡ to k (record { mental = ⟨ σ / π / γ ⟩; phase = (kind k + 1) % 3; finished = finished_with u.standing.finished π })
       → packed edition2_set u.beliefs ≡ σ → packed edition2_set u.goals ≡ γ → p ≡ padded π → n ≡ length π
-      → (r : Made) → r ≡ taken_from (kind k) (number k) u p n
+      → (r : Made) → r ≡ taken_from (told k) u p n
       → StepsBy l b c k r.transition (configuration_from r.unpacked)
   unfolding configuration_of
   took σ γ π t believed wanted held long r e =
       let f = finished_at_lem u.standing.finished n π long in (
         ap (λ (x : Made). x.transition) e ∙ ap transition_of (sym t),
         ap (λ (x : Made). configuration_from x.unpacked) e
-            ∙ (λ j. configured (believed j) (wanted j) (record { length = long j; phase = (kind k + 1) % 3; finished = f j }) (held j))
+            ∙ (λ j. configured (believed j) (wanted j) (record { length = long j; phase = (told_kind k j + 1) % 3; finished = f j }) (held j))
             ∙ ap (λ (x : Reached). configuration_after x c) (sym t),
       )
 
@@ -151,9 +125,9 @@ module _ (l : Layout) (b : Bytes) (u : Unpacked) (ready : Ready l b (configurati
 
     pub selection_made : (at : ℕ) → at ≡ l.pool.offset + e.plan.start
         → (p : Bytes) → p ≡ padded (part b at e.plan.length ++ drop len (take len u.plan))
-        → (r : Made) → r ≡ taken_from 0 i u p e.plan.length
+        → (r : Made) → r ≡ taken_from (told (select i)) u p e.plan.length
         → StepsBy l b c (select i) r.transition (configuration_from r.unpacked)
-    unfolding kind number
+    unfolding kind
     selection_made at here p q =
         let gone : drop len (take len u.plan) ≡ [] = drop_of_length-le (take len u.plan) {i = len} (rw (length-take len u.plan) (omega arith)) in
         took l b c (select i) u p e.plan.length _ _ (plan l b (selection_at l b i).plan) (selects_to l b c ready i may) refl refl
@@ -169,9 +143,9 @@ module _ (l : Layout) (b : Bytes) (u : Unpacked) (ready : Ready l b (configurati
         → (β γ : List Bool) → packed edition2_set β ≡ (packed edition2_set u.beliefs ∪ e.add) ∖ e.del
         → packed edition2_set γ ≡ struck_by (packed edition2_set β) (packed edition2_set u.goals)
         → (p : Bytes) → p ≡ padded (part b 0 0 ++ drop 1 (take len u.plan))
-        → (r : Made) → r ≡ taken_from 1 i (record { beliefs = β; goals = γ; plan = u.plan; standing = u.standing }) p (len - 1)
+        → (r : Made) → r ≡ taken_from (told (act i)) (record { beliefs = β; goals = γ; plan = u.plan; standing = u.standing }) p (len - 1)
         → StepsBy l b c (act i) r.transition (configuration_from r.unpacked)
-    unfolding kind number part σ' γ' specification_of
+    unfolding kind part σ' γ' specification_of
     action_made e so β γ believed wanted p q =
         let f = believed ∙ ap (λ (x : SpecificationEntry). (packed edition2_set u.beliefs ∪ x.add) ∖ x.del) so in
         took l b c (act i) (record { beliefs = β; goals = γ; plan = u.plan; standing = u.standing }) p (len - 1) _ _ _ (acts_to l b c ready i may)
@@ -204,9 +178,9 @@ module _ (l : Layout) (b : Bytes) (u : Unpacked) (ready : Ready l b (configurati
 
     pub revision_made : longer ≤ 1024 → (at : ℕ) → at ≡ l.pool.offset + e.body.start
         → (p : Bytes) → p ≡ padded (part b at e.body.length ++ drop e.head.length (take len u.plan))
-        → (r : Made) → r ≡ taken_from 2 i u p longer
+        → (r : Made) → r ≡ taken_from (told (revise i)) u p longer
         → StepsBy l b c (revise i) r.transition (configuration_from r.unpacked)
-    unfolding kind number
+    unfolding kind
     revision_made short at here p q =
         took l b c (revise i) u p longer _ _ _ (revises_to l b c ready i may (as_long (λ k. k ≤ 1024) short)) refl refl
         (q ∙ ap padded (ap (λ (x : Bytes). x ++ drop e.head.length (take len u.plan)) (pool_plan l b e.body at here) ∙ ap (λ (x : RevisionEntry). plan l b x.body ++ drop x.head.length (take len u.plan)) so))

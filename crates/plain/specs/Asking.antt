@@ -1,5 +1,5 @@
 -- What asking for the choices of a kind answers, as the plain engine has it.
-use Rattle.std.specs.Prelude.{◌≡◌, true, not, ◌&&◌, List, ℕ, ◌<◌, eqb, ltb, get_or, take}
+use Rattle.std.specs.Prelude.{◌≡◌, true, not, ◌&&◌, List, ℕ, Option, eqb, ltb, get_or, take}
 use Rattle.paper.specs.Next.{if, is_prefix}
 use Rattle.meaning.specs.declared.Span.{Span}
 use Rattle.meaning.specs.declared.Layout.{Layout}
@@ -7,7 +7,7 @@ use Rattle.meaning.specs.declared.Configuration.{Configuration}
 use Rattle.meaning.specs.Card.{Bytes, plan}
 use Rattle.layout.specs.Entries.{count_of}
 use Rattle.door.specs.declared.asked.Asked.{Asked}
-use Rattle.door.specs.declared.asked.Chosen.{Chosen}
+use Rattle.door.specs.declared.asked.Choice.{Choice}
 use Rattle.door.specs.Asking.{both, asked_by, asked, choice_at, first_of_kind}
 use Rattle.door.specs.Words.{state_of}
 use Rattle.listing.specs.Looking.{look_by}
@@ -46,8 +46,8 @@ abbrev pub AsksKind : Layout → Bytes → Configuration → ℕ → List Asked 
 AsksKind l b c kind r = Holds Asked.NoRule (λ i. asked l b (state_of c).mental (choice_at kind i)) 256 r
 
 -- of such answers the lowest enabled choice
-abbrev pub FindsFirst : List Asked → ℕ → ℕ → Chosen → Type 0
-FindsFirst answers n kind r = (l : Layout) (b : Bytes) (c : Configuration) → kind < 3 → n ≡ count_of l kind
+abbrev pub FindsFirst : List Asked → ℕ → ℕ → Option Choice → Type 0
+FindsFirst answers n kind r = (l : Layout) (b : Bytes) (c : Configuration) → n ≡ count_of l kind
     → AsksKind l b c kind answers → r ≡ first_of_kind l b c kind
 
 -- 02, Wish 11: "one for each selection rule, and one more where its belief condition holds": for selection rule i

@@ -36,8 +36,7 @@ fn one_of(left: Judgement, right: Judgement) -> Judgement
 fn judge(i: u8, x: Node, held: bool, wanted: bool, left: Judgement, right: Judgement) -> Judgement
     ensures { JudgesNode i x held wanted left right result }
 {
-    let kind = x.kind;
-    match kind {
+    match x.kind {
         0 => Judgement {
             value: true,
             node: i,
@@ -64,21 +63,15 @@ pub fn judge_all(l: Layout, t: Tables, u: Unpacked) -> Judgements
     requires { l.nodes.count ≤ 256 }
     ensures { JudgesAll l t u result }
 {
-    let nodes = t.nodes;
-    let beliefs = u.beliefs;
-    let goals = u.goals;
-    let n = l.nodes.count as usize;
     let mut judged = [Judgement {
         value: false,
         node: 0,
     }; 256];
-    let mut i: usize = 0;
-    while i < n {
-        let x = nodes[i];
+    for i in 0..l.nodes.count as usize {
+        let x = t.nodes[i];
         let a = x.a as usize;
         let b = x.b as usize;
-        judged[i] = judge(i as u8, x, beliefs[a], goals[a], judged[a], judged[b]);
-        i += 1;
+        judged[i] = judge(i as u8, x, u.beliefs[a], u.goals[a], judged[a], judged[b]);
     }
     judged
 }

@@ -5,7 +5,7 @@ ghost use Rattle.demands.specs.CallContracts.{Lists};
 ghost use Rattle.meaning.specs.Calls.{over};
 ghost use Rattle.meaning.specs.Looking.{conditions_judged};
 ghost use Rattle.listing.specs.Looking.{sum_of};
-ghost use Rattle.door.specs.Words.{agent_for, state_of, Ready};
+ghost use Rattle.door.specs.Words.{kind_number, agent_for, state_of, Ready};
 ghost use Rattle.unpacked.specs.Tables.{Tabled};
 ghost use Rattle.unpacked.specs.Truths.{configuration_from};
 ghost use Rattle.plain.specs.Judging.{JudgedAll};
@@ -17,8 +17,10 @@ use crate::choose::is_enabled;
 use crate::judge::{Judgements, judge_all};
 use crate::load::admit_configuration;
 use card::check::answer_of;
-use door::asked::Asked;
-use meaning::{Answer, Checked, Configuration, Layout, Listed, Refusal};
+use door::asked::{Asked, Choice};
+use layout::card::Card;
+use meaning::{Answer, Configuration, Layout, Listed, Refusal};
+use runs::Kind;
 use unpacked::configuration::{Unpacked, unpack};
 use unpacked::tables::{Tables, unpack_card};
 use unpacked::truths::count_true;
@@ -31,42 +33,48 @@ pub struct Codes {
 }
 
 // The codes of a kind's enabled choices too: "256 times the kind … plus the number".
-fn add_kind(before: Codes, answers: Answers, kind: u8) -> Codes
-    requires { (before.count ≤ 512) × (kind < 3) }
-    ensures codes_value { take result.count result.codes ≡ take before.count before.codes ++ codes_from answers kind }
+fn add_kind(before: Codes, answers: Answers, kind: Kind) -> Codes
+    requires { before.count ≤ 512 }
+    ensures codes_value { take result.count result.codes ≡ take before.count before.codes ++ codes_from answers (kind_number kind) }
     ensures count_bound { result.count ≤ before.count + 256 }
 {
     let mut codes = before.codes;
-    let mut count: usize = before.count;
-    let mut i: usize = 0;
-    while i < 256 {
-        let asked = answers[i];
-        if is_enabled(asked) {
-            codes[count] = 256 * (kind as u16) + (i as u16);
+    let mut count = before.count;
+    for number in 0..256 {
+        if is_enabled(answers[number]) {
+            codes[count] = Choice { kind, number }.code();
             count += 1;
         }
-        i += 1;
     }
-    Codes {
-        codes: codes,
-        count: count,
-    }
+    Codes { codes, count }
 }
 
 // All of them, "rising, each once".
-fn gather(card: &[u8], l: Layout, t: Tables, u: Unpacked, judged: Judgements) -> Codes
-    requires ready { Ready l card.now (configuration_from u) × Tabled l card.now t }
-    requires judged_all { JudgedAll l card.now (configuration_from u) judged }
-    ensures codes_value { take result.count result.codes ≡ enabled_codes (agent_for l card.now) (state_of (configuration_from u)).mental }
+fn gather(card: &Card, t: Tables, u: Unpacked, judged: Judgements) -> Codes
+    requires ready { Ready card.now.layout card.now.bytes.now (configuration_from u) × Tabled card.now.layout card.now.bytes.now t }
+    requires judged_all { JudgedAll card.now.layout card.now.bytes.now (configuration_from u) judged }
+    ensures codes_value { take result.count result.codes ≡ enabled_codes (agent_for card.now.layout card.now.bytes.now) (state_of (configuration_from u)).mental }
     ensures count_bound { result.count ≤ 768 }
 {
     let none = Codes {
         codes: [0u16; 768],
         count: 0,
     };
-    let one = add_kind(none, ask_kind(card, l, t, u, judged, 0), 0);
-    let two = add_kind(one, ask_kind(card, l, t, u, judged, 1), 1);
-    add_kind(two, ask_kind(card, l, t, u, judged, 2), 2)
+    let one = add_kind(
+        none,
+        ask_kind(card, t, u, judged, Kind::Selection),
+        Kind::Selection,
+    );
+    let two = add_kind(
+        one,
+        ask_kind(card, t, u, judged, Kind::Action),
+        Kind::Action,
+    );
+    add_kind(
+        two,
+        ask_kind(card, t, u, judged, Kind::Revision),
+        Kind::Revision,
+    )
 }
 
 // "one for each selection rule, and one more where its belief condition holds"
@@ -74,18 +82,13 @@ fn judged_selecting(l: Layout, t: Tables, judged: Judgements) -> usize
     requires { l.selections.count ≤ 256 }
     ensures { (result ≡ sum_of (judged_selecting t judged) l.selections.count) × (result ≤ 512) }
 {
-    let selections = t.selections;
-    let n = l.selections.count as usize;
     let mut count: usize = 0;
-    let mut i: usize = 0;
-    while i < n {
-        let e = selections[i];
-        let belief = judged[e.belief as usize];
-        count += 1;
-        if belief.value {
-            count += 1;
-        }
-        i += 1;
+    for i in 0..l.selections.count as usize {
+        count += if judged[t.selections[i].belief as usize].value {
+            2
+        } else {
+            1
+        };
     }
     count
 }
@@ -96,35 +99,25 @@ fn judged_otherwise(answers: Answers) -> usize
     ensures { (result ≡ sum_of (judged_by answers) 256) × (result ≤ 256) }
 {
     let mut count: usize = 0;
-    let mut i: usize = 0;
-    while i < 256 {
-        let asked = answers[i];
-        match asked {
-            Asked::Enabled => {
-                count += 1;
-            }
-            Asked::Condition(_) => {
-                count += 1;
-            }
-            _ => {}
+    for i in 0..256 {
+        if matches!(answers[i], Asked::Enabled | Asked::Condition(_)) {
+            count += 1;
         }
-        i += 1;
     }
     count
 }
 
 // "how many conditions one listing judges": "with an empty plan …; otherwise …".
-fn conditions_judged(card: &[u8], l: Layout, t: Tables, u: Unpacked, judged: Judgements) -> usize
-    requires ready { Ready l card.now (configuration_from u) × Tabled l card.now t }
-    requires judged_all { JudgedAll l card.now (configuration_from u) judged }
-    ensures { (result ≡ conditions_judged (agent_for l card.now) (state_of (configuration_from u)).mental) × (result ≤ 512) }
+fn conditions_judged(card: &Card, t: Tables, u: Unpacked, judged: Judgements) -> usize
+    requires ready { Ready card.now.layout card.now.bytes.now (configuration_from u) × Tabled card.now.layout card.now.bytes.now t }
+    requires judged_all { JudgedAll card.now.layout card.now.bytes.now (configuration_from u) judged }
+    ensures { (result ≡ conditions_judged (agent_for card.now.layout card.now.bytes.now) (state_of (configuration_from u)).mental) × (result ≤ 512) }
 {
-    let m = u.standing;
-    if m.length == 0 {
-        return judged_selecting(l, t, judged);
+    if u.standing.length == 0 {
+        return judged_selecting(card.layout, t, judged);
     }
-    let specifications = ask_kind(card, l, t, u, judged, 1);
-    let revisions = ask_kind(card, l, t, u, judged, 2);
+    let specifications = ask_kind(card, t, u, judged, Kind::Action);
+    let revisions = ask_kind(card, t, u, judged, Kind::Revision);
     judged_otherwise(specifications) + judged_otherwise(revisions)
 }
 
@@ -133,13 +126,7 @@ fn copy_codes(found: Codes, out: &mut [u16])
     requires { (found.count ≤ 768) × (found.count ≤ length out.old) }
     ensures { out.new ≡ over (take found.count found.codes) out.old }
 {
-    let codes = found.codes;
-    let n = found.count;
-    let mut i: usize = 0;
-    while i < n {
-        out[i] = codes[i];
-        i += 1;
-    }
+    out[..found.count].copy_from_slice(&found.codes[..found.count]);
 }
 
 // "Any count in a refusal is 0."
@@ -147,7 +134,7 @@ fn refused(answer: Answer, c: Configuration) -> Listed
     ensures { result ≡ record { answer = answer; count = 0; judged = 0; goals = 0; configuration = c } }
 {
     Listed {
-        answer: answer,
+        answer,
         count: 0,
         judged: 0,
         goals: 0,
@@ -160,24 +147,22 @@ pub fn list(card: &[u8], c: Configuration, out: &mut [u16]) -> Listed
     ensures { Lists card.now c out.old result out.new }
 {
     let admitted = admit_configuration(card, c);
-    let Checked::Good(l) = admitted else {
+    let Ok(card) = admitted else {
         return refused(answer_of(admitted), c);
     };
-    let t = unpack_card(card, l);
+    let t = unpack_card(&card);
     let u = unpack(c);
-    let judged = judge_all(l, t, u);
-    let found = gather(card, l, t, u, judged);
-    let n = found.count;
-    let goals = u.goals;
-    if out.len() < n {
-        return refused(Answer::Refused(Refusal::NoRoom), c);
+    let judged = judge_all(card.layout, t, u);
+    let found = gather(&card, t, u, judged);
+    if out.len() < found.count {
+        return refused(Err(Refusal::NoRoom), c);
     }
     copy_codes(found, out);
     Listed {
-        answer: Answer::Done,
-        count: n as u16,
-        judged: conditions_judged(card, l, t, u, judged) as u16,
-        goals: count_true(goals) as u16,
+        answer: Ok(()),
+        count: found.count as u16,
+        judged: conditions_judged(&card, t, u, judged) as u16,
+        goals: count_true(u.goals) as u16,
         configuration: c,
     }
 }

@@ -1,17 +1,15 @@
 // The card and the configuration that are handed in, and the configuration that a card starts with.
 ghost use Rattle.std.specs.Prelude.{◌≡◌};
 ghost use Rattle.demands.specs.CallContracts.{Loads};
-ghost use Rattle.meaning.specs.declared.Layout.{Layout};
-ghost use Rattle.meaning.specs.declared.Checked.{Checked};
-ghost use Rattle.door.specs.Admitted.{admitted};
-ghost use Rattle.door.specs.Words.{start, configuration_of, empty, GoodCard, Ready};
+ghost use Rattle.door.specs.Admitted.{Admitted};
+ghost use Rattle.door.specs.Words.{start, configuration_of, empty, GoodCard};
 ghost use Rattle.unpacked.specs.Truths.{configuration_from};
 
 use crate::make::copy_plan;
-use card::check::{answer_of, check};
+use card::check::{accept, answer_of};
 use door::admit::admit;
-use layout::entries::{initial_beliefs, initial_goals, pool_at};
-use meaning::{Answer, Checked, Configuration, Layout, Reply, Standing};
+use layout::card::Card;
+use meaning::{Answer, Configuration, Refusal, Reply, Standing};
 use unpacked::configuration::{Unpacked, pack};
 use unpacked::truths::{none_true, strike, unpack_set};
 
@@ -22,21 +20,16 @@ pub struct Answered {
     pub unpacked: Unpacked,
 }
 
-// The layout of an accepted card, where the configuration is accepted too, or the refusal: rows 1 to 9, then row 13.
-pub fn admit_configuration(card: &[u8], c: Configuration) -> Checked
-    ensures value { result ≡ admitted card.now c }
-    ensures ready { (l : Layout) → result ≡ Checked.Good l → Ready l card.now c }
+// An accepted card, where the configuration is accepted too, or the refusal: rows 1 to 9, then row 13.
+pub fn admit_configuration(card: &[u8], c: Configuration) -> Result<Card<'_>, Refusal>
+    ensures { Admitted card.now c result }
 {
-    let m = c.mind;
-    let beliefs = m.beliefs;
-    let goals = m.goals;
-    let plan = c.plan;
     let standing = Standing {
-        length: m.length,
-        phase: m.phase,
-        finished: m.finished,
+        length: c.mind.length,
+        phase: c.mind.phase,
+        finished: c.mind.finished,
     };
-    admit(card, &beliefs, &goals, standing, &plan)
+    admit(card, &c.mind.beliefs, &c.mind.goals, standing, &c.plan)
 }
 
 // "phase 0", and nothing finished, with a plan of n actions.
@@ -51,26 +44,25 @@ fn at_first(n: u16) -> Standing
 }
 
 // "the card's initial beliefs, goals and plan with phase 0", where "the goals are those not believed, and at load likewise".
-fn first(card: &[u8], l: Layout) -> Unpacked
-    requires { GoodCard l card.now }
-    ensures { configuration_from result ≡ configuration_of (start card.now) }
+fn first(card: &Card) -> Unpacked
+    requires { GoodCard card.now.layout card.now.bytes.now }
+    ensures { configuration_from result ≡ configuration_of (start card.now.bytes.now) }
 {
-    let initial = l.initial;
-    let n = initial.length;
-    let beliefs = unpack_set(initial_beliefs(card, l));
-    let goals = unpack_set(initial_goals(card, l));
+    let n = card.layout.initial.length;
+    let beliefs = unpack_set(card.initial_beliefs());
+    let goals = unpack_set(card.initial_goals());
     let plan = copy_plan(
-        card,
-        pool_at(l, initial.start),
+        card.bytes,
+        card.pool_at(card.layout.initial.start),
         n as usize,
         [0u8; 1024],
         0,
         0,
     );
     Unpacked {
-        beliefs: beliefs,
+        beliefs,
         goals: strike(goals, beliefs),
-        plan: plan,
+        plan,
         standing: at_first(n),
     }
 }
@@ -91,15 +83,15 @@ fn nothing() -> Unpacked
 pub fn load(card: &[u8]) -> Reply
     ensures { Loads card.now result }
 {
-    let checked = check(card);
-    let Checked::Good(l) = checked else {
+    let accepted = accept(card);
+    let Ok(card) = accepted else {
         return Reply {
-            answer: answer_of(checked),
+            answer: answer_of(accepted),
             configuration: pack(nothing()),
         };
     };
     Reply {
-        answer: Answer::Done,
-        configuration: pack(first(card, l)),
+        answer: Ok(()),
+        configuration: pack(first(&card)),
     }
 }

@@ -14,8 +14,8 @@ use crate::judge::judge_all;
 use crate::load::admit_configuration;
 use crate::make::{Made, make};
 use card::check::answer_of;
-use door::asked::Chosen;
-use meaning::{Answer, Checked, Configuration, Layout, Ran};
+use layout::card::Card;
+use meaning::{Configuration, Ran};
 use moves::step::Transition;
 use runs::Ending;
 use unpacked::configuration::{Unpacked, pack, unpack};
@@ -34,53 +34,43 @@ fn ended(count: u16, ending: Ending, u: Unpacked) -> RunsTo
     ensures { result ≡ record { count = count; ending = ending; unpacked = u } }
 {
     RunsTo {
-        count: count,
-        ending: ending,
+        count,
+        ending,
         unpacked: u,
     }
 }
 
 // One move of the guide's own: every node is judged, the choice found, and the transition made.
-fn advance(card: &[u8], l: Layout, t: Tables, u: Unpacked) -> Made
-    requires { Ready l card.now (configuration_from u) × Tabled l card.now t }
-    ensures { Advances l card.now (configuration_from u) result.transition (configuration_from result.unpacked) }
+fn advance(card: &Card, t: Tables, u: Unpacked) -> Made
+    requires { Ready card.now.layout card.now.bytes.now (configuration_from u) × Tabled card.now.layout card.now.bytes.now t }
+    ensures { Advances card.now.layout card.now.bytes.now (configuration_from u) result.transition (configuration_from result.unpacked) }
 {
-    let judged = judge_all(l, t, u);
-    let chosen = choose(card, l, t, u, judged);
-    let Chosen::At(kind, i) = chosen else {
+    let judged = judge_all(card.layout, t, u);
+    let Some(choice) = choose(card, t, u, judged) else {
         return Made {
             transition: Transition::Nothing,
             unpacked: u,
         };
     };
-    make(card, l, t, u, kind, i)
+    make(card, t, u, choice)
 }
 
 // At most budget moves of the guide's own. "The budget is looked at first".
-fn run_on(card: &[u8], l: Layout, t: Tables, u: Unpacked, budget: u16) -> RunsTo
-    requires { Ready l card.now (configuration_from u) × Tabled l card.now t }
-    ensures { ran_from result ≡ ran (run (agent_for l card.now) budget (state_of (configuration_from u))) }
+fn run_on(card: &Card, t: Tables, u: Unpacked, budget: u16) -> RunsTo
+    requires { Ready card.now.layout card.now.bytes.now (configuration_from u) × Tabled card.now.layout card.now.bytes.now t }
+    ensures { ran_from result ≡ ran (run (agent_for card.now.layout card.now.bytes.now) budget (state_of (configuration_from u))) }
 {
     let mut here = u;
-    let mut count: u16 = 0;
-    while count < budget {
-        let made = advance(card, l, t, here);
-        let transition = made.transition;
-        let after = made.unpacked;
-        here = after;
-        match transition {
-            Transition::Taken(_, _) => {
-                count += 1;
-            }
-            Transition::Nothing => {
-                return ended(count, Ending::Rest, here);
-            }
-            Transition::Full => {
-                return ended(count, Ending::Full, here);
-            }
+    for count in 0..budget {
+        let made = advance(card, t, here);
+        here = made.unpacked;
+        match made.transition {
+            Transition::Taken(_) => {}
+            Transition::Nothing => return ended(count, Ending::Rest, here),
+            Transition::Full => return ended(count, Ending::Full, here),
         }
     }
-    ended(count, Ending::Spent, here)
+    ended(budget, Ending::Spent, here)
 }
 
 // What is reached, the count, and why the run ended.
@@ -88,7 +78,7 @@ pub fn run(card: &[u8], c: Configuration, budget: u16) -> Ran
     ensures { Runs card.now c budget result }
 {
     let admitted = admit_configuration(card, c);
-    let Checked::Good(l) = admitted else {
+    let Ok(card) = admitted else {
         return Ran {
             answer: answer_of(admitted),
             count: 0,
@@ -96,13 +86,11 @@ pub fn run(card: &[u8], c: Configuration, budget: u16) -> Ran
             configuration: c,
         };
     };
-    let reached = run_on(card, l, unpack_card(card, l), unpack(c), budget);
-    let ending = reached.ending;
-    let u = reached.unpacked;
+    let reached = run_on(&card, unpack_card(&card), unpack(c), budget);
     Ran {
-        answer: Answer::Done,
+        answer: Ok(()),
         count: reached.count,
-        ending: ending,
-        configuration: pack(u),
+        ending: reached.ending,
+        configuration: pack(reached.unpacked),
     }
 }

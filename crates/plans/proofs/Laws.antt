@@ -9,8 +9,8 @@ use native.Mathlib.Omega.{arith}
 use borrow.Author.Tests.{eqb-true, eq-eqb}
 use lib.Bits.{bit_or, bit_xor, and_le_l, and_le_r, xor_add_and, or_zero_l, xor_self}
 use lib.Dec.{eqb}
-use lib.ListN.{drop_of_length-le, length, get_or, set, take, drop, replicate, length-append, length-take, length-drop, length-replicate, get_or-replicate, get_or-append, replicate-append-replicate}
-use lib.Seq.{get_or-take, take-nil, set_at, append_snoc, take-suc, drop-cons, take_at, drop_at, length-take-le, paste, paste-suc, take-paste, drop-paste, length-paste, drop-drop}
+use lib.ListN.{drop_of_length-le, length, get_or, take, drop, replicate, length-append, length-take, length-drop, length-replicate, replicate-append-replicate}
+use lib.Seq.{get_or-take, take-nil, take_at, drop_at, length-take-le, paste, take-paste, drop-paste, drop-drop}
 use Rattle.paper.specs.Next.{is_prefix}
 use Rattle.paper.proofs.Relation.{both, false≢true}
 use Rattle.meaning.specs.Card.{part}
@@ -19,17 +19,10 @@ use Rattle.meaning.specs.Refusals.{every}
 use Rattle.meaning.proofs.Every.{both_true, same_truth, every_at, every_of}
 use Rattle.meaning.proofs.Parts.{length_part, part_at}
 use Rattle.sets.proofs.Zeros.{or-zero}
+use Rattle.std.proofs.lemmas.List.{drop-replicate}
 use Rattle.plans.specs.Plans.{Padded, shifted, same}
 
 -- ---- bytes that are copied over others
-
--- what stands before the copy is as it was
-get_d_before : (d : List ℕ) (at : ℕ) (s : List ℕ) (n k : ℕ) → k < at → at ≤ length d → get_or (paste d at s n) k 0 ≡ get_or d k 0
-get_d_before d at s n k h hd =
-    let l : length (take at d) ≡ at = length-take-le at d hd in
-    get_or-append (take at d ++ take n s) (drop (at + n) d) 0 k (omega (arith, length-append (take at d) (take n s)))
-    ∙ get_or-append (take at d) (take n s) 0 k (omega arith)
-    ∙ get_or-take at d k 0 h
 
 drop_after : (d : List ℕ) (at : ℕ) (s : List ℕ) (n k : ℕ) → at + n ≤ k → at ≤ length d → n ≤ length s → drop k (paste d at s n) ≡ drop k d
 drop_after d at s n k h hd hs =
@@ -40,55 +33,7 @@ drop_after d at s n k h hd hs =
     ∙ drop-drop (k - (at + n)) (at + n) d
     ∙ ap (λ (x : ℕ). drop x d) e
 
--- a turn of a move up: j + 1 are left, and then j
-up_suc : (d : List ℕ) (to from n j : ℕ) → from ≤ to → to + n ≤ length d → j < n
-    → set (paste d (to + suc j) (drop (from + suc j) d) (n - suc j)) (to + j) (get_or d (from + j) 0) ≡ paste d (to + j) (drop (from + j) d) (n - j)
-up_suc d to from n j h hd hj =
-    let v = get_or d (from + j) 0 in
-    let a = take (to + j) d in
-    let b = take (n - suc j) (drop (suc (from + j)) d) in
-    let r = drop (to + n) d in
-    let e₁ : to + suc j ≡ suc (to + j) = omega arith in
-    let e₂ : from + suc j ≡ suc (from + j) = omega arith in
-    let e₃ : suc (to + j) + (n - suc j) ≡ to + n = omega arith in
-    let e₄ : to + j + (n - j) ≡ to + n = omega arith in
-    let e₅ : n - j ≡ suc (n - suc j) = omega arith in
-    let l : length a ≡ to + j = length-take-le (to + j) d (omega arith) in
-    let x = get_or d (to + j) 0 in
-    let t : take (suc (to + j)) d ≡ a ++ (x ∷ []) = take-suc d (to + j) 0 (omega arith) in
-    let left : paste d (to + suc j) (drop (from + suc j) d) (n - suc j) ≡ a ++ x ∷ (b ++ r) = rw (e₁, e₂, e₃, t, append_snoc a x b) (append_assoc a (x ∷ b) r) in
-    let right : paste d (to + j) (drop (from + j) d) (n - j) ≡ a ++ v ∷ (b ++ r) = rw (e₄, e₅, drop-cons d (from + j) 0 (omega arith)) (append_assoc a (v ∷ b) r) in
-    ap (λ (y : List ℕ). set y (to + j) v) left ∙ set_at a x (b ++ r) v (to + j) l ∙ sym right
-
-pub up_more : (d : List ℕ) (to from n i : ℕ) → from ≤ to → to + n ≤ length d → 0 < i → i ≤ n
-    → set (paste d (to + i) (drop (from + i) d) (n - i)) (to + (i - 1)) (get_or (paste d (to + i) (drop (from + i) d) (n - i)) (from + (i - 1)) 0)
-    ≡ paste d (to + (i - 1)) (drop (from + (i - 1)) d) (n - (i - 1))
-up_more d to from n zero h hd h0 hi = absurd (omega arith)
-up_more d to from n (suc j) h hd h0 hi =
-    let e : suc j - 1 ≡ j = omega arith in
-    rw e
-    (ap (set (paste d (to + suc j) (drop (from + suc j) d) (n - suc j)) (to + j)) (get_d_before d (to + suc j) (drop (from + suc j) d) (n - suc j) (from + j) (omega arith) (omega arith))
-    ∙ up_suc d to from n j h hd (omega arith))
-
--- a turn of a loop that clears
-pub clear_more : (d : List ℕ) (from to i : ℕ) → from ≤ i → i < to → to ≤ length d
-    → set (paste d from (replicate (to - from) 0) (i - from)) i 0 ≡ paste d from (replicate (to - from) 0) (i + 1 - from)
-clear_more d from to i h ht hd =
-    let z : List ℕ = replicate (to - from) 0 in
-    let e : i ≡ from + (i - from) = omega arith in
-    let f : suc (i - from) ≡ i + 1 - from = omega arith in
-    let l : i - from < length z = rw (length-replicate {A = ℕ} (to - from) 0) (omega arith) in
-    ap (λ (k : ℕ). set (paste d from z (i - from)) k 0) e
-    ∙ ap (set (paste d from z (i - from)) (from + (i - from))) (sym (get_or-replicate (to - from) (i - from) 0 0 (omega arith)))
-    ∙ paste-suc d from z (i - from) 0 (omega arith) l
-    ∙ ap (paste d from z) f
-
 -- ---- zeros after the end
-
-pub drop-replicate : (m n a : ℕ) → drop m (replicate n a) ≡ replicate (n - m) a
-drop-replicate zero n a = rw sub-zero
-drop-replicate (suc m) zero a = rw zero-sub
-drop-replicate (suc m) (suc n) a = rw (suc-sub-suc n m) (drop-replicate m n a)
 
 drop_zeros : (d : List ℕ) (len k : ℕ) → length d ≡ 1024 → Padded d len → len ≤ k → len ≤ 1024 → drop k d ≡ replicate (1024 - k) 0
 unfolding padded
@@ -125,10 +70,7 @@ module _ (d : List ℕ) (len h b : ℕ) (hl : h ≤ len) (hr : len ≤ 1024) (ro
   ld : length d ≡ 1024
   ld = length_zeroed d len hr z
 
-  pub length_shift : (s : List ℕ) → s ≡ paste d b (drop h d) (len - h) → length s ≡ 1024
-  length_shift s q = let l : len - h ≤ length (drop h d) = rw (length-drop h d) (omega (arith, ld)) in ap length q ∙ length-paste d b (drop h d) (len - h) (omega (arith, ld)) l ∙ ld
-
-  pub shifted_up : h < b → paste d b (drop h d) (len - h) ≡ shifted d len h b
+  pub shifted_up : h ≤ b → paste d b (drop h d) (len - h) ≡ shifted d len h b
   unfolding part
   shifted_up lt = ap (λ (x : List ℕ). take b d ++ part d h (len - h) ++ x) (drop_zeros d len (b + (len - h)) ld z (omega (arith, ld)) hr)
 

@@ -2,7 +2,6 @@
 #![tactic(auto)]
 
 ghost use Rattle.std.specs.Prelude.{◌≡◌, ◌++◌, ◌+◌, ◌-◌, ◌≤◌, length, take, drop, replicate};
-ghost use Rattle.std.proofs.Math.Seq.{paste};
 ghost use Rattle.paper.specs.Next.{is_prefix};
 ghost use Rattle.meaning.specs.Card.{part};
 ghost use Rattle.meaning.specs.Configurations.{padded};
@@ -11,28 +10,12 @@ ghost use Rattle.plans.specs.Plans.{Padded, shifted, same};
 
 use meaning::Plan;
 
-// n bytes move up in place, the last one first.
-fn up(s: &mut Plan, to: usize, from: usize, n: usize)
-    requires { (from ≤ to) × (to + n ≤ 1024) × (length s.old ≡ 1024) }
-    ensures { s.new ≡ paste s.old to (drop from s.old) n }
-{
-    let mut i: usize = n;
-    while 0 < i {
-        i -= 1;
-        s[to + i] = s[from + i];
-    }
-}
-
 // Zeros from `from` to `to`.
 pub fn clear(s: &mut [u8], from: usize, to: usize)
     requires { (from ≤ to) × (to ≤ length s.old) }
     ensures { s.new ≡ take from s.old ++ replicate (to - from) 0 ++ drop to s.old }
 {
-    let mut i: usize = from;
-    while i < to {
-        s[i] = 0;
-        i += 1;
-    }
+    s[from..to].fill(0);
 }
 
 // What stands after the first hlen actions moves to blen, and zeros stand after its end.
@@ -41,11 +24,9 @@ fn shift(plan: &mut Plan, len: usize, hlen: usize, blen: usize)
     ensures { plan.new ≡ shifted plan.old len hlen blen }
 {
     let tail = len - hlen;
-    if blen <= hlen {
-        layout::bytes::down(plan, blen, hlen, tail);
+    plan.copy_within(hlen..len, blen);
+    if blen < hlen {
         clear(plan, blen + tail, len);
-    } else {
-        up(plan, blen, hlen, tail);
     }
 }
 
@@ -75,7 +56,7 @@ pub fn replace_front(
 
 // n bytes from an offset on become the plan, whatever it was.
 pub fn fill(plan: &mut Plan, bytes: &[u8], start: usize, n: usize)
-    requires { (n ≤ 1024) × (length plan.old ≡ 1024) × (start + n ≤ length bytes.now) }
+    requires { (n ≤ 1024) × (start + n ≤ length bytes.now) }
     ensures { plan.new ≡ padded (part bytes.now start n) }
 {
     layout::bytes::copy(plan, 0, bytes, start, n);
@@ -85,14 +66,12 @@ pub fn fill(plan: &mut Plan, bytes: &[u8], start: usize, n: usize)
 // Whether n bytes of the card, from `at` on, are those of the plan from `from` on: the bits in which any two differ are gathered
 // without an exit.
 fn same_bytes(card: &[u8], at: usize, plan: &Plan, from: usize, n: usize) -> bool
-    requires { (at + n ≤ length card.now) × (from + n ≤ 1024) × (length plan.now ≡ 1024) }
+    requires { (at + n ≤ length card.now) × (from + n ≤ 1024) }
     ensures { result ≡ every n (same card.now at plan.now from) }
 {
     let mut differing: u8 = 0;
-    let mut i: usize = 0;
-    while i < n {
-        differing = differing | (card[at + i] ^ plan[from + i]);
-        i += 1;
+    for i in 0..n {
+        differing |= card[at + i] ^ plan[from + i];
     }
     differing == 0
 }
@@ -100,7 +79,7 @@ fn same_bytes(card: &[u8], at: usize, plan: &Plan, from: usize, n: usize) -> boo
 // Whether the head, hlen bytes of the card from hstart, is a prefix of the plan. The first byte alone settles most heads. A long
 // head is compared by 64 bytes at a time; the last 64 may lie over those before.
 pub fn starts_with(card: &[u8], hstart: usize, hlen: usize, plan: &Plan, len: usize) -> bool
-    requires { (1 ≤ hlen) × (hstart + hlen ≤ length card.now) × (len ≤ 1024) × (length plan.now ≡ 1024) }
+    requires { (1 ≤ hlen) × (hstart + hlen ≤ length card.now) × (len ≤ 1024) }
     ensures { result ≡ is_prefix (part card.now hstart hlen) (take len plan.now) }
 {
     if len < hlen {
@@ -113,12 +92,10 @@ pub fn starts_with(card: &[u8], hstart: usize, hlen: usize, plan: &Plan, len: us
         return same_bytes(card, hstart, plan, 0, hlen);
     }
     let last = hlen - 64;
-    let mut i: usize = 0;
-    while i < last {
+    for i in (0..last).step_by(64) {
         if !same_bytes(card, hstart + i, plan, i, 64) {
             return false;
         }
-        i += 64;
     }
     same_bytes(card, hstart + last, plan, last, 64)
 }

@@ -3,268 +3,168 @@
 // and its number.
 #![tactic(auto)]
 
-ghost use Rattle.std.specs.Prelude.{◌≡◌, ◌<◌, length};
-ghost use Rattle.layout.specs.GoodLayout.{TwoByteSpan, GoodLayout};
+ghost use Rattle.std.specs.Prelude.{◌<◌};
+ghost use Rattle.layout.specs.GoodLayout.{TwoByteSpan};
 
-use answers::{answer_number, refusal_number};
-use card::check::check;
+use answers::refusal_number;
+use card::check::accept;
 use input::read_full;
-use layout::entries::{
-    initial_beliefs, initial_goals, pool_at, read_revision, read_selection, read_specification,
-    read_weight,
-};
-use layout::sizes::most_atoms;
-use meaning::{Checked, Layout, Refusal, Set, Span};
-use output::{also, write, write_front};
-use std::io;
+use layout::card::Card;
+use meaning::{Refusal, Set, Span};
+use std::{fmt, io};
 
-// ---- words, numbers, lists
+// ---- lists
 
-// " " byte
-fn also_byte(rt: HostRuntime, n: u8) -> io::Result<()> {
-    also(rt, n as u64)
-}
+// A set as a list.
+#[derive(Drop)]
+struct Atoms(Set);
 
-// A word, and a set as a list.
-fn write_set(rt: HostRuntime, word: &[u8], l: Layout, set: Set) -> io::Result<()> {
-    write(rt, word)?;
-    let n = most_atoms(l);
-    let mut k: usize = 0;
-    while k < n {
-        if sets::member(set, k as u8) {
-            also(rt, k as u64)?;
+impl fmt::Display for Atoms {
+    fn fmt<W: fmt::Write>(&self, f: &mut fmt::Formatter<W>) -> fmt::Result {
+        for atom in 0..=255u8 {
+            if sets::member(self.0, atom) {
+                write!(f, " {atom}")?;
+            }
         }
-        k += 1;
+        Ok(())
     }
-    Ok(())
 }
 
-// Actions as a list.
-fn write_actions(rt: HostRuntime, actions: &[u8]) -> io::Result<()> {
-    let n = actions.len();
-    let mut i: usize = 0;
-    while i < n {
-        also_byte(rt, actions[i])?;
-        i += 1;
+// A plan as a list of its actions.
+#[derive(Drop)]
+struct Actions<'a>(&'a [u8]);
+
+impl fmt::Display for Actions<'_> {
+    fn fmt<W: fmt::Write>(&self, f: &mut fmt::Formatter<W>) -> fmt::Result {
+        for action in self.0 {
+            write!(f, " {action}")?;
+        }
+        Ok(())
     }
-    Ok(())
 }
 
-// A word, and a plan as a list.
-fn write_plan(rt: HostRuntime, word: &[u8], card: &[u8], l: Layout, plan: Span) -> io::Result<()>
-    requires { GoodLayout l card.now × TwoByteSpan plan }
+// The actions of a plan of the card.
+fn actions_of<'a>(card: &Card<'a>, plan: Span) -> Actions<'a>
+    requires { TwoByteSpan plan }
 {
-    let from = pool_at(l, plan.start);
-    let to = from + (plan.length as usize);
-    write(rt, word)?;
-    if to <= card.len() {
-        write_actions(rt, &card[from..to])?;
-    }
-    Ok(())
+    let from = card.pool_at(plan.start);
+    let to = from + plan.length as usize;
+    Actions(card.bytes.get(from..to).unwrap_or(&[]))
 }
 
 // ---- conditions
 
 // Room for the text of a condition.
-fn no_condition() -> [u8; 2048]
-    ensures { 2048 ≡ length result }
-{
-    [0u8; 2048]
-}
+const CONDITION: usize = 2048;
 
-// What the printer says of a condition: its answer's number, and the length of the text.
-#[derive(Clone, Copy)]
-struct Printed {
-    number: u16,
-    length: usize,
-}
-
-// The text of a node's condition, into a lent buffer.
-fn print_condition(card: &[u8], node: u8, text: &mut [u8]) -> Printed {
+// The text of a node's condition, in a lent buffer; or what the printer refuses it with.
+fn print_condition<'a>(card: &[u8], node: u8, text: &'a mut [u8]) -> Result<&'a [u8], Refusal> {
     let printed = printer::print::print(card, node as usize, text);
-    let answer = printed.answer;
-    Printed {
-        number: answer_number(answer),
-        length: printed.count as usize,
+    match printed.answer {
+        Ok(()) => Ok(text.get(..printed.count as usize).unwrap_or(&[])),
+        Err(refusal) => Err(refusal),
     }
 }
 
-// The number of the first refusal of two answers, 0 where there is none.
-fn first_refusal(first: u16, second: u16) -> u16 {
-    if first != 0 { first } else { second }
-}
-
-// That a line is left out: what it would say, its number, and the number that the printer refuses a condition of it with.
-fn leave_out(rt: HostRuntime, what: &[u8], i: usize, number: u16) -> io::Result<()> {
-    write(rt, what)?;
-    also(rt, i as u64)?;
-    write(rt, b" is left out: a condition of it")?;
-    match number {
-        18 => write(rt, b" nests over 32 deep\n"),
-        25 => write(rt, b" has over 256 nodes\n"),
-        _ => write(rt, b" is refused\n"),
-    }
+// That a line is left out: what it would say, its number, and why the printer refuses a condition of it.
+fn leave_out(rt: HostRuntime, what: &str, i: usize, refusal: Refusal) -> io::Result<()> {
+    let why = match refusal {
+        Refusal::Nested => "nests over 32 deep",
+        Refusal::Large => "has over 256 nodes",
+        _ => "is refused",
+    };
+    println!(rt; "# {what} {i} is left out: a condition of it {why}")
 }
 
 // ---- the lines
 
 // "do " number " if " condition " add" list " del" list
-fn write_specification(rt: HostRuntime, card: &[u8], l: Layout, i: usize) -> io::Result<()>
-    requires { GoodLayout l card.now × (i < l.specifications.count) }
+fn write_specification(rt: HostRuntime, card: &Card, i: usize) -> io::Result<()>
+    requires { i < card.now.layout.specifications.count }
 {
-    let e = read_specification(card, l, i);
-    let mut text = no_condition();
-    let printed = print_condition(card, e.node, &mut text);
-    let number = printed.number;
-    if number != 0 {
-        return leave_out(rt, b"# specification", i, number);
-    }
-    let add = e.add;
-    let del = e.del;
-    write(rt, b"do")?;
-    also_byte(rt, e.action)?;
-    write(rt, b" if ")?;
-    write_front(rt, &text, printed.length)?;
-    write_set(rt, b" add", l, add)?;
-    write_set(rt, b" del", l, del)?;
-    write(rt, b"\n")
+    let e = card.specification(i);
+    let mut text = [0u8; CONDITION];
+    let condition = match print_condition(card.bytes, e.node, &mut text) {
+        Ok(condition) => condition,
+        Err(refusal) => return leave_out(rt, "specification", i, refusal),
+    };
+    print!(rt; "do {} if ", e.action)?;
+    rt.write_all(condition)?;
+    println!(rt; " add{} del{}", Atoms(e.add), Atoms(e.del))
 }
 
 // "select if " condition " goal " condition " plan" list
-fn write_selection(rt: HostRuntime, card: &[u8], l: Layout, i: usize) -> io::Result<()>
-    requires { GoodLayout l card.now × (i < l.selections.count) }
+fn write_selection(rt: HostRuntime, card: &Card, i: usize) -> io::Result<()>
+    requires { i < card.now.layout.selections.count }
 {
-    let e = read_selection(card, l, i);
-    let mut belief = no_condition();
-    let first = print_condition(card, e.belief, &mut belief);
-    let mut goal = no_condition();
-    let second = print_condition(card, e.goal, &mut goal);
-    let number = first_refusal(first.number, second.number);
-    if number != 0 {
-        return leave_out(rt, b"# selection", i, number);
-    }
-    write(rt, b"select if ")?;
-    write_front(rt, &belief, first.length)?;
-    write(rt, b" goal ")?;
-    write_front(rt, &goal, second.length)?;
-    write_plan(rt, b" plan", card, l, e.plan)?;
-    write(rt, b"\n")
+    let e = card.selection(i);
+    let mut text = [0u8; CONDITION];
+    let belief = match print_condition(card.bytes, e.belief, &mut text) {
+        Ok(condition) => condition,
+        Err(refusal) => return leave_out(rt, "selection", i, refusal),
+    };
+    let mut text = [0u8; CONDITION];
+    let goal = match print_condition(card.bytes, e.goal, &mut text) {
+        Ok(condition) => condition,
+        Err(refusal) => return leave_out(rt, "selection", i, refusal),
+    };
+    print!(rt; "select if ")?;
+    rt.write_all(belief)?;
+    print!(rt; " goal ")?;
+    rt.write_all(goal)?;
+    println!(rt; " plan{}", actions_of(card, e.plan))
 }
 
 // "revise" list " if " condition " to" list
-fn write_revision(rt: HostRuntime, card: &[u8], l: Layout, i: usize) -> io::Result<()>
-    requires { GoodLayout l card.now × (i < l.revisions.count) }
+fn write_revision(rt: HostRuntime, card: &Card, i: usize) -> io::Result<()>
+    requires { i < card.now.layout.revisions.count }
 {
-    let e = read_revision(card, l, i);
-    let mut text = no_condition();
-    let printed = print_condition(card, e.node, &mut text);
-    let number = printed.number;
-    if number != 0 {
-        return leave_out(rt, b"# revision", i, number);
-    }
-    write_plan(rt, b"revise", card, l, e.head)?;
-    write(rt, b" if ")?;
-    write_front(rt, &text, printed.length)?;
-    write_plan(rt, b" to", card, l, e.body)?;
-    write(rt, b"\n")
-}
-
-// "action " number, for each
-fn write_weights(rt: HostRuntime, card: &[u8], l: Layout) -> io::Result<()>
-    requires { GoodLayout l card.now }
-{
-    let n = l.actions as usize;
-    let mut i: usize = 0;
-    while i < n {
-        write(rt, b"action")?;
-        also(rt, read_weight(card, l, i) as u64)?;
-        write(rt, b"\n")?;
-        i += 1;
-    }
-    Ok(())
-}
-
-// The lines of the specifications.
-fn write_specifications(rt: HostRuntime, card: &[u8], l: Layout) -> io::Result<()>
-    requires { GoodLayout l card.now }
-{
-    let section = l.specifications;
-    let n = section.count as usize;
-    let mut i: usize = 0;
-    while i < n {
-        write_specification(rt, card, l, i)?;
-        i += 1;
-    }
-    Ok(())
-}
-
-// The lines of the selection rules.
-fn write_selections(rt: HostRuntime, card: &[u8], l: Layout) -> io::Result<()>
-    requires { GoodLayout l card.now }
-{
-    let section = l.selections;
-    let n = section.count as usize;
-    let mut i: usize = 0;
-    while i < n {
-        write_selection(rt, card, l, i)?;
-        i += 1;
-    }
-    Ok(())
-}
-
-// The lines of the revision rules.
-fn write_revisions(rt: HostRuntime, card: &[u8], l: Layout) -> io::Result<()>
-    requires { GoodLayout l card.now }
-{
-    let section = l.revisions;
-    let n = section.count as usize;
-    let mut i: usize = 0;
-    while i < n {
-        write_revision(rt, card, l, i)?;
-        i += 1;
-    }
-    Ok(())
+    let e = card.revision(i);
+    let mut text = [0u8; CONDITION];
+    let condition = match print_condition(card.bytes, e.node, &mut text) {
+        Ok(condition) => condition,
+        Err(refusal) => return leave_out(rt, "revision", i, refusal),
+    };
+    print!(rt; "revise{} if ", actions_of(card, e.head))?;
+    rt.write_all(condition)?;
+    println!(rt; " to{}", actions_of(card, e.body))
 }
 
 // "begin beliefs" list " goals" list " plan" list
-fn write_start(rt: HostRuntime, card: &[u8], l: Layout) -> io::Result<()>
-    requires { GoodLayout l card.now × TwoByteSpan l.initial }
+fn write_start(rt: HostRuntime, card: &Card) -> io::Result<()>
+    requires { TwoByteSpan card.now.layout.initial }
 {
-    let beliefs = initial_beliefs(card, l);
-    let goals = initial_goals(card, l);
-    write_set(rt, b"begin beliefs", l, beliefs)?;
-    write_set(rt, b" goals", l, goals)?;
-    write_plan(rt, b" plan", card, l, l.initial)?;
-    write(rt, b"\n")
+    let beliefs = Atoms(card.initial_beliefs());
+    let goals = Atoms(card.initial_goals());
+    let plan = actions_of(card, card.layout.initial);
+    println!(rt; "begin beliefs{beliefs} goals{goals} plan{plan}")
 }
 
 // A card's lines, in the order of the grammar.
-fn write_lines(rt: HostRuntime, card: &[u8], l: Layout) -> io::Result<()>
-    requires { GoodLayout l card.now × TwoByteSpan l.initial }
+fn write_lines(rt: HostRuntime, card: &Card) -> io::Result<()>
+    requires { TwoByteSpan card.now.layout.initial }
 {
-    write(rt, b"atoms")?;
-    also(rt, l.atoms as u64)?;
-    write(rt, b"\n")?;
-    write_weights(rt, card, l)?;
-    write_specifications(rt, card, l)?;
-    write_selections(rt, card, l)?;
-    write_revisions(rt, card, l)?;
-    write_start(rt, card, l)
-}
-
-// A refusal, by its number.
-fn refused(rt: HostRuntime, refusal: Refusal) -> io::Result<()> {
-    write(rt, b"refused")?;
-    also(rt, refusal_number(refusal) as u64)?;
-    write(rt, b"\n")
+    println!(rt; "atoms {}", card.layout.atoms)?;
+    for action in 0..card.layout.actions as usize {
+        println!(rt; "action {}", card.weight(action))?;
+    }
+    for i in 0..card.layout.specifications.count as usize {
+        write_specification(rt, card, i)?;
+    }
+    for i in 0..card.layout.selections.count as usize {
+        write_selection(rt, card, i)?;
+    }
+    for i in 0..card.layout.revisions.count as usize {
+        write_revision(rt, card, i)?;
+    }
+    write_start(rt, card)
 }
 
 // The card as a text, or its refusal.
 fn show(rt: HostRuntime, card: &[u8]) -> io::Result<()> {
-    let checked = check(card);
-    match checked {
-        Checked::Good(l) => write_lines(rt, card, l),
-        Checked::Refused(refusal) => refused(rt, refusal),
+    match accept(card) {
+        Ok(card) => write_lines(rt, &card),
+        Err(refusal) => println!(rt; "refused {}", refusal_number(refusal)),
     }
 }
 

@@ -8,10 +8,9 @@ use borrow.Author.Tests.{le-leb, lt-leb, leb-true, leb-false, ltb-true}
 use lib.Dec.{leb, ltb}
 use lib.ListN.{length}
 use Rattle.meaning.specs.declared.Refusal.{Refusal}
-use Rattle.meaning.specs.declared.Answer.{Answer}
-use Rattle.meaning.specs.declared.Answer.TheVariants.{Done, Refused}
+use Rattle.meaning.specs.Answers.{Answer}
+use Rattle.std.specs.Prelude.{Ok, Err}
 use Rattle.meaning.specs.declared.Layout.{Layout}
-use Rattle.meaning.specs.declared.Checked.{Checked}
 use Rattle.meaning.specs.Trees.{Tree}
 use Rattle.meaning.specs.Card.{Bytes, layout, tree_at}
 use Rattle.meaning.specs.Refusals.{Row, ◌given_when◌, first_given, and_then}
@@ -40,13 +39,13 @@ row_then {X} r good rows x = go (good x) refl
     go true e = not_given q rows x (ap not e) ∙ sym (ap (λ t. and_then (row_answer t r) (first_given rows x)) e)
     go false e = given q rows x (ap not e) ∙ sym (ap (λ t. and_then (row_answer t r) (first_given rows x)) e)
 
-then_done : (a : Answer) → and_then a Done ≡ a
-then_done Done = refl
-then_done (Refused r) = refl
+then_done : (a : Answer) → and_then a (Ok tt) ≡ a
+then_done (Ok _) = refl
+then_done (Err r) = refl
 
 then_then : (a c d : Answer) → and_then (and_then a c) d ≡ and_then a (and_then c d)
-then_then Done c d = refl
-then_then (Refused r) c d = refl
+then_then (Ok _) c d = refl
+then_then (Err r) c d = refl
 
 -- the room as one row
 room_row : (xs out : Bytes) → room_for xs out ≡ row_answer (leb (length xs) (length out)) Refusal.NoRoom
@@ -63,13 +62,6 @@ capped_row n top = go (leb n top) refl
     go : (t : Bool) → leb n top ≡ t → leb (min n (top + 1)) top ≡ leb n top
     go true e = let h = leb-true n top e in le-leb (min n (top + 1)) top (omega arith) ∙ sym e
     go false e = let h = leb-false n top e in lt-leb (min n (top + 1)) top (omega arith) ∙ sym e
-
--- one answer and then another, where the first is known
-pub then_refused : (a c d : Answer) → a ≡ c → (r : Refusal) → a ≡ Refused r → a ≡ and_then c d
-then_refused a c d so r e = e ∙ ap (λ a. and_then a d) (sym e ∙ so)
-
-pub then_passed : (a c d v : Answer) → a ≡ c → a ≡ Done → v ≡ d → v ≡ and_then c d
-then_passed a c d v so e f = f ∙ ap (λ a. and_then a d) (sym e ∙ so)
 
 -- ---- a node of an accepted card
 
@@ -88,32 +80,36 @@ module _ (l : Layout) (b : Bytes) (n : ℕ) (out : Bytes) where
   unfolding rows_from print_table
   table_rows = row_then Refusal.Rule (λ n. ltb n l.nodes.count) _ n
 
-  module _ (s d m : ℕ) (right : Right 257 t s d m) (a : Answer) (so : a ≡ and_then (row_answer (leb d 32) Refusal.Nested) (row_answer (leb s 256) Refusal.Large)) where
-    judged : a ≡ rows_from 1 (print_table l b) n
+  -- the answer of the measures
+  abbrev measured : ℕ → ℕ → Answer
+  measured s d = and_then (row_answer (leb d 32) Refusal.Nested) (row_answer (leb s 256) Refusal.Large)
+
+  module _ (s d m : ℕ) (right : Right 257 t s d m) where
+    judged : measured s d ≡ rows_from 1 (print_table l b) n
     judged =
         let e : leb d 32 ≡ leb (depth_of t) 32 = ap (λ d. leb d 32) right.depth ∙ capped_row (depth_of t) 32 in
         let f : leb s 256 ≡ leb (size t) 256 = ap (λ s. leb s 256) right.size ∙ capped_row (size t) 256 in
-        so ∙ (λ i. and_then (row_answer (e i) Refusal.Nested) (row_answer (f i) Refusal.Large)) ∙ sym rows_from_lem
+        (λ i. and_then (row_answer (e i) Refusal.Nested) (row_answer (f i) Refusal.Large)) ∙ sym rows_from_lem
 
-    by_judged : node_answer l b n out ≡ and_then a (room_for (node_text l b n) out)
+    by_judged : node_answer l b n out ≡ and_then (measured s d) (room_for (node_text l b n) out)
     unfolding node_answer
     by_judged = ap (λ a. and_then a (room_for (node_text l b n) out)) (sym judged)
 
     -- refused by 18 or 25
-    pub judged_refused : (r : Refusal) → a ≡ Refused r → a ≡ node_answer l b n out
-    judged_refused r e = e ∙ sym (by_judged ∙ ap (λ a. and_then a (room_for (node_text l b n) out)) e)
+    pub judged_refused : (r : Refusal) → ◌≡◌ {A = Answer} (Err r) (measured s d) → ◌≡◌ {A = Answer} (Err r) (node_answer l b n out)
+    judged_refused r e = sym (by_judged ∙ ap (λ a. and_then a (room_for (node_text l b n) out)) (sym e))
 
-    module _ (card : GoodCard l b) (known : n < l.nodes.count) (done : a ≡ Done) where
+    module _ (card : GoodCard l b) (known : n < l.nodes.count) (done : ◌≡◌ {A = Answer} (Ok tt) (measured s d)) where
       pub few_nodes : size t ≤ 256
       few_nodes =
-          let g = (and_then_done (row_answer (leb d 32) Refusal.Nested) (row_answer (leb s 256) Refusal.Large) (sym so ∙ done)).1 in
+          let g = (and_then_done (row_answer (leb d 32) Refusal.Nested) (row_answer (leb s 256) Refusal.Large) (sym done)).1 in
           let h = leb-true s 256 (row_done (leb s 256) Refusal.Large g) in
           let e = right.size in
           omega arith
 
       pub shallow : depth_of t ≤ 32
       shallow =
-          let g = (and_then_done (row_answer (leb d 32) Refusal.Nested) (row_answer (leb s 256) Refusal.Large) (sym so ∙ done)).0 in
+          let g = (and_then_done (row_answer (leb d 32) Refusal.Nested) (row_answer (leb s 256) Refusal.Large) (sym done)).0 in
           let h = leb-true d 32 (row_done (leb d 32) Refusal.Nested g) in
           let e = right.depth in
           omega arith
@@ -124,45 +120,40 @@ module _ (l : Layout) (b : Bytes) (n : ℕ) (out : Bytes) where
           let e = right.length in
           omega arith
 
-      module _ (v : Answer) (room : v ≡ row_answer (leb m (length out)) Refusal.NoRoom) where
-        pub room_answer : v ≡ node_answer l b n out
-        room_answer =
-            room
-            ∙ ap (λ k. row_answer (leb k (length out)) Refusal.NoRoom) whole_length
-            ∙ sym (room_row (node_text l b n) out)
-            ∙ sym (by_judged ∙ ap (λ a. and_then a (room_for (node_text l b n) out)) done)
+      pub room_answer : row_answer (leb m (length out)) Refusal.NoRoom ≡ node_answer l b n out
+      room_answer =
+          ap (λ k. row_answer (leb k (length out)) Refusal.NoRoom) whole_length
+          ∙ sym (room_row (node_text l b n) out)
+          ∙ sym (by_judged ∙ ap (λ a. and_then a (room_for (node_text l b n) out)) (sym done))
 
-        pub room_fits : v ≡ Done → length (node_text l b n) ≤ length out
-        room_fits e =
-            let h = leb-true m (length out) (row_done (leb m (length out)) Refusal.NoRoom (sym room ∙ e)) in
-            let w = whole_length in
-            omega arith
+      pub room_fits : ◌≡◌ {A = Answer} (Ok tt) (row_answer (leb m (length out)) Refusal.NoRoom) → length (node_text l b n) ≤ length out
+      room_fits e =
+          let h = leb-true m (length out) (row_done (leb m (length out)) Refusal.NoRoom (sym e)) in
+          let w = whole_length in
+          omega arith
 
   -- the count and the lent buffer, by the answer
-  module _ (a : Answer) (so : a ≡ node_answer l b n out) where
-    pub refused_leaves : (r : Refusal) → a ≡ Refused r → NodePrinted l b n out a 0 out
-    refused_leaves r e =
-        let f : Refused r ≡ node_answer l b n out = sym e ∙ so in
-        record { answer = so; count = ap (λ a. count_by a (node_text l b n)) f; leaves = ap (λ a. leaves_by a (node_text l b n) out) f }
+  pub refused_leaves : (r : Refusal) → ◌≡◌ {A = Answer} (Err r) (node_answer l b n out) → NodePrinted l b n out (Err r) 0 out
+  refused_leaves r so = record { answer = so; count = ap (λ a. count_by a (node_text l b n)) so; leaves = ap (λ a. leaves_by a (node_text l b n) out) so }
 
-    pub done_leaves : (m : ℕ) (out' : Bytes) → a ≡ Done → m ≡ length (node_text l b n) → out' ≡ over (node_text l b n) out → NodePrinted l b n out Done m out'
-    done_leaves m out' e c w =
-        let f : Done ≡ node_answer l b n out = sym e ∙ so in
-        record { answer = f; count = c ∙ ap (λ a. count_by a (node_text l b n)) f; leaves = w ∙ ap (λ a. leaves_by a (node_text l b n) out) f }
+  pub done_leaves : ◌≡◌ {A = Answer} (Ok tt) (node_answer l b n out)
+      → (m : ℕ) (out' : Bytes) → m ≡ length (node_text l b n) → out' ≡ over (node_text l b n) out → NodePrinted l b n out (Ok tt) m out'
+  done_leaves so m out' c w =
+      record { answer = so; count = c ∙ ap (λ a. count_by a (node_text l b n)) so; leaves = w ∙ ap (λ a. leaves_by a (node_text l b n) out) so }
 
 -- ---- any card
 
 module _ (b : Bytes) (n : ℕ) (out : Bytes) where
-  refused : (r : Refusal) (a : Answer) → a ≡ Refused r → print_answer b n out ≡ Refused r → Prints b n out a 0 out
+  refused : (r : Refusal) → print_answer b n out ≡ Err r → Prints b n out (Err r) 0 out
   unfolding print_count print_leaves
-  refused r a so e = record { answer = so ∙ sym e; counted = ap (λ a. count_by a (printed b n)) (sym e); leaves = ap (λ a. leaves_by a (printed b n) out) (sym e) }
+  refused r e = record { answer = sym e; counted = ap (λ a. count_by a (printed b n)) (sym e); leaves = ap (λ a. leaves_by a (printed b n) out) (sym e) }
 
-  pub card_refused : (r : Refusal) (a : Answer) → checks b ≡ Checked.Refused r → a ≡ Refused r → Prints b n out a 0 out
+  pub card_refused : (r : Refusal) → checks b ≡ Err r → Prints b n out (Err r) 0 out
   unfolding print_answer
-  card_refused r a e so =
-      refused r a so (ap (λ a. and_then a (and_then (first_given (print_table (layout b) b) n) (room_for (printed b n) out))) (refused_judged b r e))
+  card_refused r e =
+      refused r (ap (λ a. and_then a (and_then (first_given (print_table (layout b) b) n) (room_for (printed b n) out))) (refused_judged b r e))
 
-  module _ (l : Layout) (e : checks b ≡ Checked.Good l) where
+  module _ (l : Layout) (e : checks b ≡ Ok l) where
     text_is : printed b n ≡ node_text l b n
     unfolding printed
     text_is = ap (λ (l : Layout). node_text l b n) (sym (good_judged b l e).1)
@@ -176,20 +167,19 @@ module _ (b : Bytes) (n : ℕ) (out : Bytes) where
         ∙ ap (λ a. and_then a (room_for (node_text l b n) out)) (table_rows l b n out)
         ∙ then_then (row_answer (ltb n l.nodes.count) Refusal.Rule) (rows_from 1 (print_table l b) n) (room_for (node_text l b n) out)
 
-    module _ (v : Answer) (row : v ≡ row_answer (ltb n l.nodes.count) Refusal.Rule) where
-      by_row : print_answer b n out ≡ and_then v (node_answer l b n out)
-      by_row = answer_is ∙ ap (λ a. and_then a (node_answer l b n out)) (sym row)
+    by_row : (a : Answer) → a ≡ row_answer (ltb n l.nodes.count) Refusal.Rule → print_answer b n out ≡ and_then a (node_answer l b n out)
+    by_row a row = answer_is ∙ ap (λ a. and_then a (node_answer l b n out)) (sym row)
 
-      pub no_such_node : (r : Refusal) → v ≡ Refused r → Prints b n out v 0 out
-      no_such_node r so = refused r v so (by_row ∙ ap (λ a. and_then a (node_answer l b n out)) so)
+    pub no_such_node : (r : Refusal) → ◌≡◌ {A = Answer} (Err r) (row_answer (ltb n l.nodes.count) Refusal.Rule) → Prints b n out (Err r) 0 out
+    no_such_node r row = refused r (by_row (Err r) row)
 
-      module _ (so : v ≡ Done) where
-        pub such_node : n < l.nodes.count
-        such_node = ltb-true n l.nodes.count (row_done (ltb n l.nodes.count) Refusal.Rule (sym row ∙ so))
+    module _ (row : ◌≡◌ {A = Answer} (Ok tt) (row_answer (ltb n l.nodes.count) Refusal.Rule)) where
+      pub such_node : n < l.nodes.count
+      such_node = ltb-true n l.nodes.count (row_done (ltb n l.nodes.count) Refusal.Rule (sym row))
 
-        pub node_printed : (a : Answer) (m : ℕ) (out' : Bytes) → NodePrinted l b n out a m out' → Prints b n out a m out'
-        unfolding print_count print_leaves
-        node_printed a m out' p =
-            let f : node_answer l b n out ≡ print_answer b n out = sym (by_row ∙ ap (λ a. and_then a (node_answer l b n out)) so) in
-            let g : node_text l b n ≡ printed b n = sym text_is in
-            record { answer = p.answer ∙ f; counted = p.count ∙ (λ i. count_by (f i) (g i)); leaves = p.leaves ∙ (λ i. leaves_by (f i) (g i) out) }
+      pub node_printed : (a : Answer) (m : ℕ) (out' : Bytes) → NodePrinted l b n out a m out' → Prints b n out a m out'
+      unfolding print_count print_leaves
+      node_printed a m out' p =
+          let f : node_answer l b n out ≡ print_answer b n out = sym (by_row (Ok tt) row) in
+          let g : node_text l b n ≡ printed b n = sym text_is in
+          record { answer = p.answer ∙ f; counted = p.count ∙ (λ i. count_by (f i) (g i)); leaves = p.leaves ∙ (λ i. leaves_by (f i) (g i) out) }

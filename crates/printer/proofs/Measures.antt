@@ -4,29 +4,14 @@ use mathlib.Core.Bool.{Bool, true, false}
 use mathlib.Core.List.{[], ◌∷◌}
 use Prim.Native.Nat.{ℕ, ◌+◌, ◌/◌, ◌%◌, ◌≤◌, ◌<◌}
 use Prim.Native.Char.{code}
-use native.Mathlib.Decide.{dec_le}
 use native.Mathlib.Omega.{arith}
 use borrow.Author.Tests.{ltb-true, ltb-false}
 use lib.Dec.{ltb}
 use lib.ListN.{length, length-append}
-use Rattle.meaning.specs.Kinds.{NodeKind, node_kind}
-use Rattle.meaning.proofs.NodeKinds.{Leaf, is_true, is_belief, is_goal, is_not, is_and, is_or, Known, leaf, inner, known_kind, unknown_kind}
 use Rattle.notation.specs.Printing.{decimal}
 use Rattle.notation.proofs.Decimals.{decimal_one, decimal_more}
-use Rattle.printer.specs.Measures.{lower, size_by, depth_by}
 
 -- ---- by kinds that are not told one by one
-
-known_not_lower : (w : ℕ) {k : ℕ} {κ : NodeKind} → Known k κ → (k ≡ 4 → ⊥) → (k ≡ 5 → ⊥) → lower w κ ≡ false
-known_not_lower w (leaf is_true) a b = refl
-known_not_lower w (leaf is_belief) a b = refl
-known_not_lower w (leaf is_goal) a b = refl
-known_not_lower w (inner is_not) a b = refl
-known_not_lower w (inner is_and) a b = absurd (a refl)
-known_not_lower w (inner is_or) a b = absurd (b refl)
-
-pub not_lower : (w k : ℕ) → (k ≡ 4 → ⊥) → (k ≡ 5 → ⊥) → lower w (node_kind k) ≡ false
-not_lower w k a b = elim (dec_le k 5) [ yes h ↦ known_not_lower w (known_kind k h) a b | no h ↦ ap (lower w) (unknown_kind k (omega arith)) ]
 
 -- what is none of the kinds with children
 pub is_leaf : (k : ℕ) → k ≤ 5 → (k ≡ 3 → ⊥) → (k ≡ 4 → ⊥) → (k ≡ 5 → ⊥) → k < 3
@@ -34,16 +19,6 @@ is_leaf k h a b c = omega arith
 
 pub is_some_lem : (k : ℕ) → (k ≡ 0 → ⊥) → 1 ≤ k
 is_some_lem k h = omega arith
-
-pub size_leaf : {k : ℕ} {κ : NodeKind} → Leaf k κ → (a b : ℕ) → size_by κ a b ≡ 1
-size_leaf is_true a b = refl
-size_leaf is_belief a b = refl
-size_leaf is_goal a b = refl
-
-pub depth_leaf : {k : ℕ} {κ : NodeKind} → Leaf k κ → (p q : ℕ → ℕ) (a b : ℕ) → depth_by κ p q a b ≡ 0
-depth_leaf is_true p q a b = refl
-depth_leaf is_belief p q a b = refl
-depth_leaf is_goal p q a b = refl
 
 -- ---- how many digits
 

@@ -46,9 +46,6 @@ module _ (s : List ℕ) (k : ℕ) (p : Parts) (room : length s ≡ 291) (fits : 
     n1 : length (listed p) ≡ 1
     n1 = ap (λ p. length (listed p)) e
 
-    pub one_fits : k < 291
-    one_fits = let n = n1 in omega arith
-
     pub put_one : Put (k + 1) (set s k x)
     put_one =
         let n = n1 in
@@ -58,9 +55,6 @@ module _ (s : List ℕ) (k : ℕ) (p : Parts) (room : length s ≡ 291) (fits : 
     n2 : length (listed p) ≡ 2
     n2 = ap (λ p. length (listed p)) e
 
-    pub two_fit : k + 1 < 291
-    two_fit = let n = n2 in omega arith
-
     pub put_two : Put (k + 2) (set (set s k y) (k + 1) x)
     put_two =
         let n = n2 in
@@ -69,9 +63,6 @@ module _ (s : List ℕ) (k : ℕ) (p : Parts) (room : length s ≡ 291) (fits : 
   module _ (x y z : ℕ) (e : p ≡ Parts.Three x y z) where
     n3 : length (listed p) ≡ 3
     n3 = ap (λ p. length (listed p)) e
-
-    pub three_fit : k + 2 < 291
-    three_fit = let n = n3 in omega arith
 
     pub put_three : Put (k + 3) (set (set (set s k z) (k + 1) y) (k + 2) x)
     put_three =

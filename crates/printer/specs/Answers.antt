@@ -1,6 +1,6 @@
 -- What printing a node of an accepted card answers: rows 18 and 25, then 12.
 use Rattle.std.specs.Prelude.{◌≡◌, ℕ}
-use Rattle.meaning.specs.declared.Answer.{Answer}
+use Rattle.meaning.specs.Answers.{Answer}
 use Rattle.meaning.specs.declared.Layout.{Layout}
 use Rattle.meaning.specs.Card.{Bytes, tree_at}
 use Rattle.meaning.specs.Refusals.{and_then}

@@ -1,15 +1,13 @@
 // How large a node's text is: numbers made node by node from the lowest up and capped, for 256 nodes can stand for 2^256 - 1
 // printed ones.
-ghost use Rattle.std.specs.Prelude.{◌≡◌, ◌+◌, ◌≤◌, ◌<◌, min, max, length, replicate};
+ghost use Rattle.std.specs.Prelude.{◌≡◌, ◌+◌, ◌≤◌, ◌<◌, min, max, length};
 ghost use Rattle.meaning.specs.Kinds.{node_kind};
 ghost use Rattle.meaning.specs.Card.{node_at, tree_at};
-ghost use Rattle.layout.specs.GoodLayout.{GoodLayout};
 ghost use Rattle.card.specs.GoodCard.{GoodCard};
 ghost use Rattle.notation.specs.Printing.{decimal};
 ghost use Rattle.printer.specs.Measures.{lower, around, size_by, depth_by, length_by, Right, MeasuredTo};
 
-use layout::entries::read_node;
-use meaning::Layout;
+use layout::card::Card;
 
 // How many nodes a text has, how deep it nests and how many bytes it has.
 #[derive(Clone, Copy)]
@@ -17,13 +15,6 @@ pub struct Measured {
     pub size: u16,
     pub depth: u8,
     pub length: u16,
-}
-
-// The lesser of a number and its cap.
-fn capped(n: usize, cap: usize) -> usize
-    ensures { result ≡ min n cap }
-{
-    if n < cap { n } else { cap }
 }
 
 // Whether a node of a kind is a lower thing than is wanted: 0 an or-list, 1 an and-list, 2 a unit.
@@ -65,9 +56,9 @@ fn size_by(kind: u8, a: u8, b: u8) -> u16
     if kind < 3 {
         1
     } else if kind == 3 {
-        capped((a as usize) + 2, 257) as u16
+        ((a as usize) + 2).min(257) as u16
     } else {
-        capped((a as usize) + (b as usize) + 3, 257) as u16
+        ((a as usize) + (b as usize) + 3).min(257) as u16
     }
 }
 
@@ -76,14 +67,7 @@ fn beside_own(size: u16) -> u8
     requires { 1 ≤ size }
     ensures { result + 1 ≡ min size 256 }
 {
-    (capped(size as usize, 256) - 1) as u8
-}
-
-// The greater of two numbers.
-fn greater(a: usize, b: usize) -> usize
-    ensures { result ≡ max a b }
-{
-    if a < b { b } else { a }
+    (size.min(256) - 1) as u8
 }
 
 // Its depth, by the depths and the kinds of its children: at most 33, which is too deep.
@@ -94,9 +78,9 @@ fn depth_by(kind: u8, p: u8, q: u8, a: u8, b: u8) -> u8
     let l = a as usize;
     let r = b as usize;
     match kind {
-        3 => capped(l + pairs_around(2, p) + 1, 33) as u8,
-        4 => capped(greater(l + pairs_around(1, p), r + pairs_around(2, q)), 33) as u8,
-        5 => capped(greater(l + pairs_around(0, p), r + pairs_around(1, q)), 33) as u8,
+        3 => (l + pairs_around(2, p) + 1).min(33) as u8,
+        4 => (l + pairs_around(1, p)).max(r + pairs_around(2, q)).min(33) as u8,
+        5 => (l + pairs_around(0, p)).max(r + pairs_around(1, q)).min(33) as u8,
         _ => 0,
     }
 }
@@ -111,64 +95,40 @@ fn length_by(kind: u8, n: u8, p: u8, q: u8, a: u16, b: u16) -> u16
     let r = b as usize;
     match kind {
         0 => 1,
-        3 => capped(l + 2 * pairs_around(2, p) + 1, 1025) as u16,
-        4 => capped(
-            l + 2 * pairs_around(1, p) + (r + 2 * pairs_around(2, q)) + 1,
-            1025,
-        ) as u16,
-        5 => capped(
-            l + 2 * pairs_around(0, p) + (r + 2 * pairs_around(1, q)) + 1,
-            1025,
-        ) as u16,
+        3 => (l + 2 * pairs_around(2, p) + 1).min(1025) as u16,
+        4 => (l + 2 * pairs_around(1, p) + (r + 2 * pairs_around(2, q)) + 1).min(1025) as u16,
+        5 => (l + 2 * pairs_around(0, p) + (r + 2 * pairs_around(1, q)) + 1).min(1025) as u16,
         _ => (1 + digits(n)) as u16,
     }
 }
 
 // The kind of a node, and 0 where there is none.
-fn kind_of(card: &[u8], l: Layout, i: u8) -> u8
-    requires { GoodLayout l card.now }
-    ensures { i < l.nodes.count → result ≡ (node_at l card.now i).kind }
+fn kind_of(card: &Card, i: u8) -> u8
+    ensures { i < card.now.layout.nodes.count → result ≡ (node_at card.now.layout card.now.bytes.now i).kind }
 {
-    let nodes = l.nodes;
-    if (i as usize) < (nodes.count as usize) {
-        let x = read_node(card, l, i as usize);
-        x.kind
+    if (i as usize) < (card.layout.nodes.count as usize) {
+        card.node(i as usize).kind
     } else {
         0
     }
 }
 
-// No length is known.
-fn no_lengths() -> [u16; 256]
-    ensures { result ≡ replicate 256 0 }
-{
-    [0u16; 256]
-}
-
-// No size and no depth is known.
-fn no_numbers() -> [u8; 256]
-    ensures { result ≡ replicate 256 0 }
-{
-    [0u8; 256]
-}
-
 // The text of node i measured, by the measures of the lower nodes.
 fn measure_node(
-    card: &[u8],
-    l: Layout,
+    card: &Card,
     sizes: &[u8; 256],
     depths: &[u8; 256],
     lengths: &[u16; 256],
     i: usize,
 ) -> Measured
-    requires { GoodCard l card.now × (i < l.nodes.count) × MeasuredTo l card.now sizes.now depths.now lengths.now i }
-    ensures { Right 257 (tree_at l card.now i) result.size result.depth result.length }
+    requires { GoodCard card.now.layout card.now.bytes.now × (i < card.now.layout.nodes.count) × MeasuredTo card.now.layout card.now.bytes.now sizes.now depths.now lengths.now i }
+    ensures { Right 257 (tree_at card.now.layout card.now.bytes.now i) result.size result.depth result.length }
 {
-    let x = read_node(card, l, i);
+    let x = card.node(i);
     let a = x.a as usize;
     let b = x.b as usize;
-    let p = kind_of(card, l, x.a);
-    let q = kind_of(card, l, x.b);
+    let p = kind_of(card, x.a);
+    let q = kind_of(card, x.b);
     Measured {
         size: size_by(x.kind, sizes[a], sizes[b]),
         depth: depth_by(x.kind, p, q, depths[a], depths[b]),
@@ -177,20 +137,18 @@ fn measure_node(
 }
 
 // A node's text measured, in one pass over the nodes up to it.
-pub fn measure(card: &[u8], l: Layout, node: usize) -> Measured
-    requires { GoodCard l card.now × (node < l.nodes.count) }
-    ensures { Right 257 (tree_at l card.now node) result.size result.depth result.length }
+pub fn measure(card: &Card, node: usize) -> Measured
+    requires { GoodCard card.now.layout card.now.bytes.now × (node < card.now.layout.nodes.count) }
+    ensures { Right 257 (tree_at card.now.layout card.now.bytes.now node) result.size result.depth result.length }
 {
-    let mut sizes = no_numbers();
-    let mut depths = no_numbers();
-    let mut lengths = no_lengths();
-    let mut i: usize = 0;
-    while i < node {
-        let m = measure_node(card, l, &sizes, &depths, &lengths, i);
+    let mut sizes = [0; 256];
+    let mut depths = [0; 256];
+    let mut lengths = [0; 256];
+    for i in 0..node {
+        let m = measure_node(card, &sizes, &depths, &lengths, i);
         sizes[i] = beside_own(m.size);
         depths[i] = m.depth;
         lengths[i] = m.length;
-        i += 1;
     }
-    measure_node(card, l, &sizes, &depths, &lengths, node)
+    measure_node(card, &sizes, &depths, &lengths, node)
 }

@@ -4,73 +4,50 @@ ghost use Rattle.meaning.specs.declared.Refusal.{Refusal};
 ghost use Rattle.meaning.specs.Refusals.{and_then};
 ghost use Rattle.card.specs.GoodCard.{GoodCard};
 ghost use Rattle.card.specs.Rows.{row_answer};
+ghost use Rattle.door.specs.InPlace.{written_by};
 ghost use Rattle.notation.specs.Printing.{Prints};
 ghost use Rattle.printer.specs.Answers.{NodePrinted};
 
 use crate::measure::measure;
 use crate::write::write_text;
-use card::check::{answer_of, check, row};
-use door::in_place::WrittenInPlace;
+use card::check::{accept, row};
+use door::in_place::{WrittenInPlace, written};
 use door::room::judge_room;
-use meaning::{Answer, Checked, Layout, Refusal};
+use layout::card::Card;
+use meaning::{Answer, Refusal};
 
 // "18 if the text nests more than 32 deep; 25 if it has more than 256 nodes"
 fn judge_measures(depth: u8, size: u16) -> Answer
     ensures { result ≡ and_then (row_answer (leb depth 32) Refusal.Nested) (row_answer (leb size 256) Refusal.Large) }
 {
-    let nested = row(depth <= 32, Refusal::Nested);
-    let Answer::Done = nested else {
-        return nested;
-    };
+    row(depth <= 32, Refusal::Nested)?;
     row(size <= 256, Refusal::Large)
 }
 
-// A node of an accepted card.
-fn print_node(card: &[u8], l: Layout, node: usize, out: &mut [u8]) -> WrittenInPlace
-    requires { GoodCard l card.now × (node < l.nodes.count) }
-    ensures { NodePrinted l card.now node out.old result.answer result.count out.new }
+// A node of an accepted card: how many bytes its text has, or the refusal.
+fn print_node(card: &Card, node: usize, out: &mut [u8]) -> Result<u16, Refusal>
+    requires { GoodCard card.now.layout card.now.bytes.now × (node < card.now.layout.nodes.count) }
+    ensures { NodePrinted card.now.layout card.now.bytes.now node out.old (written_by result).answer (written_by result).count out.new }
 {
-    let m = measure(card, l, node);
-    let judged = judge_measures(m.depth, m.size);
-    let Answer::Done = judged else {
-        return WrittenInPlace {
-            answer: judged,
-            count: 0,
-        };
-    };
-    let count = m.length;
-    let room = judge_room(count as usize, out.len());
-    let Answer::Done = room else {
-        return WrittenInPlace {
-            answer: room,
-            count: 0,
-        };
-    };
-    write_text(card, l, node, out);
-    WrittenInPlace {
-        answer: Answer::Done,
-        count: count,
-    }
+    let m = measure(card, node);
+    judge_measures(m.depth, m.size)?;
+    judge_room(m.length as usize, out.len())?;
+    write_text(card, node, out);
+    Ok(m.length)
+}
+
+// Any card's node.
+fn print_any(card: &[u8], node: usize, out: &mut [u8]) -> Result<u16, Refusal>
+    ensures { Prints card.now node out.old (written_by result).answer (written_by result).count out.new }
+{
+    let card = accept(card)?;
+    row(node < (card.layout.nodes.count as usize), Refusal::Rule)?;
+    print_node(&card, node, out)
 }
 
 // The text of a card's node in a lent buffer; how many bytes it has. A refusal writes nothing.
 pub fn print(card: &[u8], node: usize, out: &mut [u8]) -> WrittenInPlace
     ensures { Prints card.now node out.old result.answer result.count out.new }
 {
-    let checked = check(card);
-    let Checked::Good(l) = checked else {
-        return WrittenInPlace {
-            answer: answer_of(checked),
-            count: 0,
-        };
-    };
-    let nodes = l.nodes;
-    let known = row(node < (nodes.count as usize), Refusal::Rule);
-    let Answer::Done = known else {
-        return WrittenInPlace {
-            answer: known,
-            count: 0,
-        };
-    };
-    print_node(card, l, node, out)
+    written(print_any(card, node, out))
 }

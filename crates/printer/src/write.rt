@@ -1,5 +1,5 @@
 // A node's text written, without recursion: what is still to be written stands on a stack of tasks.
-ghost use Rattle.std.specs.Prelude.{◌≡◌, ◌++◌, ◌+◌, ◌/◌, ◌≤◌, ◌<◌, length, replicate};
+ghost use Rattle.std.specs.Prelude.{◌≡◌, ◌++◌, ◌+◌, ◌/◌, ◌≤◌, ◌<◌, length};
 ghost use Rattle.meaning.specs.Kinds.{node_kind};
 ghost use Rattle.meaning.specs.Calls.{over};
 ghost use Rattle.card.specs.GoodCard.{GoodCard};
@@ -9,8 +9,8 @@ ghost use Rattle.notation.specs.Printing.{text_of, depth_of};
 ghost use Rattle.printer.specs.Tasks.{task_of, listed, node_parts, number_parts, GoodTask, Splits, tasks};
 
 use crate::measure::is_lower;
-use layout::entries::read_node;
-use meaning::{Layout, Node};
+use layout::card::Card;
+use meaning::Node;
 
 // The tasks that a task is taken apart into, in the order of the text.
 #[derive(Clone, Copy)]
@@ -20,7 +20,8 @@ pub enum Parts {
     Three(u16, u16, u16),
 }
 
-// A task of a kind: 0 a byte; 1 a node as an or-list, 2 as an and-list, 3 as a unit; 4 a number.
+// A task of a kind: 0 a byte; 1 a node as an or-list, 2 as an and-list, 3 as a unit; 4 a number. It is one number of two bytes, for
+// the stack holds 291 of them in fixed memory: an enum would take twice that.
 fn task(kind: u16, value: u8) -> u16
     requires { kind ≤ 4 }
     ensures { result ≡ task_of kind value }
@@ -34,16 +35,13 @@ fn node_parts(x: Node) -> Parts
     requires { x.kind ≤ 5 }
     ensures { listed result ≡ node_parts (node_kind x.kind) x.a x.b }
 {
-    let kind = x.kind;
-    let a = x.a;
-    let b = x.b;
-    match kind {
+    match x.kind {
         0 => Parts::One(84),
-        1 => Parts::Two(66, task(4, a)),
-        2 => Parts::Two(71, task(4, a)),
-        3 => Parts::Two(33, task(3, a)),
-        4 => Parts::Three(task(2, a), 38, task(3, b)),
-        _ => Parts::Three(task(1, a), 124, task(2, b)),
+        1 => Parts::Two(66, task(4, x.a)),
+        2 => Parts::Two(71, task(4, x.a)),
+        3 => Parts::Two(33, task(3, x.a)),
+        4 => Parts::Three(task(2, x.a), 38, task(3, x.b)),
+        _ => Parts::Three(task(1, x.a), 124, task(2, x.b)),
     }
 }
 
@@ -59,16 +57,16 @@ fn number_parts(n: u8) -> Parts
 }
 
 // A task that is no byte taken apart; brackets stand where a node is a lower thing than is wanted.
-fn split(card: &[u8], l: Layout, t: u16) -> Parts
-    requires { GoodCard l card.now × (256 ≤ t) × GoodTask l t }
-    ensures { Splits l card.now t (listed result) }
+fn split(card: &Card, t: u16) -> Parts
+    requires { GoodCard card.now.layout card.now.bytes.now × (256 ≤ t) × GoodTask card.now.layout t }
+    ensures { Splits card.now.layout card.now.bytes.now t (listed result) }
 {
     let kind = t / 256;
     let value = (t % 256) as u8;
     if 4 <= kind {
         return number_parts(value);
     }
-    let x = read_node(card, l, value as usize);
+    let x = card.node(value as usize);
     let wanted = (kind - 1) as u8;
     if is_lower(wanted, x.kind) {
         return Parts::Three(40, task(1, value), 41);
@@ -101,23 +99,17 @@ fn put(stack: &mut [u16; 291], top: usize, p: Parts) -> usize
     }
 }
 
-// No tasks.
-fn no_tasks() -> [u16; 291]
-    ensures { result ≡ replicate 291 0 }
-{
-    [0u16; 291]
-}
-
 // The text of a node at the front of a lent buffer, in time linear in its length.
-pub fn write_text(card: &[u8], l: Layout, node: usize, out: &mut [u8])
-    requires good_card { GoodCard l card.now × (node < l.nodes.count) }
-    requires node_bound { (size (tree_at l card.now node) ≤ 256) × (depth_of (tree_at l card.now node) ≤ 32) }
-    requires node_in_bounds { length (text_of (tree_at l card.now node)) ≤ length out.old }
-    ensures { out.new ≡ over (text_of (tree_at l card.now node)) out.old }
+pub fn write_text(card: &Card, node: usize, out: &mut [u8])
+    requires good_card { GoodCard card.now.layout card.now.bytes.now × (node < card.now.layout.nodes.count) }
+    requires node_bound { (size (tree_at card.now.layout card.now.bytes.now node) ≤ 256) × (depth_of (tree_at card.now.layout card.now.bytes.now node) ≤ 32) }
+    requires node_in_bounds { length (text_of (tree_at card.now.layout card.now.bytes.now node)) ≤ length out.old }
+    ensures { out.new ≡ over (text_of (tree_at card.now.layout card.now.bytes.now node)) out.old }
 {
-    let mut stack = no_tasks();
+    let mut stack = [0; 291];
     let mut top = put(&mut stack, 0, Parts::One(task(1, node as u8)));
-    let mut at: usize = 0;
+    let mut at = 0;
+    // no `for`: a task that is taken apart puts others on the stack
     while 0 < top {
         let t = stack[top - 1];
         if t < 256 {
@@ -125,7 +117,7 @@ pub fn write_text(card: &[u8], l: Layout, node: usize, out: &mut [u8])
             at += 1;
             top -= 1;
         } else {
-            let p = split(card, l, t);
+            let p = split(card, t);
             top = put(&mut stack, top - 1, p);
         }
     }

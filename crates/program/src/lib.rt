@@ -12,8 +12,9 @@ ghost use Rattle.deliberation.specs.Kinds.{entry_kind};
 ghost use Rattle.deliberation.specs.Entries.{entry_of, length_good, kind_good, entry_good, program_good};
 
 use card::check::row;
-use card::nodes::{all_marks, free_of, mark_nodes};
+use card::nodes::{AtomKind, all_marks, free_of, mark_nodes};
 use layout::bytes::byte_below;
+use layout::card::Card;
 use layout::header::in_range;
 use meaning::{Answer, Layout, Node, Refusal};
 
@@ -44,13 +45,12 @@ fn kind_good(e: Node, l: Layout, marks: &[u8; 256], i: usize) -> bool
     ensures { (b : Bytes) → Marks 2 l b marks.now
         → result ≡ ltb e.kind 7 && kind_good (containing 2 l b) l i (entry_kind e.kind) e.a e.b }
 {
-    let kind = e.kind;
-    match kind {
+    match e.kind {
         0 => (e.a == 0) & (e.b == 0),
         1 => byte_below(e.a, l.revisions.count as usize) & (e.b == 0),
         2 => byte_below(e.a, l.selections.count as usize) & (e.b == 0),
         3 => (e.a == 0) & byte_below(e.b, i),
-        4 => free_of(marks, 2, e.a) & byte_below(e.b, i),
+        4 => free_of(marks, AtomKind::HasGoal, e.a) & byte_below(e.b, i),
         5..=6 => byte_below(e.a, i) & byte_below(e.b, i),
         _ => false,
     }
@@ -63,34 +63,31 @@ fn entries_good(program: &[u8], l: Layout, marks: &[u8; 256], n: usize) -> bool
         → result ≡ every n (λ i. entry_good (containing 2 l b) l i (entry_of program.now i)) }
 {
     let mut good = true;
-    let mut i: usize = 0;
-    while i < n {
+    for i in 0..n {
         let e = read_entry(program, i);
-        let kept = kind_good(e, l, marks, i);
-        good = good & (kept & (e.zero == 0));
-        i += 1;
+        good &= kind_good(e, l, marks, i) & (e.zero == 0);
     }
     good
 }
 
 // Not row 19: "a program breaking these rules or naming an unknown rule or node".
-fn program_good(card: &[u8], l: Layout, program: &[u8]) -> bool
-    requires { GoodCard l card.now }
-    ensures { result ≡ program_good (containing 2 l card.now) l program.now }
+fn program_good(card: &Card, program: &[u8]) -> bool
+    requires { GoodCard card.now.layout card.now.bytes.now }
+    ensures { result ≡ program_good (containing 2 card.now.layout card.now.bytes.now) card.now.layout program.now }
 {
     let n = program.len();
     if !length_good(n) {
         return false;
     }
     let mut marks = all_marks();
-    mark_nodes(card, l, &mut marks);
-    entries_good(program, l, &marks, n / 4)
+    mark_nodes(card, &mut marks);
+    entries_good(program, card.layout, &marks, n / 4)
 }
 
 // Row 19, of an accepted card.
-pub fn judge_program(card: &[u8], l: Layout, program: &[u8]) -> Answer
-    requires { GoodCard l card.now }
-    ensures { result ≡ row_answer (program_good (containing 2 l card.now) l program.now) Refusal.Program }
+pub fn judge_program(card: &Card, program: &[u8]) -> Answer
+    requires { GoodCard card.now.layout card.now.bytes.now }
+    ensures { result ≡ row_answer (program_good (containing 2 card.now.layout card.now.bytes.now) card.now.layout program.now) Refusal.Program }
 {
-    row(program_good(card, l, program), Refusal::Program)
+    row(program_good(card, program), Refusal::Program)
 }

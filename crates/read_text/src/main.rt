@@ -2,98 +2,78 @@
 // `refused` and the number, and with 17 the place. Standard error then has the bytes that could have stood there, by their numbers.
 #![tactic(auto)]
 
-ghost use Rattle.std.specs.Prelude.{◌≡◌, ◌≤◌, length};
+ghost use Rattle.std.specs.Prelude.{◌<◌, length};
 
-use answers::{answer_carried, answer_number};
+use answers::answer_number;
 use input::read_full;
-use meaning::Answer;
-use output::{also, write, write_front};
+use meaning::{Answer, Refusal};
 use std::io;
 
-// Room for a text: 65,536 bytes, and one more, in which a longer text shows.
-fn no_text() -> [u8; 65537]
-    ensures { 65537 ≡ length result }
-{
-    [0u8; 65537]
-}
-
-// Room for the largest card.
-fn no_card() -> [u8; 24128]
-    ensures { 24128 ≡ length result }
-{
-    [0u8; 24128]
-}
+// The size of the largest card.
+const LARGEST: usize = 24128;
 
 // ---- a refused text
+
+// The place that a text is refused with 17 at.
+fn slip_of(answer: Answer) -> Option<usize> {
+    match answer {
+        Err(Refusal::Text(place)) => Some(place),
+        _ => None,
+    }
+}
 
 // The number of a refusal, and the place with 17.
 fn refused(rt: HostRuntime, answer: Answer) -> io::Result<()> {
     let number = answer_number(answer);
-    write(rt, b"refused")?;
-    also(rt, number as u64)?;
-    if number == 17 {
-        also(rt, answer_carried(answer) as u64)?;
+    match slip_of(answer) {
+        Some(place) => println!(rt; "refused {number} {place}"),
+        None => println!(rt; "refused {number}"),
     }
-    write(rt, b"\n")
 }
 
 // Whether a text is refused with 17 at a place.
 fn slips_at(text: &[u8], place: usize) -> bool {
-    let mut card = no_card();
+    let mut card = [0u8; LARGEST];
     let read = reader::read::read(text, &mut card);
-    let answer = read.answer;
-    (answer_number(answer) == 17) & (answer_carried(answer) == place)
+    slip_of(read.answer) == Some(place)
 }
 
-// The bytes that could have stood at the end of a text's front: with any other one there it slips at that same place.
-fn say_what_could_stand(rt: HostRuntime, front: &mut [u8]) -> io::Result<()>
-    requires { 1 ≤ length front.old }
+// The bytes that could have stood at a place of a text, which is read to there: with any other one it slips at that same place.
+fn say_what_could_stand(rt: HostRuntime, text: &mut [u8], place: usize) -> io::Result<()>
+    requires { place < length text.old }
 {
-    let place = front.len() - 1;
-    let mut byte: u16 = 0;
-    while byte < 256 {
-        front[place] = byte as u8;
-        if !slips_at(front, place) {
-            also(rt.stderr(), byte as u64)?;
+    for byte in 0..=255u8 {
+        text[place] = byte;
+        if !slips_at(&text[..place + 1], place) {
+            eprint!(rt; " {byte}")?;
         }
-        byte += 1;
     }
-    rt.eprintln("")
-}
-
-// The same of a place in a text.
-fn say_of_place(rt: HostRuntime, text: &mut [u8], place: usize) -> io::Result<()> {
-    if place < text.len() {
-        say_what_could_stand(rt, &mut text[0..place + 1])?;
-    }
-    Ok(())
+    eprintln!(rt)
 }
 
 // ---- the text
 
 // The card of a text, or its refusal.
 fn show(rt: HostRuntime, text: &[u8]) -> io::Result<Answer> {
-    let mut card = no_card();
+    let mut card = [0u8; LARGEST];
     let read = reader::read::read(text, &mut card);
-    let answer = read.answer;
-    let n = read.count as usize;
-    let Answer::Done = answer else {
-        refused(rt, answer)?;
-        return Ok(answer);
-    };
-    write_front(rt, &card, n)?;
-    Ok(answer)
+    match read.answer {
+        Ok(()) => rt.write_all(card.get(..read.count as usize).unwrap_or(&[]))?,
+        answer => refused(rt, answer)?,
+    }
+    Ok(read.answer)
 }
 
 fn main(rt: HostRuntime) -> io::Result<()> {
-    let mut text = no_text();
+    // Room for a text: 65,536 bytes, and one more, in which a longer text shows.
+    let mut text = [0u8; 65537];
     let n = read_full(&mut rt.stdin(), &mut text)?;
     if 65536 < n {
         return rt.eprintln("the text has over 65,536 bytes");
     }
     let answer = show(rt, &text[..n])?;
-    if answer_number(answer) == 17 {
-        say_of_place(rt, &mut text, answer_carried(answer))?;
+    match slip_of(answer) {
+        Some(place) if place < text.len() => say_what_could_stand(rt, &mut text, place),
+        _ => Ok(()),
     }
-    Ok(())
 }

@@ -3,21 +3,20 @@ use mathlib.Core.Path.{◌≡◌, refl, sym, ap, ◌∙◌, subst}
 use mathlib.Core.Bool.{Bool, true, false, not, ◌&&◌}
 use mathlib.Core.List.{[], ◌∷◌}
 use mathlib.Core.Option.{none, some}
-use Prim.Native.Nat.{ℕ}
 use native.Mathlib.Nat.{le_refl}
 use lib.ListN.{length}
 use Rattle.paper.specs.Next.{if}
 use Rattle.paper.proofs.Relation.{both}
 use Rattle.meaning.specs.declared.Refusal.{Refusal}
-use Rattle.meaning.specs.declared.Answer.{Answer}
-use Rattle.meaning.specs.declared.Answer.TheVariants.{Done, Refused}
+use Rattle.meaning.specs.Answers.{Answer}
+use Rattle.std.specs.Prelude.{Ok, Err}
 use Rattle.meaning.specs.Card.{Bytes}
 use Rattle.meaning.specs.Refusals.{Row, ◌given_when◌, first_given, and_then, card_answer}
 use Rattle.meaning.specs.Calls.{room_for}
 use Rattle.meaning.proofs.Tables.{given, not_given}
 use Rattle.notation.specs.Lines.{Said, Text}
 use Rattle.notation.specs.Built.{built}
-use Rattle.notation.specs.Reading.{Derived, WrongAt, shallow, numbers_fit, entries_fit, text_table, said_answer, Reads, no_text, refused, done}
+use Rattle.notation.specs.Reading.{Derived, shallow, numbers_fit, entries_fit, text_table, said_answer, Reads, refused, done}
 use Rattle.notation.specs.Values.{nested, got, items_of}
 use Rattle.notation.specs.Making.{nothing_made, items_in, items_said, card_of}
 use Rattle.notation.specs.Making as Making
@@ -27,17 +26,11 @@ use Rattle.notation.proofs.MadeBuilt.{card_built}
 use Rattle.notation.proofs.ReadingTexts.{text_read}
 use Rattle.notation.specs.Scanning.{first, lines, judge}
 use Rattle.notation.proofs.Texts.{Scanned, scanned}
-use Rattle.scan.specs.declared.scan.Scan.{Scan}
+use Rattle.scan.specs.declared.scan.Wrong.{Wrong}
+use Rattle.std.proofs.Common.{Result}
 use Rattle.scan.specs.Scans.{found}
 use Rattle.door.specs.declared.in_place.WrittenInPlace.{WrittenInPlace}
 use Rattle.reader.specs.Written.{Wrote, WroteCard, WroteMade, WroteLines}
-
--- ---- 17
-
-pub reads_no_text : (t out : Bytes) (p : ℕ) (r : WrittenInPlace) → WrongAt t p → (r.answer ≡ Refused (Refusal.Text p)) × (r.count ≡ 0)
-    → Reads t out r.answer r.count out
-reads_no_text t out p r w (h, k) =
-    subst (λ a. Reads t out a r.count out) (sym h) (subst (λ n. Reads t out (Refused (Refusal.Text p)) n out) (sym k) (no_text w))
 
 -- the rows of 18 and 25
 abbrev deep : Row Said
@@ -49,21 +42,21 @@ large = Refusal.Large given_when (λ s. not (numbers_fit s && entries_fit s))
 -- ---- a text of the grammar, by the answer to what it says
 module _ (t out : Bytes) (s : Said) (text : Text t s) (r : WrittenInPlace) (out' : Bytes) where
   by_answer : (a : Answer) → said_answer s out ≡ a → Wrote a (built s) out r out' → Reads t out r.answer r.count out'
-  by_answer Done e (h, k, w) =
-      subst (λ a. Reads t out a r.count out') (sym h) (subst (λ n. Reads t out Done n out') (sym k) (subst (λ o. Reads t out Done (length (built s)) o) (sym w) (done text e)))
-  by_answer (Refused q) e (h, k, w) =
-      subst (λ a. Reads t out a r.count out') (sym h) (subst (λ n. Reads t out (Refused q) n out') (sym k) (subst (λ o. Reads t out (Refused q) 0 o) (sym w) (refused text e)))
+  by_answer (Ok _) e (h, k, w) =
+      subst (λ a. Reads t out a r.count out') (sym h) (subst (λ n. Reads t out (Ok tt) n out') (sym k) (subst (λ o. Reads t out (Ok tt) (length (built s)) o) (sym w) (done text e)))
+  by_answer (Err q) e (h, k, w) =
+      subst (λ a. Reads t out a r.count out') (sym h) (subst (λ n. Reads t out (Err q) n out') (sym k) (subst (λ o. Reads t out (Err q) 0 o) (sym w) (refused text e)))
 
   abbrev cards_answer : Answer
   cards_answer = and_then (card_answer (built s)) (room_for (built s) out)
 
   -- 18
-  too_deep : shallow s ≡ false → said_answer s out ≡ Refused Refusal.Nested
+  too_deep : shallow s ≡ false → said_answer s out ≡ Err Refusal.Nested
   unfolding said_answer text_table
   too_deep e = ap (λ a. and_then a cards_answer) (given deep (large ∷ []) s (ap not e))
 
   -- 25
-  too_large : shallow s ≡ true → numbers_fit s && entries_fit s ≡ false → said_answer s out ≡ Refused Refusal.Large
+  too_large : shallow s ≡ true → numbers_fit s && entries_fit s ≡ false → said_answer s out ≡ Err Refusal.Large
   unfolding said_answer text_table
   too_large e f = ap (λ a. and_then a cards_answer) (not_given deep (large ∷ []) s (ap not e) ∙ given large [] s (ap not f))
 
@@ -81,11 +74,11 @@ module _ (t out : Bytes) (s : Said) (text : Text t s) (r : WrittenInPlace) (out'
     where
       by_size : shallow s ≡ true → (b : Bool) → numbers_fit s && entries_fit s ≡ b → WroteMade (if b (some m) none) out r out' → Reads t out r.answer r.count out'
       by_size e true f w = by_answer cards_answer (card_judged e f) (subst (λ (b : Bytes). WroteCard b out r out') (card f) w)
-      by_size e false f w = by_answer (Refused Refusal.Large) (too_large e f) w
+      by_size e false f w = by_answer (Err Refusal.Large) (too_large e f) w
 
       by_depth : (b : Bool) → shallow s ≡ b → WroteLines (if b (got (items_said s) []) nested) out r out' → Reads t out r.answer r.count out'
       by_depth true e w = by_size e (numbers_fit s && entries_fit s) refl (subst (λ o. WroteMade o out r out') made w)
-      by_depth false e w = by_answer (Refused Refusal.Nested) (too_deep e) w
+      by_depth false e w = by_answer (Err Refusal.Nested) (too_deep e) w
 
 -- ---- any text
 
@@ -97,5 +90,5 @@ reads_text t out r out' (s, x) w =
     (subst (λ o. WroteLines o out r out') (text_read x (length t) (le_refl (length t))) w)
 
 -- what the scan of it tells
-pub scan_tells : (t : Bytes) (r : Scan) → found r ≡ judge t (lines first) → Scanned t (found r)
+pub scan_tells : {A : Type 0} (t : Bytes) (r : Result A Wrong) → found r ≡ judge t (lines first) → Scanned t (found r)
 scan_tells t r e = subst (Scanned t) (sym e) (scanned t)

@@ -1,10 +1,11 @@
 -- Sections that are moved down, one behind the other.
-use mathlib.Core.Path.{◌≡◌, refl, sym, ap, ap₂, ◌∙◌}
+use mathlib.Core.Path.{◌≡◌, refl, sym, ap, ap₂, ◌∙◌, subst}
 use mathlib.Core.List.{◌++◌, flatten, append_assoc}
 use Prim.Native.Nat.{ℕ, ◌+◌, ◌-◌, ◌*◌, ◌/◌, ◌≤◌}
 use native.Mathlib.Omega.{arith}
+use borrow.Rule.Slice.PartMut.{put_mid}
 use lib.ListN.{length, take, drop, length-append, length-drop}
-use lib.Seq.{paste, take-paste, drop-paste, length-paste, drop-drop, take-add, take_all, take_at, drop_at, take-append-add}
+use lib.Seq.{paste, take-paste, drop-paste, length-paste, drop-drop, take-add, take_at, drop_at, take-append-add}
 use Rattle.meaning.specs.Card.{Bytes, part}
 use Rattle.meaning.proofs.Parts.{length_part}
 use Rattle.notation.specs.Making.{header_of, card_of, sections_of}
@@ -84,20 +85,111 @@ module _ (m : Made) (d d₁ : Bytes) where
   unfolding nodes_on
   nodes_same e = ap₂ ◌++◌ (part_same 576 (4 * m.nodes) e) (specifications_same (later d d₁ 576 1600 (omega arith) e))
 
+-- ---- all sections, one behind the other
+module _ (m : Made) (bounded : Bounded m) (d₀ d₁ d₂ d₃ d₄ d₅ : Bytes) (e₀ e₁ e₂ e₃ e₄ r : ℕ) (l₀ : length d₀ ≡ 24128) (low : e₀ ≤ 576)
+    (q₁ : (e₁ ≡ e₀ + 4 * m.nodes) × (d₁ ≡ paste d₀ e₀ (drop 576 d₀) (4 * m.nodes)))
+    (q₂ : (e₂ ≡ e₁ + 36 * m.specifications) × (d₂ ≡ paste d₁ e₁ (drop 1600 d₁) (36 * m.specifications)))
+    (q₃ : (e₃ ≡ e₂ + 8 * m.selections) × (d₃ ≡ paste d₂ e₂ (drop 10816 d₂) (8 * m.selections)))
+    (q₄ : (e₄ ≡ e₃ + 12 * m.revisions) × (d₄ ≡ paste d₃ e₃ (drop 12864 d₃) (12 * m.revisions)))
+    (q₅ : (r ≡ e₄ + m.pool) × (d₅ ≡ paste d₄ e₄ (drop 15936 d₄) m.pool)) where
+  ends₁ : e₁ ≤ 1600
+  ends₁ = let b = bounded.nodes in let q = q₁.0 in omega arith
+
+  ends₂ : e₂ ≤ 10816
+  ends₂ = let b = bounded.specifications in let q = q₂.0 in let p = ends₁ in omega arith
+
+  ends₃ : e₃ ≤ 12864
+  ends₃ = let b = bounded.selections in let q = q₃.0 in let p = ends₂ in omega arith
+
+  ends₄ : e₄ ≤ 15936
+  ends₄ = let b = bounded.revisions in let q = q₄.0 in let p = ends₃ in omega arith
+
+  room₁ : length d₁ ≡ 24128
+  room₁ =
+      let b = bounded.nodes in
+      let l = l₀ in
+      let u : e₀ ≤ 576 = low in
+      move_room d₀ d₁ e₀ 576 (4 * m.nodes) u (omega arith) q₁.1 ∙ l
+
+  room₂ : length d₂ ≡ 24128
+  room₂ =
+      let b = bounded.specifications in
+      let l = room₁ in
+      let u : e₁ ≤ 1600 = ends₁ in
+      move_room d₁ d₂ e₁ 1600 (36 * m.specifications) u (omega arith) q₂.1 ∙ l
+
+  room₃ : length d₃ ≡ 24128
+  room₃ =
+      let b = bounded.selections in
+      let l = room₂ in
+      let u : e₂ ≤ 10816 = ends₂ in
+      move_room d₂ d₃ e₂ 10816 (8 * m.selections) u (omega arith) q₃.1 ∙ l
+
+  room₄ : length d₄ ≡ 24128
+  room₄ =
+      let b = bounded.revisions in
+      let l = room₃ in
+      let u : e₃ ≤ 12864 = ends₃ in
+      move_room d₃ d₄ e₃ 12864 (12 * m.revisions) u (omega arith) q₄.1 ∙ l
+
+  packed₅ : Packed e₄ (pool_on m d₄) d₄ r d₅
+  unfolding pool_on
+  packed₅ =
+      let b = bounded.pool in
+      let l = room₄ in
+      subst (λ x. Packed e₄ (part d₄ 15936 m.pool) d₄ x d₅) (sym q₅.0) (pack_last d₄ d₅ e₄ 15936 m.pool ends₄ (omega arith) q₅.1 l)
+
+  packed₄ : Packed e₃ (revisions_on m d₃) d₃ r d₅
+  unfolding revisions_on
+  packed₄ =
+      let b = bounded.revisions in
+      let l = room₃ in
+      let u : e₃ ≤ 12864 = ends₃ in
+      let i : 12864 + 12 * m.revisions ≤ length d₃ = omega arith in
+      pack_next d₃ d₄ e₃ 12864 (12 * m.revisions) u i q₄.1 (pool_on m d₃) (pool_on m d₄) r d₅
+      (pool_same m d₃ d₄ (move_behind d₃ d₄ e₃ 12864 (12 * m.revisions) u i q₄.1 15936 (omega arith)))
+      (subst (λ x. Packed x (pool_on m d₄) d₄ r d₅) q₄.0 packed₅)
+
+  packed₃ : Packed e₂ (selections_on m d₂) d₂ r d₅
+  unfolding selections_on
+  packed₃ =
+      let b = bounded.selections in
+      let l = room₂ in
+      let u : e₂ ≤ 10816 = ends₂ in
+      let i : 10816 + 8 * m.selections ≤ length d₂ = omega arith in
+      pack_next d₂ d₃ e₂ 10816 (8 * m.selections) u i q₃.1 (revisions_on m d₂) (revisions_on m d₃) r d₅
+      (revisions_same m d₂ d₃ (move_behind d₂ d₃ e₂ 10816 (8 * m.selections) u i q₃.1 12864 (omega arith)))
+      (subst (λ x. Packed x (revisions_on m d₃) d₃ r d₅) q₃.0 packed₄)
+
+  packed₂ : Packed e₁ (specifications_on m d₁) d₁ r d₅
+  unfolding specifications_on
+  packed₂ =
+      let b = bounded.specifications in
+      let l = room₁ in
+      let u : e₁ ≤ 1600 = ends₁ in
+      let i : 1600 + 36 * m.specifications ≤ length d₁ = omega arith in
+      pack_next d₁ d₂ e₁ 1600 (36 * m.specifications) u i q₂.1 (selections_on m d₁) (selections_on m d₂) r d₅
+      (selections_same m d₁ d₂ (move_behind d₁ d₂ e₁ 1600 (36 * m.specifications) u i q₂.1 10816 (omega arith)))
+      (subst (λ x. Packed x (selections_on m d₂) d₂ r d₅) q₂.0 packed₃)
+
+  pub all_packed : Packed e₀ (nodes_on m d₀) d₀ r d₅
+  unfolding nodes_on
+  all_packed =
+      let b = bounded.nodes in
+      let l = l₀ in
+      let u : e₀ ≤ 576 = low in
+      let i : 576 + 4 * m.nodes ≤ length d₀ = omega arith in
+      pack_next d₀ d₁ e₀ 576 (4 * m.nodes) u i q₁.1 (specifications_on m d₀) (specifications_on m d₁) r d₅
+      (specifications_same m d₀ d₁ (move_behind d₀ d₁ e₀ 576 (4 * m.nodes) u i q₁.1 1600 (omega arith)))
+      (subst (λ x. Packed x (specifications_on m d₁) d₁ r d₅) q₁.0 packed₂)
+
 -- ---- the header, in two halves
-module _ (d d₁ d₂ f g : Bytes) (lf : length f ≡ 16) (lg : length g ≡ 16) (h₁ : d₁ ≡ paste d 0 f 16) (h₂ : d₂ ≡ paste d₁ 16 g 16) where
-  first_half : d₁ ≡ f ++ drop 16 d
-  first_half = h₁ ∙ ap (λ (x : Bytes). x ++ drop 16 d) (take_all 16 f (omega arith))
+both_halves : (d f g : Bytes) → length f ≡ 16 → put_mid 16 16 (f ++ drop 16 d) g ≡ f ++ g ++ drop 32 d
+both_halves d f g lf =
+    let b : drop 16 (drop 16 (f ++ drop 16 d)) ≡ drop 32 d = ap (drop 16) (drop_at f (drop 16 d) 16 lf) ∙ drop-drop 16 16 d in
+    ap₂ (λ (x y : Bytes). x ++ (g ++ y)) (take_at f (drop 16 d) 16 lf) b ∙ sym (append_assoc f g (drop 32 d))
 
-  both_halves : d₂ ≡ f ++ g ++ drop 32 d
-  both_halves =
-      let t : take 16 d₁ ≡ f = ap (take 16) first_half ∙ take_at f (drop 16 d) 16 lf in
-      let b : drop 16 d₁ ≡ drop 16 d = ap (drop 16) first_half ∙ drop_at f (drop 16 d) 16 lf in
-      h₂
-      ∙ ap₂ (λ (x y : Bytes). x ++ y ++ drop 32 d₁) t (take_all 16 g (omega arith))
-      ∙ ap (λ (x : Bytes). f ++ g ++ x) (later d d₁ 16 32 (omega arith) b)
-
-module _ (m : Made) (d d₁ d₂ f g : Bytes) where
+module _ (m : Made) (d f g : Bytes) where
   pub header_written : (let nodes = 64 + 2 * m.weights in
       let specifications = nodes + 4 * m.nodes in
       f ≡ eight_numbers 0x4133 1 m.atoms m.weights m.nodes nodes m.specifications specifications)
@@ -106,10 +198,9 @@ module _ (m : Made) (d d₁ d₂ f g : Bytes) where
       let revisions = selections + 8 * m.selections in
       let pool = revisions + 12 * m.revisions in
       g ≡ eight_numbers m.selections selections m.revisions revisions m.pool pool m.start m.len)
-      → d₁ ≡ paste d 0 f 16 → d₂ ≡ paste d₁ 16 g 16 → d₂ ≡ header_in m ++ drop 32 d
+      → put_mid 16 16 (f ++ drop 16 d) g ≡ header_in m ++ drop 32 d
   unfolding header_of flatten
-  header_written hf hg h₁ h₂ =
-      both_halves d d₁ d₂ f g (ap length hf) (ap length hg) h₁ h₂ ∙ ap₂ (λ (x y : Bytes). x ++ y ++ drop 32 d) hf hg
+  header_written hf hg = both_halves d f g (ap length hf) ∙ ap₂ (λ (x y : Bytes). x ++ y ++ drop 32 d) hf hg
 
 -- ---- the whole card
 module _ (m : Made) (bounded : Bounded m) (d d₁ : Bytes) (l : length d ≡ 24128) (h : d₁ ≡ header_in m ++ drop 32 d) where

@@ -1,62 +1,23 @@
 // A card put together: the header is written, and the sections, which stand where they begin in the largest card, are moved down.
 ghost use Rattle.std.specs.Prelude.{◌≡◌, ◌++◌, ◌+◌, ◌≤◌, length, take, drop};
+ghost use Rattle.std.proofs.Math.Seq.{paste};
 ghost use Rattle.notation.specs.Making.{card_of};
 ghost use Rattle.lines.specs.InPlace.{Bounded, sections_in};
-ghost use Rattle.reader.specs.Packed.{Packed, pool_on, revisions_on, selections_on, specifications_on, nodes_on, eight_numbers, header_in};
+ghost use Rattle.reader.specs.Packed.{eight_numbers, header_in};
 
-use layout::bytes::{copy, down};
+use layout::bytes::down;
 use lines::made::Made;
 
-// The pool, behind the first e bytes; where it ends.
-fn pack_pool(card: &mut [u8], m: Made, e: usize) -> usize
-    requires { Bounded m × (length card.old ≡ 24128) × (e ≤ 15936) }
-    ensures { Packed e (pool_on m card.old) card.old result card.new }
+// A section's n bytes, which stand from b on, moved behind the first e bytes; where they end.
+fn pack(card: &mut [u8], e: usize, b: usize, n: usize) -> usize
+    requires { (e ≤ b) × (b + n ≤ length card.old) }
+    ensures { (result ≡ e + n) × (card.new ≡ paste card.old e (drop b card.old) n) }
 {
-    down(card, e, 15936, m.pool);
-    e + m.pool
+    down(card, e, b, n);
+    e + n
 }
 
-// The revision rules, and then the pool.
-fn pack_revisions(card: &mut [u8], m: Made, e: usize) -> usize
-    requires { Bounded m × (length card.old ≡ 24128) × (e ≤ 12864) }
-    ensures { Packed e (revisions_on m card.old) card.old result card.new }
-{
-    let n = 12 * m.revisions;
-    down(card, e, 12864, n);
-    pack_pool(card, m, e + n)
-}
-
-// The selection rules, and then the rest.
-fn pack_selections(card: &mut [u8], m: Made, e: usize) -> usize
-    requires { Bounded m × (length card.old ≡ 24128) × (e ≤ 10816) }
-    ensures { Packed e (selections_on m card.old) card.old result card.new }
-{
-    let n = 8 * m.selections;
-    down(card, e, 10816, n);
-    pack_revisions(card, m, e + n)
-}
-
-// The specifications, and then the rest.
-fn pack_specifications(card: &mut [u8], m: Made, e: usize) -> usize
-    requires { Bounded m × (length card.old ≡ 24128) × (e ≤ 1600) }
-    ensures { Packed e (specifications_on m card.old) card.old result card.new }
-{
-    let n = 36 * m.specifications;
-    down(card, e, 1600, n);
-    pack_selections(card, m, e + n)
-}
-
-// The nodes, and then the rest.
-fn pack_nodes(card: &mut [u8], m: Made, e: usize) -> usize
-    requires { Bounded m × (length card.old ≡ 24128) × (e ≤ 576) }
-    ensures { Packed e (nodes_on m card.old) card.old result card.new }
-{
-    let n = 4 * m.nodes;
-    down(card, e, 576, n);
-    pack_specifications(card, m, e + n)
-}
-
-// Eight numbers, "two bytes, low byte first".
+// Eight numbers, "two bytes, low byte first". They are written out: to_le_bytes gives eight arrays, which would have to be joined.
 fn eight_numbers(
     a: usize,
     b: usize,
@@ -119,8 +80,8 @@ fn write_header(card: &mut [u8], m: Made)
         m.start,
         m.len,
     );
-    copy(card, 0, &front, 0, 16);
-    copy(card, 16, &back, 0, 16);
+    card[..16].copy_from_slice(&front);
+    card[16..32].copy_from_slice(&back);
 }
 
 // The whole card, at the front; how many bytes it has.
@@ -130,5 +91,9 @@ pub fn assemble(card: &mut [u8], m: Made) -> usize
     ensures card_after { take result card.new ≡ card_of (sections_in m card.old) }
 {
     write_header(card, m);
-    pack_nodes(card, m, 64 + 2 * m.weights)
+    let nodes = pack(card, 64 + 2 * m.weights, 576, 4 * m.nodes);
+    let specifications = pack(card, nodes, 1600, 36 * m.specifications);
+    let selections = pack(card, specifications, 10816, 8 * m.selections);
+    let revisions = pack(card, selections, 12864, 12 * m.revisions);
+    pack(card, revisions, 15936, m.pool)
 }

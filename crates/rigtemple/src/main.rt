@@ -3,141 +3,90 @@
 #![tactic(auto)]
 
 ghost use Rattle.std.specs.Prelude.{◌≤◌, ◌<◌};
-ghost use Rattle.layout.specs.GoodLayout.{GoodLayout};
 ghost use Rattle.choices.specs.Judged.{SomeSets};
 
 use answers::refusal_number;
-use card::check::check;
+use card::check::accept;
 use choices::ask::{ask, choose};
 use choices::truth::{Marks, judge_nodes, no_marks};
 use door::admit::admit;
-use door::asked::{Asked, Chosen};
+use door::asked::{Asked, Choice};
 use input::read_full;
-use layout::entries::{count_of, read_weight};
-use layout::sizes::most_atoms;
-use meaning::{Checked, Configuration, Layout, Plan, Set, Standing};
+use layout::card::Card;
+use meaning::{Configuration, Mind, Plan, Set, Standing};
 use moves::advance::advance_once;
 use moves::step::Transition;
-use output::{also, write};
-use runs::{Ending, Offender, Verdict};
-use std::io;
+use runs::{Ending, Kind, Offender, Verdict};
+use std::{fmt, io};
 
 // ---- the lines
 
-// A word, and the end of the line.
-fn end(rt: HostRuntime, word: &[u8]) -> io::Result<()> {
-    write(rt, word)?;
-    write(rt, b"\n")
+// A choice as the lines have it: the kind in a word, and the number.
+#[derive(Drop)]
+struct Shown(Choice);
+
+impl fmt::Display for Shown {
+    fn fmt<W: fmt::Write>(&self, f: &mut fmt::Formatter<W>) -> fmt::Result {
+        let kind = match self.0.kind {
+            Kind::Selection => "select",
+            Kind::Action => "act",
+            Kind::Revision => "revise",
+        };
+        write!(f, "{kind} {}", self.0.number)
+    }
 }
 
 // "First line: bytes, verdict (bounded or open)."
 fn first_line(rt: HostRuntime, bytes: usize, verdict: Verdict) -> io::Result<()> {
-    write(rt, b"card")?;
-    also(rt, bytes as u64)?;
-    match verdict {
-        Verdict::Bounded => end(rt, b" bounded"),
-        Verdict::Open(_) => end(rt, b" open"),
-    }
+    let verdict = match verdict {
+        Verdict::Bounded => "bounded",
+        Verdict::Open(_) => "open",
+    };
+    println!(rt; "card {bytes} {verdict}")
 }
 
 // "Last: ending (rest, spent, full), count."
 fn last_line(rt: HostRuntime, ending: Ending, count: u16) -> io::Result<()> {
-    match ending {
-        Ending::Rest => write(rt, b"rest")?,
-        Ending::Spent => write(rt, b"spent")?,
-        Ending::Full => write(rt, b"full")?,
+    let ending = match ending {
+        Ending::Rest => "rest",
+        Ending::Spent => "spent",
+        Ending::Full => "full",
     };
-    also(rt, count as u64)?;
-    end(rt, b"")
+    println!(rt; "{ending} {count}")
 }
 
 // The weight of an action, as the card has it; 0 if it has none.
-fn weight(card: &[u8], l: Layout, action: u8) -> u64
-    requires { GoodLayout l card.now }
+fn weight(card: &Card, action: u8) -> u64
     ensures { result ≤ 65535 }
 {
-    let a = action as usize;
-    if (l.actions as usize) <= a {
-        return 0;
+    let action = action as usize;
+    if action < card.layout.actions as usize {
+        card.weight(action) as u64
+    } else {
+        0
     }
-    read_weight(card, l, a) as u64
 }
 
 // The weight of a plan of n actions.
-fn plan_weight(card: &[u8], l: Layout, plan: &Plan, n: usize) -> u64
-    requires { GoodLayout l card.now }
-{
+fn plan_weight(card: &Card, plan: &Plan, n: usize) -> u64 {
     let mut total: u64 = 0;
-    let mut i: usize = 0;
-    while i < 1024 {
-        if n <= i {
-            return total;
-        }
-        total += weight(card, l, plan[i]);
-        i += 1;
+    for action in &plan[..n.min(plan.len())] {
+        total += weight(card, *action);
     }
     total
 }
 
-// "Step lines: count, kind, number, plan length after, plan weight after."
-fn step_line(
-    rt: HostRuntime,
-    count: u16,
-    kind: u8,
-    number: usize,
-    length: u16,
-    weight: u64,
-) -> io::Result<()> {
-    rt.print(count as u64)?;
-    match kind {
-        0 => write(rt, b" select")?,
-        1 => write(rt, b" act")?,
-        _ => write(rt, b" revise")?,
-    };
-    also(rt, number as u64)?;
-    also(rt, length as u64)?;
-    also(rt, weight)?;
-    end(rt, b"")
-}
-
-// ---- what is left, in words
-
-// Words, on standard error.
-fn say(rt: HostRuntime, words: &[u8]) -> io::Result<()> {
-    rt.stderr().write_all(words)
-}
-
-// A number after a space.
-fn say_number(rt: HostRuntime, n: u64) -> io::Result<()> {
-    also(rt.stderr(), n)
-}
-
-// A choice as the lines have it: the kind, and the number after it.
-fn say_choice(rt: HostRuntime, kind: u8, number: usize) -> io::Result<()> {
-    match kind {
-        0 => say(rt, b" select")?,
-        1 => say(rt, b" act")?,
-        _ => say(rt, b" revise")?,
-    };
-    say_number(rt, number as u64)?;
-    say(rt, b"\n")
-}
+// ---- what is left, in words, on standard error
 
 // "the verdict carries the first offender: the initial plan, then selection rule n, then revision rule n"
 fn say_offender(rt: HostRuntime, offender: Offender) -> io::Result<()> {
-    say(rt, b"the card is open:")?;
+    eprint!(rt; "the card is open: ")?;
     match offender {
-        Offender::InitialPlan => say(rt, b" the initial plan weighs over 1,024\n"),
-        Offender::Selection(n) => {
-            say(rt, b" selection")?;
-            say_number(rt, n as u64)?;
-            say(rt, b" has a plan that weighs over 1,024\n")
-        }
-        Offender::Revision(n) => {
-            say(rt, b" revision")?;
-            say_number(rt, n as u64)?;
-            say(rt, b" has a body that is not lighter than its head\n")
-        }
+        Offender::InitialPlan => eprintln!(rt; "the initial plan weighs over 1,024"),
+        Offender::Selection(n) => eprintln!(rt; "selection {n} has a plan that weighs over 1,024"),
+        Offender::Revision(n) => eprintln!(rt;
+            "revision {n} has a body that is not lighter than its head"
+        ),
     }
 }
 
@@ -147,184 +96,146 @@ fn say_doubts(rt: HostRuntime, verdict: Verdict, goals: Set) -> io::Result<()> {
         say_offender(rt, offender)?;
     }
     if sets::known(goals, 0) {
-        say(rt, b"the card begins with no goal\n")?;
+        eprintln!(rt; "the card begins with no goal")?;
     }
     Ok(())
 }
 
-// A thing and its number, in a row of such: after a comma, unless it is the first.
-fn say_in_row(rt: HostRuntime, first: bool, thing: &[u8], number: u64) -> io::Result<()> {
-    if !first {
-        say(rt, b",")?;
-    }
-    say(rt, thing)?;
-    say_number(rt, number)
-}
-
 // The goals that are open, by their atoms.
-fn say_goals(rt: HostRuntime, l: Layout, goals: Set) -> io::Result<()> {
-    say(rt, b"goals open:")?;
-    let n = most_atoms(l);
+fn say_goals(rt: HostRuntime, goals: Set) -> io::Result<()> {
+    eprint!(rt; "goals open:")?;
     let mut none = true;
-    let mut k: usize = 0;
-    while k < n {
-        if sets::member(goals, k as u8) {
-            say_in_row(rt, none, b" atom", k as u64)?;
+    for atom in 0..=255u8 {
+        if sets::member(goals, atom) {
+            let comma = if none { "" } else { "," };
+            eprint!(rt; "{comma} atom {atom}")?;
             none = false;
         }
-        k += 1;
     }
     if none {
-        say(rt, b" none")?;
+        eprint!(rt; " none")?;
     }
-    say(rt, b"\n")
+    eprintln!(rt)
 }
 
 // How many actions are in the plan, and its first.
 fn say_plan(rt: HostRuntime, length: u16, first: u8) -> io::Result<()> {
-    say(rt, b"actions in the plan:")?;
+    eprint!(rt; "actions in the plan: ")?;
     if length == 0 {
-        return say(rt, b" none\n");
+        eprintln!(rt; "none")
+    } else {
+        eprintln!(rt; "{length}, the first is action {first}")
     }
-    say_number(rt, length as u64)?;
-    say(rt, b", the first is action")?;
-    say_number(rt, first as u64)?;
-    say(rt, b"\n")
 }
 
-// That no choice of a kind is enabled: for a specification, that the plan's first action has no move.
-fn say_kind(rt: HostRuntime, kind: u8, first: u8) -> io::Result<()> {
+// What is said of the choices of a kind, none of which is enabled.
+#[derive(Drop)]
+struct Words {
+    // that false conditions close those that follow
+    closed: &'static str,
+    // what each of them is
+    choice: &'static str,
+    // that there is none for the front of the plan
+    front: &'static str,
+}
+
+// The words of a kind.
+fn words_of(kind: Kind) -> Words {
     match kind {
-        0 => say(rt, b"no selection fits:"),
-        1 => {
-            say(rt, b"action")?;
-            say_number(rt, first as u64)?;
-            say(rt, b" has no move:")
-        }
-        _ => say(rt, b"no revision fits:"),
-    }
-}
-
-// That false conditions close the choices of a kind that follow.
-fn say_conditions(rt: HostRuntime, kind: u8) -> io::Result<()> {
-    match kind {
-        0 => say(rt, b" a condition is false in"),
-        1 => say(rt, b" the condition is false in"),
-        _ => say(
-            rt,
-            b" the plan begins with the head, but the condition is false in",
-        ),
-    }
-}
-
-// A choice of a kind, in a row of such.
-fn say_closed_choice(rt: HostRuntime, first: bool, kind: u8, number: u64) -> io::Result<()> {
-    match kind {
-        0 => say_in_row(rt, first, b" selection", number),
-        1 => say_in_row(rt, first, b" specification", number),
-        _ => say_in_row(rt, first, b" revision", number),
-    }
-}
-
-// That there is no choice of a kind for the front of the plan.
-fn say_front(rt: HostRuntime, kind: u8) -> io::Result<()> {
-    match kind {
-        0 => say(rt, b" the card has none"),
-        1 => say(rt, b" it has no specification"),
-        _ => say(rt, b" the plan begins with the head of none"),
-    }
-}
-
-// Whether only a false condition closes a choice.
-fn waits(asked: Asked) -> bool {
-    match asked {
-        Asked::Enabled => false,
-        Asked::NoRule => false,
-        Asked::Front => false,
-        Asked::Condition(_) => true,
+        Kind::Selection => Words {
+            closed: "a condition is false in",
+            choice: "selection",
+            front: "the card has none",
+        },
+        Kind::Action => Words {
+            closed: "the condition is false in",
+            choice: "specification",
+            front: "it has no specification",
+        },
+        Kind::Revision => Words {
+            closed: "the plan begins with the head, but the condition is false in",
+            choice: "revision",
+            front: "the plan begins with the head of none",
+        },
     }
 }
 
 // Why no choice of a kind is enabled: the numbers of those that only a false condition closes, or that there are none.
 fn say_closed(
     rt: HostRuntime,
-    card: &[u8],
-    l: Layout,
+    card: &Card,
     m: Standing,
     plan: &Plan,
     marks: &Marks,
-    kind: u8,
+    kind: Kind,
 ) -> io::Result<()>
-    requires { SomeSets l card.now m plan.now marks.now × (kind < 3) }
+    requires { SomeSets card.now.layout card.now.bytes.now m plan.now marks.now }
 {
-    say_kind(rt, kind, plan[0])?;
-    let n = count_of(l, kind);
+    let words = words_of(kind);
     let mut none = true;
-    let mut i: usize = 0;
-    while i < n {
-        if waits(ask(card, l, m, plan, marks, kind, i)) {
+    for number in 0..card.count_of(kind) {
+        let choice = Choice { kind, number };
+        if let Asked::Condition(_) = ask(card, m, plan, marks, choice) {
             if none {
-                say_conditions(rt, kind)?;
+                eprint!(rt; " {}", words.closed)?;
+            } else {
+                eprint!(rt; ",")?;
             }
-            say_closed_choice(rt, none, kind, i as u64)?;
+            eprint!(rt; " {} {number}", words.choice)?;
             none = false;
         }
-        i += 1;
     }
     if none {
-        say_front(rt, kind)?;
+        eprint!(rt; " {}", words.front)?;
     }
-    say(rt, b"\n")
+    eprintln!(rt)
 }
 
 // Why there is no move: with an empty plan by the selections, where a goal is open; else by the specifications and the revisions.
 fn say_no_move(
     rt: HostRuntime,
-    card: &[u8],
-    l: Layout,
+    card: &Card,
     goals: Set,
     m: Standing,
     plan: &Plan,
     marks: &Marks,
 ) -> io::Result<()>
-    requires { SomeSets l card.now m plan.now marks.now }
+    requires { SomeSets card.now.layout card.now.bytes.now m plan.now marks.now }
 {
     if m.length != 0 {
-        say_closed(rt, card, l, m, plan, marks, 1)?;
-        return say_closed(rt, card, l, m, plan, marks, 2);
+        eprint!(rt; "action {} has no move:", plan[0])?;
+        say_closed(rt, card, m, plan, marks, Kind::Action)?;
+        eprint!(rt; "no revision fits:")?;
+        say_closed(rt, card, m, plan, marks, Kind::Revision)
+    } else if sets::known(goals, 0) {
+        Ok(())
+    } else {
+        eprint!(rt; "no selection fits:")?;
+        say_closed(rt, card, m, plan, marks, Kind::Selection)
     }
-    if !sets::known(goals, 0) {
-        say_closed(rt, card, l, m, plan, marks, 0)?;
-    }
-    Ok(())
 }
 
 // The move that the guide would make next, or why there is none.
 fn say_next(
     rt: HostRuntime,
-    card: &[u8],
-    l: Layout,
+    card: &Card,
     goals: Set,
     m: Standing,
     plan: &Plan,
     marks: &Marks,
     ending: Ending,
 ) -> io::Result<()>
-    requires { SomeSets l card.now m plan.now marks.now }
+    requires { SomeSets card.now.layout card.now.bytes.now m plan.now marks.now }
 {
-    let chosen = choose(card, l, m, plan, marks);
-    let Chosen::At(kind, i) = chosen else {
-        return say_no_move(rt, card, l, goals, m, plan, marks);
+    let Some(choice) = choose(card, m, plan, marks) else {
+        return say_no_move(rt, card, goals, m, plan, marks);
     };
-    match ending {
-        Ending::Rest => say(rt, b"the next move would be")?,
-        Ending::Spent => say(rt, b"1,000 moves are made, and the next would be")?,
-        Ending::Full => say(
-            rt,
-            b"over 1,024 actions would be in the plan after the next move, which is",
-        )?,
+    let next = match ending {
+        Ending::Rest => "the next move would be",
+        Ending::Spent => "1,000 moves are made, and the next would be",
+        Ending::Full => "over 1,024 actions would be in the plan after the next move, which is",
     };
-    say_choice(rt, kind, i)
+    eprintln!(rt; "{next} {}", Shown(choice))
 }
 
 // The same, of a card and a configuration that are judged first.
@@ -337,36 +248,21 @@ fn say_why(
     plan: &Plan,
     ending: Ending,
 ) -> io::Result<()> {
-    let admitted = admit(card, beliefs, goals, m, plan);
-    let Checked::Good(l) = admitted else {
+    let Ok(card) = admit(card, beliefs, goals, m, plan) else {
         return Ok(());
     };
     let mut marks = no_marks();
-    judge_nodes(card, l, beliefs, goals, &mut marks);
-    say_next(rt, card, l, *goals, m, plan, &marks, ending)
+    judge_nodes(&card, beliefs, goals, &mut marks);
+    say_next(rt, &card, *goals, m, plan, &marks, ending)
 }
 
-// What is left where a run ended: the goals, the plan, and the next move or why there is none.
-fn say_left(
-    rt: HostRuntime,
-    card: &[u8],
-    l: Layout,
-    beliefs: &Set,
-    goals: &Set,
-    m: Standing,
-    plan: &Plan,
-    ending: Ending,
-) -> io::Result<()> {
-    say_goals(rt, l, *goals)?;
-    say_plan(rt, m.length, plan[0])?;
-    say_why(rt, card, beliefs, goals, m, plan, ending)
-}
+// ---- the run
 
-// The last line of a run, and what is left. Where there are step lines, what their numbers are.
+// The last line of a run, and what is left: the goals, the plan, and the next move or why there is none. Where there are step
+// lines, what their numbers are.
 fn ended(
     rt: HostRuntime,
     card: &[u8],
-    l: Layout,
     beliefs: &Set,
     goals: &Set,
     m: Standing,
@@ -376,79 +272,71 @@ fn ended(
 ) -> io::Result<()> {
     last_line(rt, ending, count)?;
     if 0 < count {
-        say(
-            rt,
-            b"select 0 is selection 0, act 0 is specification 0 (not action 0), revise 0 is revision 0\n",
+        eprintln!(rt;
+            "select 0 is selection 0, act 0 is specification 0 (not action 0), revise 0 is revision 0"
         )?;
     }
-    say_left(rt, card, l, beliefs, goals, m, plan, ending)
+    say_goals(rt, *goals)?;
+    say_plan(rt, m.length, plan[0])?;
+    say_why(rt, card, beliefs, goals, m, plan, ending)
 }
 
-// ---- the run
-
-// The run with budget 1,000, a move of the guide's own at a time, and a line for each.
-fn steps(rt: HostRuntime, card: &[u8], l: Layout, start: Configuration) -> io::Result<()>
-    requires { GoodLayout l card.now }
-{
-    let mind = start.mind;
-    let mut beliefs = mind.beliefs;
-    let mut goals = mind.goals;
+// The run with budget 1,000, a move of the guide's own at a time, and a line for each: "Step lines: count, kind, number, plan
+// length after, plan weight after."
+fn steps(rt: HostRuntime, card: &Card, start: Configuration) -> io::Result<()> {
+    let Mind {
+        mut beliefs,
+        mut goals,
+        length,
+        phase,
+        finished,
+    } = start.mind;
     let mut plan = start.plan;
     let mut m = Standing {
-        length: mind.length,
-        phase: mind.phase,
-        finished: mind.finished,
+        length,
+        phase,
+        finished,
     };
-    let mut count: u16 = 0;
-    while count < 1000 {
-        let made = advance_once(card, &mut beliefs, &mut goals, m, &mut plan);
-        let step = made.step;
-        let transition = step.transition;
-        match transition {
-            Transition::Taken(kind, number) => {
-                let after = step.standing;
-                m = after;
-                count += 1;
-                let weight = plan_weight(card, l, &plan, after.length as usize);
-                step_line(rt, count, kind, number, after.length, weight)?;
+    for count in 0..1000u16 {
+        let step = advance_once(card.bytes, &mut beliefs, &mut goals, m, &mut plan).step;
+        let ending = match step.transition {
+            Transition::Taken(choice) => {
+                m = step.standing;
+                let weight = plan_weight(card, &plan, m.length as usize);
+                println!(rt; "{} {} {} {weight}", count + 1, Shown(choice), m.length)?;
+                continue;
             }
-            Transition::Nothing => {
-                return ended(rt, card, l, &beliefs, &goals, m, &plan, Ending::Rest, count);
-            }
-            Transition::Full => {
-                return ended(rt, card, l, &beliefs, &goals, m, &plan, Ending::Full, count);
-            }
-        }
+            Transition::Nothing => Ending::Rest,
+            Transition::Full => Ending::Full,
+        };
+        return ended(rt, card.bytes, &beliefs, &goals, m, &plan, ending, count);
     }
-    let ending = Ending::Spent;
-    ended(rt, card, l, &beliefs, &goals, m, &plan, ending, count)
+    ended(
+        rt,
+        card.bytes,
+        &beliefs,
+        &goals,
+        m,
+        &plan,
+        Ending::Spent,
+        1000,
+    )
 }
 
 // The lines of an accepted card.
-fn show_run(rt: HostRuntime, card: &[u8], l: Layout) -> io::Result<()>
-    requires { GoodLayout l card.now }
-{
-    let loaded = guide::load(card);
-    let graded = guide::grade(card);
-    let verdict = graded.verdict;
-    first_line(rt, card.len(), verdict)?;
-    let start = loaded.configuration;
-    let mind = start.mind;
-    let goals = mind.goals;
-    say_doubts(rt, verdict, goals)?;
-    steps(rt, card, l, start)
+fn show_run(rt: HostRuntime, card: &Card) -> io::Result<()> {
+    let start = guide::load(card.bytes).configuration;
+    let verdict = guide::grade(card.bytes).verdict;
+    first_line(rt, card.bytes.len(), verdict)?;
+    say_doubts(rt, verdict, start.mind.goals)?;
+    steps(rt, card, start)
 }
 
 // A card's lines: "A refused card prints only "refused" and its number."
 fn show(rt: HostRuntime, card: &[u8]) -> io::Result<()> {
-    let checked = check(card);
-    match checked {
-        Checked::Good(l) => show_run(rt, card, l),
-        Checked::Refused(refusal) => {
-            write(rt, b"refused")?;
-            also(rt, refusal_number(refusal) as u64)?;
-            end(rt, b"")
-        }
+    match accept(card) {
+        Ok(card) => show_run(rt, &card),
+        Err(refusal) => println!(rt; "refused {}", refusal_number(refusal)),
     }
 }
 

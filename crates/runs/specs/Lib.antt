@@ -1,4 +1,5 @@
 pub mod Limits
+pub mod Kinds
 pub mod Order
 pub mod Step
 pub mod Run

@@ -1,5 +1,13 @@
-// Document 01's part: the words in which it speaks of a run's end and of a card's grade. It holds no code.
+// Document 01's part: the words in which it speaks of a choice's kind, of a run's end and of a card's grade. It holds no code.
 #![tactic(auto)]
+
+// 01, "A configuration and its transitions": "the kind (0 selection, 1 action, 2 revision)".
+#[derive(Clone, Copy)]
+pub enum Kind {
+    Selection,
+    Action,
+    Revision,
+}
 
 // 01, "A configuration and its transitions": "one of three endings".
 #[derive(Clone, Copy)]

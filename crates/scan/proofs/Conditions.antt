@@ -12,7 +12,11 @@ use lib.Dec.{eqb}
 use lib.ListN.{length, get_or}
 use Rattle.meaning.specs.Card.{Bytes}
 use Rattle.notation.specs.Scanning.{ScanState, rest, number, unit, after, when, step, accepts}
-use Rattle.scan.specs.Scans.{scan_from, Scans, operator, behind_last, ConditionOver}
+use Rattle.std.proofs.Common.{Result, Ok, Err}
+use Rattle.std.specs.Result.{IsErrAnd}
+use Rattle.scan.specs.declared.scan.Wrong.{Wrong}
+use Rattle.scan.specs.declared.condition.Opened.{Opened}
+use Rattle.scan.specs.Scans.{scan_from, Scans, UnitOver, operator, behind_last, ConditionOver}
 use Rattle.scan.proofs.Scanning.{scan_on, scan_wrong, scan_short, up, alike, short_alike}
 
 module _ (t : Bytes) (n : ℕ) (w : Bytes) (k : ScanState) where
@@ -39,13 +43,16 @@ module _ (t : Bytes) (n : ℕ) (w : Bytes) (k : ScanState) where
     unfolding step
     unit_T e i = at_byte 84 e (unit i w k) (after i w k) refl
 
-    pub unit_B : x ≡ 66 → (i : ℕ) → scan_from t n (unit i w k) ≡ scan_from t (n + 1) (number (after i w k))
+    unit_B : x ≡ 66 → (i : ℕ) → scan_from t n (unit i w k) ≡ scan_from t (n + 1) (number (after i w k))
     unfolding step
     unit_B e i = at_byte 66 e (unit i w k) (number (after i w k)) refl
 
-    pub unit_G : x ≡ 71 → (i : ℕ) → scan_from t n (unit i w k) ≡ scan_from t (n + 1) (number (after i w k))
+    unit_G : x ≡ 71 → (i : ℕ) → scan_from t n (unit i w k) ≡ scan_from t (n + 1) (number (after i w k))
     unfolding step
     unit_G e i = at_byte 71 e (unit i w k) (number (after i w k)) refl
+
+    pub unit_number : (x ≡ 66) ⊎ (x ≡ 71) → (i : ℕ) → scan_from t n (unit i w k) ≡ scan_from t (n + 1) (number (after i w k))
+    unit_number e i = ⊎_elim (λ e. unit_B e i) (λ e. unit_G e i) e
 
     pub unit_not : x ≡ 33 → (i : ℕ) → scan_from t n (unit i w k) ≡ scan_from t (n + 1) (unit i w k)
     unfolding step
@@ -85,20 +92,12 @@ module _ (t : Bytes) (n : ℕ) (w : Bytes) (k : ScanState) where
     unfolding step
     condition_over a b = alike t n (after 0 w k) (rest (32 ∷ w) k) h (λ j. when (ne_eqb x 38 a j) (unit 0 w k) (when (ne_eqb x 124 b j) (unit 0 w k) (when (eqb x 32) (rest w k) none)))
 
--- "B" or "G"
-pub either_letter : (y : ℕ) → (eqb y 66 || eqb y 71) ≡ true → (y ≡ 66) ⊎ (y ≡ 71)
-either_letter y e = go (eqb y 66) refl
-  where
-    go : (b : Bool) → eqb y 66 ≡ b → (y ≡ 66) ⊎ (y ≡ 71)
-    go true f = inl (eqb-true y 66 f)
-    go false f = inr (eqb-true y 71 (sym (ap (λ b. b || eqb y 71) f) ∙ e))
+-- ---- it went wrong in a unit
 
-pub neither_letter : (y : ℕ) → (eqb y 66 || eqb y 71) ≡ false → (y ≡ 66 → ⊥) × (y ≡ 71 → ⊥)
-neither_letter y e = go (eqb y 66) refl
-  where
-    go : (b : Bool) → eqb y 66 ≡ b → (y ≡ 66 → ⊥) × (y ≡ 71 → ⊥)
-    go true f = absurd (false≢true (sym e ∙ ap (λ b. b || eqb y 71) f))
-    go false f = (eqb-false y 66 f, eqb-false y 71 (sym (ap (λ b. b || eqb y 71) f) ∙ e))
+pub unit_failed : (t : Bytes) (at brackets : ℕ) (r : Result Opened Wrong) (e : Wrong) → IsErrAnd r (λ y. y ≡ e)
+    → ((w : Bytes) (k : ScanState) → scan_from t at (unit brackets w k) ≡ some e.at) → UnitOver t at brackets r
+unit_failed t at brackets (Ok o) e q f = absurd q
+unit_failed t at brackets (Err y) e q f = λ w k. f w k ∙ ap (λ (x : Wrong). some x.at) (sym q)
 
 -- ---- behind the last unit
 

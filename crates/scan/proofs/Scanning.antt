@@ -1,30 +1,24 @@
 -- A scan from a place of a text on: over the next byte, where there is none, and over the parts of a line.
-use mathlib.Core.Path.{◌≡◌, refl, ap, sym, ◌∙◌, subst}
-use mathlib.Core.Bool.{Bool, true, false}
+use mathlib.Core.Path.{◌≡◌, refl, ap, sym, ◌∙◌}
+use mathlib.Core.Bool.{Bool, true, false, ◌&&◌, and-eq-true_iff}
 use mathlib.Core.List.{[], ◌∷◌}
 use mathlib.Core.Option.{Option, none, some}
 use Prim.Native.Nat.{ℕ, zero, suc, ◌+◌, ◌≤◌, ◌<◌}
 use native.Mathlib.Omega.{arith}
-use borrow.Author.Tests.{ne_eqb, eq-eqb}
+use borrow.Author.Tests.{ne_eqb, eq-eqb, eqb-true, eqb-false}
+use native.Mathlib.Decide.{dec_le}
+use Rattle.paper.proofs.Relation.{false≢true}
+use Rattle.notation.specs.Values.{list_goes_on}
+use Rattle.conditions.proofs.Numbers.{drop_none}
 use lib.Dec.{eqb}
 use lib.ListN.{length, drop, get_or}
+use lib.Seq.{drop-cons}
 use Rattle.meaning.specs.Card.{Bytes}
 use Rattle.notation.specs.Scanning.{ScanState, rest, number, digits, list, spaced, list_end, spaced_end, end, remark, digit, when, step, accepts, later, at-end, next, judge}
-use Rattle.scan.specs.declared.scan.Scan.{Scan}
+use Rattle.scan.specs.declared.scan.Wrong.{Wrong}
+use Rattle.std.proofs.Common.{Result, Ok, Err}
+use Rattle.std.specs.Result.{IsErrAnd}
 use Rattle.scan.specs.Scans.{from_there, scan_from, Scans, ListOver}
-
--- ---- bytes
-
-pub drop-cons : (t : Bytes) (n : ℕ) → n < length t → drop n t ≡ get_or t n 0 ∷ drop (suc n) t
-drop-cons [] n h = absurd (omega arith)
-drop-cons (x ∷ t) zero h = refl
-drop-cons (x ∷ t) (suc n) h = drop-cons t n (omega arith)
-
-pub drop_none : (t : Bytes) (n : ℕ) → n ≡ length t → drop n t ≡ []
-drop_none [] zero e = refl
-drop_none [] (suc n) e = absurd (omega arith)
-drop_none (x ∷ t) zero e = absurd (omega arith)
-drop_none (x ∷ t) (suc n) e = drop_none t n (omega arith)
 
 -- ---- the next byte
 
@@ -36,7 +30,7 @@ module _ (t : Bytes) (n : ℕ) (q : ScanState) where
   -- what the next byte comes to
   scan_byte : n < length t → scan_from t n q ≡ from_there n (next (step q (get_or t n 0)) (judge (drop (suc n) t)))
   unfolding judge
-  scan_byte h = ap (λ s. from_there n (judge s q)) (drop-cons t n h)
+  scan_byte h = ap (λ s. from_there n (judge s q)) (drop-cons t n 0 h)
 
   pub scan_on : (q' : ScanState) → n < length t → step q (get_or t n 0) ≡ some q' → scan_from t n q ≡ scan_from t (suc n) q'
   scan_on q' h e = scan_byte h ∙ ap (λ o. from_there n (next o (judge (drop (suc n) t)))) e ∙ one_on (judge (drop (suc n) t) q')
@@ -63,7 +57,7 @@ module _ (t w : Bytes) (n i : ℕ) (k : ScanState) where
   module _ (more : i < length w) where
     -- at its next byte
     here : rest (drop i w) k ≡ rest (get_or w i 0 ∷ drop (suc i) w) k
-    here = ap (λ v. rest v k) (drop-cons w i more)
+    here = ap (λ v. rest v k) (drop-cons w i 0 more)
 
     pub word_short : n ≡ length t → scan_from t n (rest (drop i w) k) ≡ some n
     unfolding accepts
@@ -152,22 +146,18 @@ module _ (t : Bytes) (n : ℕ) (k : ScanState) where
   unfolding step
   end_hash h e = alike t n (end k) hashed h (ap (λ b. when b k (when (eqb (get_or t n 0) 32) (rest (35 ∷ []) (remark k)) none)) (ne_eqb _ _ e))
 
+-- ---- it went wrong in a part
+
+pub failed : (t : Bytes) (n : ℕ) (A h : ScanState → ScanState) (r : Result ℕ Wrong) (e : Wrong) → IsErrAnd r (λ y. y ≡ e) → ((k : ScanState) → scan_from t n (A k) ≡ some e.at) → Scans t n A h r
+failed t n A h (Ok m) e q f = absurd q
+failed t n A h (Err y) e q f = λ k. f k ∙ ap (λ (x : Wrong). some x.at) (sym q)
+
 -- ---- parts one behind the other: B is scanned from m on, and A from n on comes to it
 
-module _ (t : Bytes) (B g : ScanState → ScanState) (m : ℕ) (r : Scan) (s : Scans t m B g r) where
-  pub passed : (i : ℕ) → r ≡ Scan.At i → (m ≤ i) × (i ≤ length t) × ((k : ScanState) → scan_from t m (B k) ≡ scan_from t i (g k))
-  passed i e = subst (Scans t m B g) e s
-
-  module _ (n : ℕ) (A h f : ScanState → ScanState) (a : (k : ScanState) → scan_from t n (A k) ≡ scan_from t m (B (f k))) where
-    pub failed : (p : ℕ) → r ≡ Scan.Wrong p → Scans t n A h r
-    failed p e = subst (Scans t n A h) (sym e) (λ k. a k ∙ subst (Scans t m B g) e s (f k))
-
-    pub chained : n ≤ m → ((k : ScanState) → g (f k) ≡ h k) → Scans t n A h r
-    chained p q = go r s
-      where
-        go : (r : Scan) → Scans t m B g r → Scans t n A h r
-        go (Scan.At i) b = (let z = b.0 in omega arith, b.1, λ k. a k ∙ b.2 (f k) ∙ ap (scan_from t i) (q k))
-        go (Scan.Wrong p) b = λ k. a k ∙ b (f k)
+module _ (t : Bytes) (B g : ScanState → ScanState) (m : ℕ) (n : ℕ) (A h f : ScanState → ScanState) (a : (k : ScanState) → scan_from t n (A k) ≡ scan_from t m (B (f k))) where
+  pub chained : (r : Result ℕ Wrong) → Scans t m B g r → n ≤ m → ((k : ScanState) → g (f k) ≡ h k) → Scans t n A h r
+  chained (Ok i) b p q = (let z = b.0 in omega arith, b.1, λ k. a k ∙ b.2 (f k) ∙ ap (scan_from t i) (q k))
+  chained (Err e) b p q = λ k. a k ∙ b (f k)
 
 -- ---- lists
 
@@ -256,19 +246,53 @@ module _ (t : Bytes) (n : ℕ) where
         )
 
         -- and a digit
-        pub list_on : digit z ≡ true → (c : ℕ) (w : Bytes) (k : ScanState) → scan_from t n (list (c ∷ w) k) ≡ scan_from t (n + 1 + 1) (digits (list (c ∷ w) k))
+        pub list_on : digit z ≡ true → (c : ℕ) (w : Bytes) (k : ScanState) → scan_from t n (list (c ∷ w) k) ≡ scan_from t (n + 2) (digits (list (c ∷ w) k))
         unfolding step
         list_on d c w k =
             list_spaced (c ∷ w) k
             ∙ scan_on t (suc n) (spaced (c ∷ w) k) (digits (list (c ∷ w) k)) l (λ i. when (d i) (digits (list (c ∷ w) k)) (when (eqb z c) (rest w k) none))
-            ∙ (let p : suc (suc n) ≡ n + 1 + 1 = omega arith in λ j. scan_from t (p j) (digits (list (c ∷ w) k)))
+            ∙ (let p : suc (suc n) ≡ n + 2 = omega arith in λ j. scan_from t (p j) (digits (list (c ∷ w) k)))
 
-        pub list_end_on : digit z ≡ true → (k : ScanState) → scan_from t n (list_end k) ≡ scan_from t (n + 1 + 1) (digits (list_end k))
+        pub list_end_on : digit z ≡ true → (k : ScanState) → scan_from t n (list_end k) ≡ scan_from t (n + 2) (digits (list_end k))
         unfolding step
         list_end_on d k =
             ends_spaced k
             ∙ scan_on t (suc n) (spaced_end k) (digits (list_end k)) l (λ i. when (d i) (digits (list_end k)) (when (eqb z 35) (remark k) none))
-            ∙ (let p : suc (suc n) ≡ n + 1 + 1 = omega arith in λ j. scan_from t (p j) (digits (list_end k)))
+            ∙ (let p : suc (suc n) ≡ n + 2 = omega arith in λ j. scan_from t (p j) (digits (list_end k)))
+
+-- whether a space and a digit come
+pub goes_here : (t : Bytes) (n : ℕ) → list_goes_on (drop n t) ≡ true → (suc n < length t) × (get_or t n 0 ≡ 32) × (digit (get_or t (suc n) 0) ≡ true)
+goes_here [] zero e = absurd (false≢true e)
+goes_here [] (suc n) e = absurd (false≢true e)
+goes_here (x ∷ []) zero e = absurd (false≢true e)
+goes_here (x ∷ (y ∷ t)) zero e =
+    let both = (and-eq-true_iff (eqb x 32) (digit y)).0 e in
+    (omega arith, eqb-true x 32 both.0, both.1)
+goes_here (x ∷ t) (suc n) e = let r = goes_here t n e in let l = r.0 in (omega arith, r.1, r.2)
+
+goes_not : (t : Bytes) (n : ℕ) → list_goes_on (drop n t) ≡ false → suc n < length t → get_or t n 0 ≡ 32 → digit (get_or t (suc n) 0) ≡ false
+goes_not [] n e l s = absurd (omega arith)
+goes_not (x ∷ []) n e l s = absurd (omega arith)
+goes_not (x ∷ (y ∷ t)) zero e l s = sym (ap (λ b. b && digit y) (eq-eqb x 32 s)) ∙ e
+goes_not (x ∷ (y ∷ t)) (suc n) e l s = goes_not (y ∷ t) n e (omega arith) s
+
+pub list_stops : (t : Bytes) (n : ℕ) → n ≤ length t → list_goes_on (drop n t) ≡ false → ListOver t n n
+list_stops t n h e = elim (dec_le (length t) n) [
+  | yes l ↦ list_over t n (omega arith)
+  | no l ↦ within (omega arith)
+]
+  where
+    within : n < length t → ListOver t n n
+    within m = by (eqb (get_or t n 0) 32) refl
+      where
+        by : (b : Bool) → eqb (get_or t n 0) 32 ≡ b → ListOver t n n
+        by false f = list_none t n m (eqb-false _ _ f)
+        by true f =
+            let s = eqb-true (get_or t n 0) 32 f in
+            elim (dec_le (length t) (suc n)) [
+              | yes l ↦ list_last t n m s (omega arith)
+              | no l ↦ list_word t n m s (omega arith) (goes_not t n e (omega arith) s)
+            ]
 
 -- a list that was scanned up to n
 abbrev pub ListTo : Bytes → ℕ → ℕ → Type 0
@@ -280,7 +304,3 @@ ListTo t at n =
 
 pub list_to_over : (t : Bytes) (at n m : ℕ) → ListTo t at n → ListOver t n m → ListOver t at m
 list_to_over t at n m a b = (let p = a.0 in let q = b.0 in omega arith, b.1, (λ c w k. a.2 c w k ∙ b.2 c w k), λ k. a.3 k ∙ b.3 k)
-
--- the code's next place
-pub next_digit : (t : Bytes) (n : ℕ) {b : Bool} → digit (get_or t (n + 1) 0) ≡ b → digit (get_or t (suc n) 0) ≡ b
-next_digit t n e = (let p : suc n ≡ n + 1 = omega arith in λ j. digit (get_or t (p j) 0)) ∙ e

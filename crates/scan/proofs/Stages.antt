@@ -1,106 +1,111 @@
 -- Which line may stand where, by the stage of the text, and what it comes to.
-use mathlib.Core.Path.{◌≡◌, refl, ap, sym, ◌∙◌, subst}
-use mathlib.Core.Bool.{Bool, true, false, ◌&&◌}
+use mathlib.Core.Path.{◌≡◌, refl, ap, sym, ◌∙◌}
+use mathlib.Core.Bool.{false}
 use mathlib.Core.Option.{Option, none, some}
-use Prim.Native.Nat.{ℕ, zero, suc, ◌+◌, ◌-◌, ◌≤◌, ◌<◌}
+use Prim.Native.Nat.{ℕ, ◌+◌, ◌<◌}
 use lib.ListN.{length, get_or}
 use native.Mathlib.Omega.{arith}
 use borrow.Author.Tests.{ne_eqb}
-use lib.Dec.{eqb, leb}
+use lib.Dec.{eqb}
+use mathlib.Core.Logic.{◌⊎◌, ⊎_elim}
+use Rattle.std.proofs.Common.{Result, Ok, Err}
+use Rattle.std.specs.Result.{IsErrAnd}
 use Rattle.meaning.specs.Card.{Bytes}
 use Rattle.notation.specs.Scanning.{Start, first, actions, dos, selects, revises, ending, ScanState, lines, remark, atoms_line, action_line, from_begin, from_revise, from_select, from_do, do_line, select_line, revise_line, begin_line, when, line, step, accepts, at-end, judge}
-use Rattle.scan.specs.declared.scan.Scan.{Scan}
-use Rattle.scan.specs.declared.lines.Line.{Line}
-use Rattle.scan.specs.Scans.{Scans, start_of, staged_as, LineOver, ByLine, KindOver, NextLine, scan_from, from_there}
-use Rattle.scan.proofs.Scanning.{scan_on, scan_wrong, scan_short, up, drop_none}
-
-pub line_do : (s : ℕ) → s ≤ 5 → line (start_of s) 100 ≡ when (leb 1 s && leb s 2) do_line none
-line_do zero h = refl
-line_do (suc zero) h = refl
-line_do (suc (suc zero)) h = refl
-line_do (suc (suc (suc zero))) h = refl
-line_do (suc (suc (suc (suc zero)))) h = refl
-line_do (suc (suc (suc (suc (suc zero))))) h = refl
-line_do (suc (suc (suc (suc (suc (suc n)))))) h = absurd (omega arith)
-
-pub line_select : (s : ℕ) → s ≤ 5 → line (start_of s) 115 ≡ when (leb 1 s && leb s 3) select_line none
-line_select zero h = refl
-line_select (suc zero) h = refl
-line_select (suc (suc zero)) h = refl
-line_select (suc (suc (suc zero))) h = refl
-line_select (suc (suc (suc (suc zero)))) h = refl
-line_select (suc (suc (suc (suc (suc zero))))) h = refl
-line_select (suc (suc (suc (suc (suc (suc n)))))) h = absurd (omega arith)
-
-pub line_revise : (s : ℕ) → s ≤ 5 → line (start_of s) 114 ≡ when (leb 1 s && leb s 4) revise_line none
-line_revise zero h = refl
-line_revise (suc zero) h = refl
-line_revise (suc (suc zero)) h = refl
-line_revise (suc (suc (suc zero))) h = refl
-line_revise (suc (suc (suc (suc zero)))) h = refl
-line_revise (suc (suc (suc (suc (suc zero))))) h = refl
-line_revise (suc (suc (suc (suc (suc (suc n)))))) h = absurd (omega arith)
-
-pub line_begin : (s : ℕ) → s ≤ 5 → line (start_of s) 98 ≡ when (leb 1 s && leb s 4) begin_line none
-line_begin zero h = refl
-line_begin (suc zero) h = refl
-line_begin (suc (suc zero)) h = refl
-line_begin (suc (suc (suc zero))) h = refl
-line_begin (suc (suc (suc (suc zero)))) h = refl
-line_begin (suc (suc (suc (suc (suc zero))))) h = refl
-line_begin (suc (suc (suc (suc (suc (suc n)))))) h = absurd (omega arith)
-
-module _ (t : Bytes) (at : ℕ) where
-  -- a line that was scanned
-  pub staged_over : (L : ScanState → ScanState) (s : ℕ) → s ≤ 5 → (r : Scan) → Scans t at L (λ k. k) r → LineOver t at (L (lines (start_of s))) (staged_as r s)
-  staged_over L s h (Scan.At m) b = (b.0, b.1, h, b.2 (lines (start_of s)))
-  staged_over L s h (Scan.Wrong p) b = b (lines (start_of s))
-
-  module _ (x stage : ℕ) (q : ScanState) (b : Bool) (may : line (start_of stage) x ≡ when b q none) where
-    pub kind_there : b ≡ true → (r : Line) → LineOver t at q r → KindOver t at x stage r
-    kind_there e r h = subst (λ o. ByLine t at o r) (sym (may ∙ ap (λ b. when b q none) e)) h
-
-    pub kind_wrong : b ≡ false → KindOver t at x stage (Line.Wrong (at - 1))
-    kind_wrong e = subst (λ o. ByLine t at o (Line.Wrong (at - 1))) (sym (may ∙ ap (λ b. when b q none) e)) refl
-
--- an atoms line stands first, and an action line behind it
-pub line_a : (s : ℕ) → 2 ≤ s → line (start_of s) 97 ≡ none
-line_a zero h = absurd (omega arith)
-line_a (suc zero) h = absurd (omega arith)
-line_a (suc (suc zero)) h = refl
-line_a (suc (suc (suc zero))) h = refl
-line_a (suc (suc (suc (suc zero)))) h = refl
-line_a (suc (suc (suc (suc (suc n))))) h = refl
-
-pub a_wrong : (t : Bytes) (at s : ℕ) → 2 ≤ s → KindOver t at 97 s (Line.Wrong (at - 1))
-a_wrong t at s h = subst (λ o. ByLine t at o (Line.Wrong (at - 1))) (sym (line_a s h)) refl
+use Rattle.scan.specs.declared.scan.Wrong.{Wrong}
+use Rattle.scan.specs.declared.lines.Stage.{Stage}
+use Rattle.scan.specs.declared.lines.Staged.{Staged}
+use Rattle.scan.specs.Scans.{Scans, start_of, NextLine, found, scan_from, from_there}
+use Rattle.scan.proofs.Scanning.{scan_on, scan_wrong, scan_short, up}
+use Rattle.conditions.proofs.Numbers.{drop_none}
 
 -- ---- the next line
 
-module _ (t : Bytes) (n stage : ℕ) (h : n < length t) where
-  abbrev from : ScanState
-  from = lines (start_of stage)
+pub next_failed : (t : Bytes) (n : ℕ) (stage : Stage) (r : Result Staged Wrong) (e : Wrong) → IsErrAnd r (λ y. y ≡ e) → scan_from t n (lines (start_of stage)) ≡ some e.at → NextLine t n stage r
+next_failed t n stage (Ok x) e q f = absurd q
+next_failed t n stage (Err y) e q f = f ∙ ap (λ (x : Wrong). some x.at) (sym q)
 
-  module _ (y : ℕ) (e : get_or t n 0 ≡ y) where
-    on : (q : ScanState) → step from y ≡ some q → scan_from t n from ≡ scan_from t (n + 1) q
-    on q s = scan_on t n from q h (ap (step from) e ∙ s) ∙ up t n q h q
+module _ (t : Bytes) (n : ℕ) (stage : Stage) (h : n < length t) (y : ℕ) (e : get_or t n 0 ≡ y) where
+  pub next_on : (q : ScanState) → step (lines (start_of stage)) y ≡ some q → scan_from t n (lines (start_of stage)) ≡ scan_from t (n + 1) q
+  next_on q s = scan_on t n (lines (start_of stage)) q h (ap (step (lines (start_of stage))) e ∙ s) ∙ up t n q h q
 
-    pub next_on : (q : ScanState) → step from y ≡ some q → (r : Line) → LineOver t (n + 1) q r → NextLine t n stage r
-    next_on q s (Line.At m i) b = (let a = b.0 in omega arith, b.1, b.2, on q s ∙ b.3)
-    next_on q s (Line.Wrong p) b = on q s ∙ b
+  pub next_none : step (lines (start_of stage)) y ≡ none → scan_from t n (lines (start_of stage)) ≡ some n
+  next_none s = scan_wrong t n (lines (start_of stage)) h (ap (step (lines (start_of stage))) e ∙ s)
 
-    -- by its kind
-    pub next_kind : step from y ≡ line (start_of stage) y → (r : Line) → KindOver t (n + 1) y stage r → NextLine t n stage r
-    next_kind s r b = go (line (start_of stage) y) refl b
-      where
-        go : (o : Option ScanState) → line (start_of stage) y ≡ o → ByLine t (n + 1) o r → NextLine t n stage r
-        go none f g = subst (NextLine t n stage) (sym g) (scan_wrong t n from h (ap (step from) e ∙ s ∙ f) ∙ ap some (let z : n ≡ n + 1 - 1 = omega arith in z))
-        go (some q) f g = next_on q (s ∙ f) r g
+  pub next_over : (L : ScanState → ScanState) (s : Stage) → step (lines (start_of stage)) y ≡ some (L (lines (start_of s)))
+      → (m : ℕ) → Scans t (n + 1) L (λ k. k) (Ok m) → NextLine t n stage (Ok (record { at = m; stage = s }))
+  next_over L s g m b = (let a = b.0 in omega arith, b.1, next_on (L (lines (start_of s))) g ∙ b.2 (lines (start_of s)))
 
-  -- an empty line
-  pub next-empty : get_or t n 0 ≡ 10 → stage ≤ 5 → NextLine t n stage (Line.At (n + 1) stage)
-  unfolding step
-  next-empty e l = (omega arith, omega arith, l, on 10 e from refl)
+-- ---- which line may stand where
+
+pub atoms : (s : Stage) → s ≡ Stage.First → step (lines (start_of s)) 97 ≡ some atoms_line
+unfolding step
+atoms s e = ap (λ (x : Stage). step (lines (start_of x)) 97) e
+
+pub action : (s : Stage) → s ≡ Stage.Actions → step (lines (start_of s)) 97 ≡ some action_line
+unfolding step
+action s e = ap (λ (x : Stage). step (lines (start_of x)) 97) e
+
+pub a_wrong : (s : Stage) → (s ≡ Stage.First → ⊥) → (s ≡ Stage.Actions → ⊥) → step (lines (start_of s)) 97 ≡ none
+unfolding step
+a_wrong Stage.First a b = absurd (a refl)
+a_wrong Stage.Actions a b = absurd (b refl)
+a_wrong Stage.Dos a b = refl
+a_wrong Stage.Selects a b = refl
+a_wrong Stage.Revises a b = refl
+a_wrong Stage.Ending a b = refl
+
+pub do_wrong : (s : Stage) → (s ≡ Stage.Actions → ⊥) → (s ≡ Stage.Dos → ⊥) → step (lines (start_of s)) 100 ≡ none
+unfolding step
+do_wrong Stage.First a b = refl
+do_wrong Stage.Actions a b = absurd (a refl)
+do_wrong Stage.Dos a b = absurd (b refl)
+do_wrong Stage.Selects a b = refl
+do_wrong Stage.Revises a b = refl
+do_wrong Stage.Ending a b = refl
+
+pub select_wrong : (s : Stage) → (s ≡ Stage.Actions → ⊥) → (s ≡ Stage.Dos → ⊥) → (s ≡ Stage.Selects → ⊥) → step (lines (start_of s)) 115 ≡ none
+unfolding step
+select_wrong Stage.First a b c = refl
+select_wrong Stage.Actions a b c = absurd (a refl)
+select_wrong Stage.Dos a b c = absurd (b refl)
+select_wrong Stage.Selects a b c = absurd (c refl)
+select_wrong Stage.Revises a b c = refl
+select_wrong Stage.Ending a b c = refl
+
+pub do_stage : (s : Stage) → (s ≡ Stage.Actions) ⊎ (s ≡ Stage.Dos) → step (lines (start_of s)) 100 ≡ some do_line
+unfolding step
+do_stage s = ⊎_elim (λ e. ap (λ (x : Stage). step (lines (start_of x)) 100) e) (λ e. ap (λ (x : Stage). step (lines (start_of x)) 100) e)
+
+pub select_stage : (s : Stage) → (s ≡ Stage.Actions) ⊎ ((s ≡ Stage.Dos) ⊎ (s ≡ Stage.Selects)) → step (lines (start_of s)) 115 ≡ some select_line
+unfolding step
+select_stage s =
+    ⊎_elim (λ e. ap (λ (x : Stage). step (lines (start_of x)) 115) e)
+    (⊎_elim (λ e. ap (λ (x : Stage). step (lines (start_of x)) 115) e) (λ e. ap (λ (x : Stage). step (lines (start_of x)) 115) e))
+
+pub revise : (s : Stage) → (s ≡ Stage.First → ⊥) → (s ≡ Stage.Ending → ⊥) → step (lines (start_of s)) 114 ≡ some revise_line
+unfolding step
+revise Stage.First a b = absurd (a refl)
+revise Stage.Actions a b = refl
+revise Stage.Dos a b = refl
+revise Stage.Selects a b = refl
+revise Stage.Revises a b = refl
+revise Stage.Ending a b = absurd (b refl)
+
+pub begin : (s : Stage) → (s ≡ Stage.First → ⊥) → (s ≡ Stage.Ending → ⊥) → step (lines (start_of s)) 98 ≡ some begin_line
+unfolding step
+begin Stage.First a b = absurd (a refl)
+begin Stage.Actions a b = refl
+begin Stage.Dos a b = refl
+begin Stage.Selects a b = refl
+begin Stage.Revises a b = refl
+begin Stage.Ending a b = absurd (b refl)
+
+pub both_wrong : (s : Stage) → (s ≡ Stage.First) ⊎ (s ≡ Stage.Ending) → (step (lines (start_of s)) 114 ≡ none) × (step (lines (start_of s)) 98 ≡ none)
+unfolding step
+both_wrong s = ⊎_elim
+    (λ e. (ap (λ (x : Stage). step (lines (start_of x)) 114) e, ap (λ (x : Stage). step (lines (start_of x)) 98) e))
+    (λ e. (ap (λ (x : Stage). step (lines (start_of x)) 114) e, ap (λ (x : Stage). step (lines (start_of x)) 98) e))
 
 -- no line begins with another byte
 module _ (x : ℕ) (a : eqb x 97 ≡ false) (d : eqb x 100 ≡ false) (s : eqb x 115 ≡ false) (r : eqb x 114 ≡ false) (b : eqb x 98 ≡ false) where
@@ -124,8 +129,8 @@ module _ (x : ℕ) (a : eqb x 97 ≡ false) (d : eqb x 100 ≡ false) (s : eqb x
   no_line revises = no_revise
   no_line ending = refl
 
-pub next_wrong : (t : Bytes) (n stage : ℕ) → n < length t → (get_or t n 0 ≡ 10 → ⊥) → (get_or t n 0 ≡ 35 → ⊥) → (get_or t n 0 ≡ 97 → ⊥) → (get_or t n 0 ≡ 100 → ⊥)
-    → (get_or t n 0 ≡ 115 → ⊥) → (get_or t n 0 ≡ 114 → ⊥) → (get_or t n 0 ≡ 98 → ⊥) → NextLine t n stage (Line.Wrong n)
+pub next_wrong : (t : Bytes) (n : ℕ) (stage : Stage) → n < length t → (get_or t n 0 ≡ 10 → ⊥) → (get_or t n 0 ≡ 35 → ⊥) → (get_or t n 0 ≡ 97 → ⊥) → (get_or t n 0 ≡ 100 → ⊥)
+    → (get_or t n 0 ≡ 115 → ⊥) → (get_or t n 0 ≡ 114 → ⊥) → (get_or t n 0 ≡ 98 → ⊥) → scan_from t n (lines (start_of stage)) ≡ some n
 unfolding step
 next_wrong t n stage h e f a d s r b =
     let x = get_or t n 0 in
@@ -140,25 +145,29 @@ from_first : (o : Option ℕ) → from_there 0 o ≡ o
 from_first none = refl
 from_first (some p) = ap some (let z : 0 + p ≡ p = omega arith in z)
 
-module _ (t : Bytes) (n stage : ℕ) (so_far : scan_from t 0 (lines first) ≡ scan_from t n (lines (start_of stage))) where
+module _ (t : Bytes) (n : ℕ) (stage : Stage) (so_far : scan_from t 0 (lines first) ≡ scan_from t n (lines (start_of stage))) where
   begins : judge t (lines first) ≡ scan_from t n (lines (start_of stage))
   begins = sym (from_first (judge t (lines first))) ∙ so_far
 
   pub text_wrong : (p : ℕ) → scan_from t n (lines (start_of stage)) ≡ some p → some p ≡ judge t (lines first)
   text_wrong p e = sym (begins ∙ e)
 
-  pub text_over : n ≡ length t → stage ≡ 5 → none ≡ judge t (lines first)
+  pub text_failed : {A : Type 0} (r : Result A Wrong) (e : Wrong) → IsErrAnd r (λ y. y ≡ e) → scan_from t n (lines (start_of stage)) ≡ some e.at → found r ≡ judge t (lines first)
+  text_failed (Ok x) e q f = absurd q
+  text_failed (Err y) e q f = ap (λ (x : Wrong). some x.at) q ∙ text_wrong e.at f
+
+  pub text_over : n ≡ length t → stage ≡ Stage.Ending → none ≡ judge t (lines first)
   unfolding judge accepts
   text_over e f = sym (begins ∙ ap (λ s. from_there n (judge s (lines (start_of stage)))) (drop_none t n e) ∙ ap (λ s. from_there n (at-end (accepts (lines (start_of s))))) f)
 
-  pub text_short : n ≡ length t → stage ≤ 5 → (stage ≡ 5 → ⊥) → some n ≡ judge t (lines first)
+  pub text_short : n ≡ length t → (stage ≡ Stage.Ending → ⊥) → some n ≡ judge t (lines first)
   unfolding accepts
-  text_short e h f = sym (begins ∙ scan_short t n (lines (start_of stage)) e (go stage h f))
+  text_short e f = sym (begins ∙ scan_short t n (lines (start_of stage)) e (go stage f))
     where
-      go : (s : ℕ) → s ≤ 5 → (s ≡ 5 → ⊥) → accepts (lines (start_of s)) ≡ false
-      go zero h f = refl
-      go (suc zero) h f = refl
-      go (suc (suc zero)) h f = refl
-      go (suc (suc (suc zero))) h f = refl
-      go (suc (suc (suc (suc zero)))) h f = refl
-      go (suc (suc (suc (suc (suc m))))) h f = absurd (f (let z : suc (suc (suc (suc (suc m)))) ≡ 5 = omega arith in z))
+      go : (s : Stage) → (s ≡ Stage.Ending → ⊥) → accepts (lines (start_of s)) ≡ false
+      go Stage.First f = refl
+      go Stage.Actions f = refl
+      go Stage.Dos f = refl
+      go Stage.Selects f = refl
+      go Stage.Revises f = refl
+      go Stage.Ending f = absurd (f refl)

@@ -2,7 +2,7 @@
 ghost use Rattle.std.specs.Prelude.{◌≡◌, ◌≤◌, ◌<◌, length, get_or};
 ghost use Rattle.scan.specs.Scans.{operator, behind_last, Opens, LeafOver, Closes, UnitOver, ConditionOver};
 
-use crate::scan::{Scan, scan_number};
+use crate::scan::{Wrong, scan_number};
 
 // A place in a condition, and how many brackets are open there.
 #[derive(Clone, Copy)]
@@ -16,45 +16,39 @@ fn scan_opening(text: &[u8], at: usize, brackets: usize) -> Opened
     requires { (at ≤ length text.now) × (brackets ≤ at) }
     ensures { Opens text.now at brackets result }
 {
-    let mut n = at;
     let mut inside = brackets;
-    while n < text.len() {
-        let x = text[n];
-        if x == 40 {
-            inside += 1;
-            n += 1;
-        } else if x == 33 {
-            n += 1;
-        } else {
-            return Opened {
-                at: n,
-                brackets: inside,
-            };
+    for n in at..text.len() {
+        match text[n] {
+            b'(' => inside += 1,
+            b'!' => {}
+            _ => {
+                return Opened {
+                    at: n,
+                    brackets: inside,
+                };
+            }
         }
     }
     Opened {
-        at: n,
+        at: text.len(),
         brackets: inside,
     }
 }
 
 // ""T" | "B" number | "G" number"
-fn scan_leaf(text: &[u8], at: usize) -> Scan
+fn scan_leaf(text: &[u8], at: usize) -> Result<usize, Wrong>
     requires at_in_bounds { at ≤ length text.now }
     requires fact { at < length text.now → (get_or text.now at 0 ≡ 33 → ⊥) × (get_or text.now at 0 ≡ 40 → ⊥) }
     ensures { LeafOver text.now at result }
 {
     if at == text.len() {
-        return Scan::Wrong(at);
+        return Err(Wrong { at });
     }
-    let x = text[at];
-    if x == 84 {
-        return Scan::At(at + 1);
+    match text[at] {
+        b'T' => Ok(at + 1),
+        b'B' | b'G' => scan_number(text, at + 1),
+        _ => Err(Wrong { at }),
     }
-    if (x == 66) | (x == 71) {
-        return scan_number(text, at + 1);
-    }
-    Scan::Wrong(at)
 }
 
 // "")"", as often as a bracket is open.
@@ -62,97 +56,72 @@ fn scan_closing(text: &[u8], at: usize, brackets: usize) -> Opened
     requires { at ≤ length text.now }
     ensures { Closes text.now at brackets result }
 {
-    let mut n = at;
     let mut inside = brackets;
-    while n < text.len() {
+    for n in at..text.len() {
         if inside == 0 {
             return Opened {
                 at: n,
                 brackets: inside,
             };
         }
-        if text[n] != 41 {
+        if text[n] != b')' {
             return Opened {
                 at: n,
                 brackets: inside,
             };
         }
         inside -= 1;
-        n += 1;
     }
     Opened {
-        at: n,
+        at: text.len(),
         brackets: inside,
     }
 }
 
-// Behind a unit, with how many brackets are open there; or the place of the wrong byte.
-#[derive(Clone, Copy)]
-pub enum UnitScan {
-    At(usize, usize),
-    Wrong(usize),
-}
-
 // "unit", with the brackets that close behind it.
-fn scan_unit(text: &[u8], at: usize, brackets: usize) -> UnitScan
+fn scan_unit(text: &[u8], at: usize, brackets: usize) -> Result<Opened, Wrong>
     requires { (at ≤ length text.now) × (brackets ≤ at) }
     ensures { UnitOver text.now at brackets result }
 {
     let opened = scan_opening(text, at, brackets);
-    let first = opened.at;
-    let inside = opened.brackets;
-    let leaf = scan_leaf(text, first);
-    match leaf {
-        Scan::Wrong(p) => UnitScan::Wrong(p),
-        Scan::At(n) => {
-            let closed = scan_closing(text, n, inside);
-            UnitScan::At(closed.at, closed.brackets)
-        }
-    }
+    let n = scan_leaf(text, opened.at)?;
+    Ok(scan_closing(text, n, opened.brackets))
 }
 
 // ""&" | "|""
 fn is_operator(x: u8) -> bool
     ensures { result ≡ operator x }
 {
-    (x == 38) | (x == 124)
+    (x == b'&') | (x == b'|')
 }
 
 // Behind the last unit: every bracket is closed, or the byte there is wrong.
-fn behind_last(at: usize, brackets: usize) -> Scan
-    ensures { result ≡ behind_last at brackets }
+fn behind_last(last: Opened) -> Result<usize, Wrong>
+    ensures { result ≡ behind_last last.at last.brackets }
 {
-    if brackets == 0 {
-        Scan::At(at)
+    if last.brackets == 0 {
+        Ok(last.at)
     } else {
-        Scan::Wrong(at)
+        Err(Wrong { at: last.at })
     }
 }
 
 // "condition = or-list"
-pub fn scan_condition(text: &[u8], at: usize) -> Scan
+pub fn scan_condition(text: &[u8], at: usize) -> Result<usize, Wrong>
     requires { at ≤ length text.now }
     ensures { ConditionOver text.now at result }
 {
     let mut n = at;
-    let mut brackets: usize = 0;
+    let mut brackets = 0;
     loop {
-        let unit = scan_unit(text, n, brackets);
-        match unit {
-            UnitScan::Wrong(p) => {
-                return Scan::Wrong(p);
-            }
-            UnitScan::At(m, inside) => {
-                if m == text.len() {
-                    return behind_last(m, inside);
-                }
-                if is_operator(text[m]) {
-                    n = m + 1;
-                    brackets = inside;
-                } else {
-                    return behind_last(m, inside);
-                }
-            }
+        let unit = scan_unit(text, n, brackets)?;
+        if unit.at == text.len() {
+            return behind_last(unit);
         }
+        if !is_operator(text[unit.at]) {
+            return behind_last(unit);
+        }
+        n = unit.at + 1;
+        brackets = unit.brackets;
     }
 }

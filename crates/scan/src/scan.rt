@@ -1,100 +1,88 @@
 // A scan of a text: "17 text, with the place of the first byte that no continuation could make right (the length, if it just
 // ends)". One byte ahead is always enough, and a count of open brackets.
-ghost use Rattle.std.specs.Prelude.{◌≤◌, length};
+ghost use Rattle.std.specs.Prelude.{◌≤◌, length, Ok};
 ghost use Rattle.notation.specs.Scanning.{rest, number, digits, end, remark};
-ghost use Rattle.scan.specs.declared.scan.Scan.{Scan};
 ghost use Rattle.scan.specs.Scans.{place_of, Scans, ListOver};
 
-use conditions::number::is_digit;
+use conditions::number::{goes_on, is_digit};
 
-// Behind a part of the text, or the place of the wrong byte.
+// The place of the first byte that no continuation could make right.
 #[derive(Clone, Copy)]
-pub enum Scan {
-    At(usize),
-    Wrong(usize),
+pub struct Wrong {
+    pub at: usize,
 }
 
-// The bytes of a word.
-pub fn scan_word(text: &[u8], at: usize, word: &[u8]) -> Scan
+// The bytes of a word: the place behind it, as in each scan of a part.
+pub fn scan_word(text: &[u8], at: usize, word: &[u8]) -> Result<usize, Wrong>
     requires { at ≤ length text.now }
     ensures { Scans text.now at (rest word.now) (λ k. k) result }
 {
     let mut n = at;
-    let mut i: usize = 0;
-    while i < word.len() {
+    for x in word {
         if n == text.len() {
-            return Scan::Wrong(n);
+            return Err(Wrong { at: n });
         }
-        if text[n] != word[i] {
-            return Scan::Wrong(n);
+        if text[n] != *x {
+            return Err(Wrong { at: n });
         }
         n += 1;
-        i += 1;
     }
-    Scan::At(n)
+    Ok(n)
 }
 
 // "{ digit }": the place of the first byte that is none.
 fn scan_digits(text: &[u8], at: usize) -> usize
     requires { at ≤ length text.now }
-    ensures { Scans text.now at digits (λ k. k) (Scan.At result) }
+    ensures { Scans text.now at digits (λ k. k) (Ok result) }
 {
-    let mut n = at;
-    while n < text.len() {
-        if is_digit(text[n]) {
-            n += 1;
-        } else {
+    for n in at..text.len() {
+        if !is_digit(text[n]) {
             return n;
         }
     }
-    n
+    text.len()
 }
 
 // "number = digit { digit }"
-pub fn scan_number(text: &[u8], at: usize) -> Scan
+pub fn scan_number(text: &[u8], at: usize) -> Result<usize, Wrong>
     requires { at ≤ length text.now }
     ensures { (at ≤ place_of result) × Scans text.now at number (λ k. k) result }
 {
     if at == text.len() {
-        return Scan::Wrong(at);
+        return Err(Wrong { at });
     }
     if is_digit(text[at]) {
-        Scan::At(scan_digits(text, at + 1))
+        Ok(scan_digits(text, at + 1))
     } else {
-        Scan::Wrong(at)
+        Err(Wrong { at })
     }
 }
 
 // "text LF"
-pub fn scan_remark(text: &[u8], at: usize) -> Scan
+pub fn scan_remark(text: &[u8], at: usize) -> Result<usize, Wrong>
     requires { at ≤ length text.now }
     ensures { Scans text.now at remark (λ k. k) result }
 {
-    let mut n = at;
-    while n < text.len() {
-        if text[n] == 10 {
-            return Scan::At(n + 1);
+    for n in at..text.len() {
+        if text[n] == b'\n' {
+            return Ok(n + 1);
         }
-        n += 1;
     }
-    Scan::Wrong(n)
+    Err(Wrong { at: text.len() })
 }
 
 // "end = LF | " #" text LF"
-pub fn scan_end(text: &[u8], at: usize) -> Scan
+pub fn scan_end(text: &[u8], at: usize) -> Result<usize, Wrong>
     requires { at ≤ length text.now }
     ensures { Scans text.now at end (λ k. k) result }
 {
     if at == text.len() {
-        return Scan::Wrong(at);
+        return Err(Wrong { at });
     }
-    if text[at] == 10 {
-        return Scan::At(at + 1);
+    if text[at] == b'\n' {
+        return Ok(at + 1);
     }
-    let hash = scan_word(text, at, b" #");
-    let Scan::At(n) = hash else {
-        return hash;
-    };
+    let n = scan_word(text, at, b" #")?;
     scan_remark(text, n)
 }
 
@@ -104,19 +92,9 @@ pub fn scan_list(text: &[u8], at: usize) -> usize
     ensures { ListOver text.now at result }
 {
     let mut n = at;
-    while n < text.len() {
-        let m = n + 1;
-        if text[n] != 32 {
-            return n;
-        }
-        if m == text.len() {
-            return n;
-        }
-        if is_digit(text[m]) {
-            n = scan_digits(text, m + 1);
-        } else {
-            return n;
-        }
+    // no `for`: each number says where the next one begins
+    while goes_on(text, n) {
+        n = scan_digits(text, n + 2);
     }
     n
 }

@@ -1,6 +1,6 @@
 -- The atoms below a number, as bytes and as members.
-use mathlib.Core.Path.{◌≡◌, refl, sym, ap, ◌∙◌}
-use Prim.Native.Nat.{ℕ, zero, suc, ◌+◌, ◌-◌, ◌*◌, ◌%◌, ◌≤◌, ◌<◌, min}
+use mathlib.Core.Path.{◌≡◌, sym, ap, ◌∙◌}
+use Prim.Native.Nat.{ℕ, ◌+◌, ◌-◌, ◌*◌, ◌%◌, ◌≤◌, ◌<◌, min}
 use native.Mathlib.Nat.{zero-add}
 use lib.Bits.{bit_and, bit_xor, and_mask, and_zero_r, xor_zero_r, xor_self}
 use Rattle.paper.specs.Atoms.{Atoms, ◌∖◌}
@@ -14,21 +14,6 @@ use Rattle.sets.specs.Sets.{low_bits, below}
 pub at_below : (w n i : ℕ) → i < w → get_or (below w n) i 0 ≡ low_bits (n - 8 * i)
 unfolding below
 at_below w n i h = made_at (λ i. low_bits (n - 8 * i)) 0 w i 0 h ∙ ap (λ j. low_bits (n - 8 * j)) (zero-add i)
-
--- a number that is none of the first eight
-pub from_eight : (n : ℕ) → (n ≡ 0 → ⊥) → (n ≡ 1 → ⊥) → (n ≡ 2 → ⊥) → (n ≡ 3 → ⊥) → (n ≡ 4 → ⊥) → (n ≡ 5 → ⊥) → (n ≡ 6 → ⊥) → (n ≡ 7 → ⊥) → 8 ≤ n
-from_eight zero a b c d e f g h = absurd (a refl)
-from_eight (suc zero) a b c d e f g h = absurd (b refl)
-from_eight (suc (suc zero)) a b c d e f g h = absurd (c refl)
-from_eight (suc (suc (suc zero))) a b c d e f g h = absurd (d refl)
-from_eight (suc (suc (suc (suc zero)))) a b c d e f g h = absurd (e refl)
-from_eight (suc (suc (suc (suc (suc zero))))) a b c d e f g h = absurd (f refl)
-from_eight (suc (suc (suc (suc (suc (suc zero)))))) a b c d e f g h = absurd (g refl)
-from_eight (suc (suc (suc (suc (suc (suc (suc zero))))))) a b c d e f g h = absurd (h refl)
-from_eight (suc (suc (suc (suc (suc (suc (suc (suc n)))))))) a b c d e f g h = le_of n
-  where
-    le_of : (m : ℕ) → 8 ≤ suc (suc (suc (suc (suc (suc (suc (suc m)))))))
-    le_of m = omega arith
 
 pub all_eight : (n : ℕ) → 8 ≤ n → 255 ≡ low_bits n
 all_eight n h = let e : min n 8 ≡ 8 = omega arith in rw e

@@ -1,14 +1,16 @@
 -- Row 9's question, byte by byte: a set has no atom at or above n exactly if nothing of it is left without the atoms below n.
 use mathlib.Core.Path.{◌≡◌, refl, ap, ◌∙◌, sym}
 use mathlib.Core.Bool.{Bool, true, false, not, ◌&&◌, and-true, and-false}
-use Prim.Native.Nat.{ℕ, ◌+◌, ◌-◌, ◌*◌, ◌/◌, ◌%◌, ◌^◌, ◌≤◌, ◌<◌}
-use native.Mathlib.Nat.{mod-lt, zero-div}
+use Prim.Native.Nat.{ℕ, zero, suc, min, ◌+◌, ◌-◌, ◌*◌, ◌/◌, ◌%◌, ◌^◌, ◌≤◌, ◌<◌}
+use native.Mathlib.Nat.{mod-lt, zero-div, mul-zero, mul-suc, div-add-mod}
 use native.Mathlib.Decide.{dec_lt}
 use native.Mathlib.Omega.{arith}
-use borrow.Author.Tests.{not-true, eqb-true, eq-eqb, lt-ltb, le-ltb}
+use borrow.Author.Tests.{ne_eqb, not-true, eqb-true, eq-eqb, lt-ltb, le-ltb}
 use lib.Dec.{eqb, ltb}
 use lib.ListN.{length, get_or}
-use lib.Bits.{bit_and, bit_xor, and_le_l, xor_lt}
+use lib.Bits.{bit_and, bit_xor, and_le_l, and_mask, and_self, xor_add_and, xor_lt}
+use lib.Pow.{pow_pos}
+use Rattle.std.proofs.lemmas.Nat.{and_assoc}
 use Rattle.paper.specs.Atoms.{Atoms, bit, ◌∈◌, ◌∖◌}
 use Rattle.paper.specs.Theorems.{AreBytes}
 use Rattle.paper.proofs.Sets.{by_bits, at-∖, length-∖, ∈-∖}
@@ -115,3 +117,19 @@ module _ (w n : ℕ) (s : Atoms) (long : length s ≡ w) where
   asked_from bytes i h l =
       let kept = length-∖ s (below w n) in
       found_below (λ x. eqb x 0) (s ∖ below w n) 0 0 i (let q = long in omega arith) (λ j k. eq-eqb _ 0 (none_below w n s j (omega arith) (bytes j) (omega arith))) refl
+
+-- ---- nothing of a byte is left without its lowest m bits exactly if nothing stands above them
+pub above : (x m : ℕ) → m < 8 → eqb (x / 2 ^ m) 0 ≡ eqb (bit_xor x (bit_and x (low_bits m))) 0
+above x m h =
+    let e : min m 8 ≡ m = omega arith in
+    let k : bit_and x (low_bits m) ≡ x % 2 ^ m = rw e (and_mask x m) in
+    let s = xor_add_and x (bit_and x (low_bits m)) in
+    let i : bit_and x (bit_and x (low_bits m)) ≡ bit_and x (low_bits m) = sym (and_assoc (low_bits m) x x) ∙ ap (λ z. bit_and z (low_bits m)) (and_self x) in
+    let d : 2 ^ m * (x / 2 ^ m) + x % 2 ^ m ≡ x = div-add-mod x (2 ^ m) in
+    let p : 0 < 2 ^ m = pow_pos m in
+    let o : bit_xor x (bit_and x (low_bits m)) ≡ 2 ^ m * (x / 2 ^ m) = omega (arith, k, s, i, d) in
+    rw o (times (2 ^ m) (x / 2 ^ m) p)
+  where
+    times : (p q : ℕ) → 0 < p → eqb q 0 ≡ eqb (p * q) 0
+    times p zero l = rw mul-zero refl
+    times p (suc q) l = ne_eqb (suc q) 0 (λ z. omega arith) ∙ sym (ne_eqb (p * suc q) 0 (λ z. omega (arith, mul-suc p q)))

@@ -4,3 +4,4 @@ pub mod KnownAtoms
 pub mod Members
 pub mod Zeros
 pub mod Ones
+pub mod Together

@@ -7,7 +7,9 @@ use native.Mathlib.Nat.{add-zero, zero-add, mod-lt}
 use native.Mathlib.Numerals.{add-one}
 use native.Mathlib.Decide.{dec_lt}
 use native.Mathlib.Omega.{arith}
-use lib.Count.{ones, ones_step, ones-le}
+use lib.Count.{ones, ones_step, ones-le, ones_cat}
+use Rattle.std.specs.Int.{from_le_bytes}
+use mir.Syntax.{w64}
 use lib.Dec.{eqb}
 use lib.ListN.{length, get_or, take, drop, drop_of_length-le}
 use lib.Seq.{take-add, drop-cons}
@@ -127,3 +129,23 @@ word_of s i h =
   where
     after : (j n : ℕ) → j < 8 → ones_of (take (suc n) (drop (i + j) s)) ≡ ones (get_or s (i + j) 0) + ones_of (take n (drop (i + suc j) s))
     after j n l = let e : i + j + 1 ≡ i + suc j = omega arith in ones_first s (i + j) n (omega arith) ∙ ap (λ k. ones (get_or s (i + j) 0) + ones_of (take n (drop k s))) e
+
+-- the number that a word's bytes are, low byte first, has the ones of all of them
+pub ones_word : (a b c d e f g h : ℕ) → a < 256 → b < 256 → c < 256 → d < 256 → e < 256 → f < 256 → g < 256
+    → ones (from_le_bytes w64 (a ∷ b ∷ c ∷ d ∷ e ∷ f ∷ g ∷ h ∷ [])) ≡ ones a + ones b + (ones c + ones d) + (ones e + ones f + (ones g + ones h))
+ones_word a b c d e f g h la lb lc ld le lf lg =
+    let x6 = h * 256 + g in
+    let x5 = x6 * 256 + f in
+    let x4 = x5 * 256 + e in
+    let x3 = x4 * 256 + d in
+    let x2 = x3 * 256 + c in
+    let x1 = x2 * 256 + b in
+    let x0 : from_le_bytes w64 (a ∷ b ∷ c ∷ d ∷ e ∷ f ∷ g ∷ h ∷ []) ≡ x1 * 256 + a = omega arith in
+    let o0 = ap ones x0 ∙ ones_cat 8 x1 a la in
+    let o1 = ones_cat 8 x2 b lb in
+    let o2 = ones_cat 8 x3 c lc in
+    let o3 = ones_cat 8 x4 d ld in
+    let o4 = ones_cat 8 x5 e le in
+    let o5 = ones_cat 8 x6 f lf in
+    let o6 = ones_cat 8 h g lg in
+    omega (arith, o0, o1, o2, o3, o4, o5, o6)

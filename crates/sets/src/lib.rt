@@ -1,13 +1,12 @@
 // Sets of atoms, 32 bytes by value: "atom k is bit (k modulo 8) of byte (k divided by 8)" (document 01).
 #![tactic(auto)]
 
-ghost use Rattle.std.specs.Prelude.{◌≡◌, ◌+◌, ◌/◌, ◌≤◌, ◌<◌, length, take, drop};
+ghost use Rattle.std.specs.Prelude.{◌≡◌, ℕ, ◌+◌, ◌/◌, ◌≤◌, ◌<◌, length, take, drop, slice_index};
 ghost use Rattle.paper.specs.Atoms.{◌∈◌, ◌∪◌, ◌∖◌};
-ghost use Rattle.std.specs.Int.Count.{ones};
 ghost use Rattle.meaning.specs.Looking.{size};
 ghost use Rattle.meaning.specs.Sizes.{edition2_set, most_atoms};
 ghost use Rattle.meaning.specs.Refusals.{set_good, both_good};
-ghost use Rattle.sets.specs.Sets.{is_empty, low_bits, with_member};
+ghost use Rattle.sets.specs.Sets.{is_empty, with_member};
 ghost use Rattle.sets.specs.Ones.{ones_of};
 
 use meaning::Set;
@@ -32,8 +31,36 @@ pub fn add_member(s: &mut [u8], k: usize)
     requires { k / 8 < length s.old }
     ensures { s.new ≡ with_member k s.old }
 {
-    let at = k / 8;
-    s[at] = s[at] | (1u8 << (k % 8));
+    s[k / 8] |= 1u8 << (k % 8);
+}
+
+// Each byte of t is put together with the byte of s that stands where it does, which becomes what f says.
+fn put_together<F: Fn(u8, u8) -> u8>(s: &mut [u8], t: &[u8], f: F)
+    requires room { length t.now ≤ length s.old }
+    requires callable { F.IsAlwaysCallable f }
+    ensures len { length s.new ≡ length s.old }
+    ensures each { (i : ℕ) → i < length t.now → F.post f (slice_index s.old i) (slice_index t.now i) (slice_index s.new i) }
+    ensures rest { (i : ℕ) → length t.now ≤ i → slice_index s.new i ≡ slice_index s.old i }
+{
+    for i in 0..t.len() {
+        s[i] = f(s[i], t[i]);
+    }
+}
+
+// What t has joins s in place.
+pub fn add(s: &mut [u8], t: &[u8])
+    requires { length t.now ≤ length s.old }
+    ensures { s.new ≡ s.old ∪ t.now }
+{
+    put_together(s, t, |x, y| x | y);
+}
+
+// And leaves it.
+pub fn remove(s: &mut [u8], t: &[u8])
+    requires { length t.now ≤ length s.old }
+    ensures { s.new ≡ s.old ∖ t.now }
+{
+    put_together(s, t, |x, y| x & !y);
 }
 
 // The atoms of a and those of b.
@@ -41,11 +68,7 @@ pub fn union(a: Set, b: Set) -> Set
     ensures { result ≡ a ∪ b }
 {
     let mut r = a;
-    let mut i = 0;
-    while i < 32 {
-        r[i] = a[i] | b[i];
-        i += 1;
-    }
+    add(&mut r, &b);
     r
 }
 
@@ -54,29 +77,8 @@ pub fn difference(a: Set, b: Set) -> Set
     ensures { result ≡ a ∖ b }
 {
     let mut r = a;
-    let mut i = 0;
-    while i < 32 {
-        r[i] = a[i] ^ (a[i] & b[i]);
-        i += 1;
-    }
+    remove(&mut r, &b);
     r
-}
-
-// The lowest n bits of a byte; all eight from eight on.
-fn low_bits(n: usize) -> u8
-    ensures { result ≡ low_bits n }
-{
-    match n {
-        0 => 0,
-        1 => 1,
-        2 => 3,
-        3 => 7,
-        4 => 15,
-        5 => 31,
-        6 => 63,
-        7 => 127,
-        _ => 255,
-    }
 }
 
 // Whether every byte from one on is zero: the bits of all of them are gathered, and looked at once.
@@ -85,10 +87,8 @@ pub fn zeros_from(s: &[u8], from: usize) -> bool
     ensures { result ≡ is_empty (drop from s.now) }
 {
     let mut bits: u8 = 0;
-    let mut i: usize = from;
-    while i < s.len() {
-        bits = bits | s[i];
-        i += 1;
+    for x in &s[from..] {
+        bits |= *x;
     }
     bits == 0
 }
@@ -100,10 +100,10 @@ pub fn known(s: Set, atoms: usize) -> bool
 {
     let i = atoms / 8;
     if 32 <= i {
-        return true;
+        true
+    } else {
+        (s[i] >> (atoms % 8) == 0) & zeros_from(&s, i + 1)
     }
-    let unknown = s[i] ^ (s[i] & low_bits(atoms % 8));
-    (unknown == 0) & zeros_from(&s, i + 1)
 }
 
 // Whether a and b both have only atoms below a number.
@@ -114,35 +114,22 @@ pub fn both_known(a: Set, b: Set, atoms: usize) -> bool
     known(union(a, b), atoms)
 }
 
-// Two bytes as one number of two bytes: its ones are theirs.
-fn pair(lo: u8, hi: u8) -> u16
-    ensures { ones result ≡ ones lo + ones hi }
-{
-    (hi as u16) * 256 + (lo as u16)
-}
-
-// Two such numbers as one of four bytes.
-fn four(lo: u16, hi: u16) -> u32
-    ensures { ones result ≡ ones lo + ones hi }
-{
-    (hi as u32) * 65536 + (lo as u32)
-}
-
-// Two such numbers as one word of eight bytes.
-fn word(lo: u32, hi: u32) -> u64
-    ensures { ones result ≡ ones lo + ones hi }
-{
-    (hi as u64) * 4294967296 + (lo as u64)
-}
-
 // The ones of a word of a set, its eight bytes from byte i on.
 fn word_ones(s: &Set, i: usize) -> u32
-    requires { (i + 8 ≤ 32) × (length s.now ≡ 32) }
+    requires { i + 8 ≤ 32 }
     ensures { result ≡ ones_of (take 8 (drop i s.now)) }
 {
-    let low = four(pair(s[i], s[i + 1]), pair(s[i + 2], s[i + 3]));
-    let high = four(pair(s[i + 4], s[i + 5]), pair(s[i + 6], s[i + 7]));
-    u64::count_ones(word(low, high))
+    let word = [
+        s[i],
+        s[i + 1],
+        s[i + 2],
+        s[i + 3],
+        s[i + 4],
+        s[i + 5],
+        s[i + 6],
+        s[i + 7],
+    ];
+    u64::from_le_bytes(word).count_ones()
 }
 
 // How many atoms are in s: "ones counted per word of the goal set".
@@ -150,10 +137,8 @@ pub fn size(s: Set) -> u16
     ensures { result ≡ size s }
 {
     let mut n: u32 = 0;
-    let mut i: usize = 0;
-    while i < 32 {
-        n += word_ones(&s, i);
-        i += 8;
+    for word in 0..4 {
+        n += word_ones(&s, 8 * word);
     }
     n as u16
 }

@@ -1,7 +1,7 @@
 -- The truth values and the set stand for each other, over any number of bytes.
 use mathlib.Core.Path.{◌≡◌, refl, ap, ◌∙◌, sym}
 use mathlib.Core.Bool.{Bool, true, false}
-use mathlib.Core.List.{List, [], map}
+use mathlib.Core.List.{List, []}
 use Prim.Native.Nat.{ℕ, zero, suc, ◌+◌, ◌*◌, ◌/◌, ◌%◌, ◌^◌, ◌<◌}
 use native.Mathlib.Nat.{zero-add, add-zero, mod-lt, pow-suc}
 use native.Mathlib.Decide.{dec_lt, ℕ_discrete}
@@ -22,7 +22,7 @@ use Rattle.meaning.proofs.Looking.{many_yes, many_no, many_both}
 use Rattle.sets.specs.Sets.{with_member, Passing}
 use Rattle.sets.proofs.Members.{passing_below}
 use Rattle.unpacked.specs.Truths.{values, bits_from, packed, StandForEachOther}
-use Rattle.unpacked.proofs.Filling.{Filled, filled_all}
+use lib.Seq.{ext_get_or}
 
 -- ---- one byte
 
@@ -118,9 +118,8 @@ unfolding values
 value_at s k h = made_at (λ k. k ∈ s) 0 (8 * length s) k false h ∙ ap (λ j. j ∈ s) (zero-add k)
 
 -- truth values, one an atom, that tell of each whether it is in a set are the values of that set
-pub values_are : (s : Atoms) (v : List Bool) (n : ℕ) → length s ≡ n → Filled false (λ k. k ∈ s) (8 * n) (8 * n) v → v ≡ values s
-unfolding values
-values_are s v n l g = filled_all g ∙ ap (λ i. map (λ k. k ∈ s) (numbers 0 (8 * i))) (sym l)
+pub values_are : (s : Atoms) (v : List Bool) → length v ≡ 8 * length s → ((k : ℕ) → k < 8 * length s → get_or v k false ≡ (k ∈ s)) → v ≡ values s
+values_are s v l h = ext_get_or false v (values s) (l ∙ sym (length-values s)) (λ k b. (let c : k < 8 * length s = omega arith in h k c ∙ sym (value_at s k c)))
 
 -- a set comes back from its truth values
 pub packed_values : (n : ℕ) (s : Atoms) → length s ≡ n → AreBytes s → packed n (values s) ≡ s
@@ -144,6 +143,6 @@ module _ (t : ℕ → Bool) (k : ℕ) where
 pub stand_for_each_other : StandForEachOther
 stand_for_each_other = record {
   back = λ s b. packed_values (length s) s refl b;
-  forth = λ n v l. sym (values_are (packed n v) v n (length_packed n v) (record { long = l; holds = λ k h. sym (member_packed n v l k) }));
+  forth = λ n v l. sym (values_are (packed n v) v (l ∙ ap (λ m. 8 * m) (sym (length_packed n v))) (λ k h. sym (member_packed n v l k)));
   each = member_packed;
 }

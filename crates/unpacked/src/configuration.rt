@@ -18,18 +18,22 @@ pub struct Unpacked {
 pub fn unpack(c: Configuration) -> Unpacked
     ensures { configuration_from result ≡ c }
 {
-    let m = c.mind;
-    let beliefs = m.beliefs;
-    let goals = m.goals;
-    let plan = c.plan;
+    let Configuration { mind, plan } = c;
+    let Mind {
+        beliefs,
+        goals,
+        length,
+        phase,
+        finished,
+    } = mind;
     Unpacked {
         beliefs: unpack_set(beliefs),
         goals: unpack_set(goals),
-        plan: plan,
+        plan,
         standing: Standing {
-            length: m.length,
-            phase: m.phase,
-            finished: m.finished,
+            length,
+            phase,
+            finished,
         },
     }
 }
@@ -38,18 +42,20 @@ pub fn unpack(c: Configuration) -> Unpacked
 pub fn pack(u: Unpacked) -> Configuration
     ensures { result ≡ configuration_from u }
 {
-    let m = u.standing;
-    let beliefs = u.beliefs;
-    let goals = u.goals;
-    let plan = u.plan;
+    let Unpacked {
+        beliefs,
+        goals,
+        plan,
+        standing,
+    } = u;
     Configuration {
         mind: Mind {
             beliefs: pack_set(beliefs),
             goals: pack_set(goals),
-            length: m.length,
-            phase: m.phase,
-            finished: m.finished,
+            length: standing.length,
+            phase: standing.phase,
+            finished: standing.finished,
         },
-        plan: plan,
+        plan,
     }
 }

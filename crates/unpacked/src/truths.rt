@@ -6,6 +6,7 @@ ghost use Rattle.meaning.specs.Sizes.{edition2_set};
 ghost use Rattle.unpacked.specs.Truths.{values, packed};
 ghost use Rattle.unpacked.specs.Tables.{Holds};
 
+use crate::tables::table;
 use meaning::Set;
 
 // One truth value an atom.
@@ -22,13 +23,7 @@ pub fn none_true() -> Truths
 pub fn unpack_set(s: Set) -> Truths
     ensures { result ≡ values s }
 {
-    let mut truths = none_true();
-    let mut k: usize = 0;
-    while k < 256 {
-        truths[k] = sets::has_member(&s, k);
-        k += 1;
-    }
-    truths
+    table(false, 256, |k| sets::has_member(&s, k))
 }
 
 // The set of truth values: atom k is in it where its value is true.
@@ -36,12 +31,10 @@ pub fn pack_set(truths: Truths) -> Set
     ensures { result ≡ packed edition2_set truths }
 {
     let mut s = [0u8; 32];
-    let mut k: usize = 0;
-    while k < 256 {
+    for k in 0..256 {
         if truths[k] {
             sets::add_member(&mut s, k);
         }
-        k += 1;
     }
     s
 }
@@ -51,12 +44,10 @@ pub fn count_true(truths: Truths) -> usize
     ensures { result ≡ how_many (λ k. get_or truths k false) (numbers 0 256) }
 {
     let mut n: usize = 0;
-    let mut k: usize = 0;
-    while k < 256 {
+    for k in 0..256 {
         if truths[k] {
             n += 1;
         }
-        k += 1;
     }
     n
 }
@@ -65,24 +56,12 @@ pub fn count_true(truths: Truths) -> usize
 pub fn act_on(beliefs: Truths, add: Truths, del: Truths) -> Truths
     ensures { Holds false (λ k. (get_or beliefs k false || get_or add k false) && not (get_or del k false)) 256 result }
 {
-    let mut after = none_true();
-    let mut k: usize = 0;
-    while k < 256 {
-        after[k] = (beliefs[k] | add[k]) & !del[k];
-        k += 1;
-    }
-    after
+    table(false, 256, |k| (beliefs[k] | add[k]) & !del[k])
 }
 
 // "the goals are those not believed"
 pub fn strike(goals: Truths, beliefs: Truths) -> Truths
     ensures { Holds false (λ k. get_or goals k false && not (get_or beliefs k false)) 256 result }
 {
-    let mut after = none_true();
-    let mut k: usize = 0;
-    while k < 256 {
-        after[k] = goals[k] & !beliefs[k];
-        k += 1;
-    }
-    after
+    table(false, 256, |k| goals[k] & !beliefs[k])
 }

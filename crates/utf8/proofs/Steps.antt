@@ -6,11 +6,12 @@ use Prim.Native.Nat.{ℕ, zero, suc, ◌+◌, ◌-◌, ◌≤◌, ◌<◌}
 use native.Mathlib.Omega.{arith}
 use borrow.Author.Tests.{le-leb, lt-leb, leb-true, eq-eqb, ne_eqb, eqb-true}
 use lib.Dec.{leb, eqb}
-use lib.ListN.{length, take, drop, get_or}
+use lib.ListN.{drop_of_length-le, length, drop, get_or}
+use lib.Seq.{drop-cons}
 use Rattle.paper.specs.Next.{if}
 use Rattle.paper.proofs.Relation.{both, false≢true}
 use Rattle.meaning.proofs.Every.{both_true}
-use Rattle.meaning.specs.Card.{Bytes, part}
+use Rattle.meaning.specs.Card.{Bytes}
 use Rattle.utf8.specs.Grammar.{From}
 use Rattle.utf8.specs.declared.Awaited.{Awaited}
 use Rattle.utf8.specs.Reading.{awaited, never, begins, tails_of, low_of, high_of, behind_first, behind_tail, behind, awaited_behind}
@@ -104,25 +105,13 @@ pub first_not_begun : (x : ℕ) → begins x ≡ false → never ≡ behind_firs
 unfolding behind_first
 first_not_begun x b = sym (ap (λ t. if t (awaited (tails_of x) (low_of x) (high_of x)) never) b)
 
--- ---- a part of bytes, from a place to another
+-- ---- bytes, from a place on
 
-part_cons : (b : Bytes) (at n : ℕ) → at < length b → part b at (suc n) ≡ get_or b at 0 ∷ part b (at + 1) n
-unfolding part
-part_cons b at n h =
-    ap (take (suc n)) (drop-cons b at h)
-    ∙ (let e : suc at ≡ at + 1 = omega arith in ap (λ k. get_or b at 0 ∷ take n (drop k b)) e)
-  where
-    drop-cons : (t : Bytes) (n : ℕ) → n < length t → drop n t ≡ get_or t n 0 ∷ drop (suc n) t
-    drop-cons [] n h = absurd (omega arith)
-    drop-cons (x ∷ t) zero h = refl
-    drop-cons (x ∷ t) (suc n) h = drop-cons t n (omega arith)
+pub rest_on : (s : Bytes) (a : Awaited) (i : ℕ) → i < length s → ends a (drop i s) ≡ ends (behind a (get_or s i 0)) (drop (i + 1) s)
+rest_on s a i h =
+    let e : suc i ≡ i + 1 = omega arith in
+    ap (ends a) (drop-cons s i 0 h ∙ (λ j. get_or s i 0 ∷ drop (e j) s)) ∙ ends_on a (get_or s i 0) (drop (i + 1) s)
 
-pub part_on : (b : Bytes) (a : Awaited) (at to : ℕ) → at < to → to ≤ length b → ends a (part b at (to - at)) ≡ ends (behind a (get_or b at 0)) (part b (at + 1) (to - (at + 1)))
-part_on b a at to h k =
-    let n = to - (at + 1) in
-    let e : to - at ≡ suc n = omega arith in
-    ap (λ m. ends a (part b at m)) e ∙ ap (ends a) (part_cons b at n (omega arith)) ∙ ends_on a (get_or b at 0) (part b (at + 1) n)
-
-pub part_over : (b : Bytes) (a : Awaited) (at to : ℕ) → at ≡ to → ends a (part b at (to - at)) ≡ eqb a.tails 0
-unfolding part awaited_behind
-part_over b a at to h = let e : to - at ≡ 0 = omega arith in ap (λ m. ends a (part b at m)) e
+pub rest_over : (s : Bytes) (a : Awaited) (i : ℕ) → length s ≤ i → ends a (drop i s) ≡ eqb a.tails 0
+unfolding awaited_behind
+rest_over s a i h = ap (ends a) (drop_of_length-le s {i = i} h)

@@ -14,6 +14,20 @@ pub struct Awaited {
     pub high: u8,
 }
 
+// No tail: a character may begin, or the bytes may end.
+const NOTHING: Awaited = Awaited {
+    tails: 0,
+    low: 0x80,
+    high: 0xBF,
+};
+
+// A byte that there is none of, for ever: the bytes are wrong.
+const NEVER: Awaited = Awaited {
+    tails: 1,
+    low: 1,
+    high: 0,
+};
+
 // Whether a character may begin with a byte.
 fn begins(x: u8) -> bool
     ensures { result ≡ begins x }
@@ -26,15 +40,14 @@ fn tails_of(x: u8) -> u8
     ensures { result ≡ tails_of x }
 {
     if x <= 0x7F {
-        return 0;
+        0
+    } else if x <= 0xDF {
+        1
+    } else if x <= 0xEF {
+        2
+    } else {
+        3
     }
-    if x <= 0xDF {
-        return 1;
-    }
-    if x <= 0xEF {
-        return 2;
-    }
-    3
 }
 
 // A bound of a character's second byte, by its first: one for each of two bytes, and one for every other.
@@ -42,12 +55,12 @@ fn bound(x: u8, k: u8, a: u8, m: u8, b: u8, other: u8) -> u8
     ensures { result ≡ Next.if (eqb x k) a (Next.if (eqb x m) b other) }
 {
     if x == k {
-        return a;
+        a
+    } else if x == m {
+        b
+    } else {
+        other
     }
-    if x == m {
-        return b;
-    }
-    other
 }
 
 // What is awaited behind a character's first byte.
@@ -55,13 +68,8 @@ fn behind_first(x: u8) -> Awaited
     ensures { result ≡ behind_first x }
 {
     if x <= 0x7F {
-        return Awaited {
-            tails: 0,
-            low: 0x80,
-            high: 0xBF,
-        };
-    }
-    if begins(x) {
+        NOTHING
+    } else if begins(x) {
         Awaited {
             tails: tails_of(x),
             // lower ones would spell a number that has a shorter form
@@ -70,11 +78,7 @@ fn behind_first(x: u8) -> Awaited
             high: bound(x, 0xED, 0x9F, 0xF4, 0x8F, 0xBF),
         }
     } else {
-        Awaited {
-            tails: 1,
-            low: 1,
-            high: 0,
-        }
+        NEVER
     }
 }
 
@@ -86,15 +90,10 @@ fn behind_tail(a: Awaited, x: u8) -> Awaited
     if (a.low <= x) & (x <= a.high) {
         Awaited {
             tails: a.tails - 1,
-            low: 0x80,
-            high: 0xBF,
+            ..NOTHING
         }
     } else {
-        Awaited {
-            tails: 1,
-            low: 1,
-            high: 0,
-        }
+        NEVER
     }
 }
 
@@ -114,15 +113,9 @@ pub fn utf8_part(bytes: &[u8], from: usize, to: usize) -> bool
     requires { (from ≤ to) × (to ≤ length bytes.now) }
     ensures { result ≡ utf8 (part bytes.now from (to - from)) }
 {
-    let mut a = Awaited {
-        tails: 0,
-        low: 0x80,
-        high: 0xBF,
-    };
-    let mut at = from;
-    while at < to {
-        a = behind(a, bytes[at]);
-        at += 1;
+    let mut a = NOTHING;
+    for x in &bytes[from..to] {
+        a = behind(a, *x);
     }
     a.tails == 0
 }

@@ -1,13 +1,13 @@
 -- Weights, one action after the other and one part of a card after the other.
 use mathlib.Core.Path.{◌≡◌, ap, ◌∙◌, sym, subst}
 use mathlib.Core.List.{List, [], ◌∷◌, ◌++◌, map}
-use Prim.Native.Nat.{ℕ, zero, suc, ◌+◌, ◌*◌, ◌≤◌, ◌<◌}
+use Prim.Native.Nat.{ℕ, zero, suc, ◌+◌, ◌-◌, ◌*◌, ◌≤◌, ◌<◌}
 use native.Mathlib.Nat.{zero-add}
 use native.Mathlib.Numerals.{add-one}
 use native.Mathlib.Decide.{dec_lt}
 use native.Mathlib.Omega.{arith}
 use lib.ListN.{length, get_or, take, drop, drop_of_length-le, get_or-eq_default}
-use lib.Seq.{drop-cons, take-add, drop-drop, length-take-le, get_or-take}
+use lib.Seq.{drop-cons, take-add, drop-drop}
 use Rattle.runs.specs.Weight.{weigh}
 use Rattle.runs.specs.Order.{numbers}
 use Rattle.runs.proofs.Numbers.{length_made, made_at}
@@ -37,6 +37,10 @@ unfolding part
 weigh_part w b at m n =
     ap (weigh w) (take-add m n (drop at b) ∙ ap (λ x. take m (drop at b) ++ take n x) (drop-drop m at b))
     ∙ weigh_append w (take m (drop at b)) (take n (drop (at + m) b))
+
+-- and what the first n weigh is what the first m of them do, with those from there on
+pub weigh_between : (w : ℕ → ℕ) (b : Bytes) (at m n : ℕ) → m ≤ n → weigh w (part b at n) ≡ weigh w (part b at m) + weigh w (part b (at + m) (n - m))
+weigh_between w b at m n h = let e : n ≡ m + (n - m) = omega arith in ap (λ k. weigh w (part b at k)) e ∙ weigh_part w b at m (n - m)
 
 pub weigh_no_part : (w : ℕ → ℕ) (b : Bytes) (at n : ℕ) → n ≡ 0 → weigh w (part b at n) ≡ 0
 unfolding part weigh
@@ -119,13 +123,3 @@ weighable l b g weights e =
       weighs = λ i h. ap (λ w. number_at b (w + 2 * byte b (l.pool.offset + i))) same ∙ sym (weight_known b (byte b (l.pool.offset + i)) (known _ (g.pool i h)));
       light = weight_most l b g;
     }
-
--- the first n actions of a plan that has room for them: one more is weighed
-pub weigh_first : (w : ℕ → ℕ) (π : List ℕ) (n i : ℕ) → n ≤ length π → i < n → weigh w (drop i (take n π)) ≡ w (get_or π i 0) + weigh w (drop (i + 1) (take n π))
-weigh_first w π n i room h =
-    let l : length (take n π) ≡ n = length-take-le n π room in
-    weigh_next w (take n π) i (omega arith) ∙ ap (λ a. w a + weigh w (drop (i + 1) (take n π))) (get_or-take n π i 0 h)
-
--- and all are
-pub weigh_all : (w : ℕ → ℕ) (π : List ℕ) (n i : ℕ) → n ≤ length π → n ≤ i → weigh w (drop i (take n π)) ≡ 0
-weigh_all w π n i room h = let l : length (take n π) ≡ n = length-take-le n π room in weigh_done w (take n π) i (omega arith)

@@ -9,95 +9,101 @@ ghost use Rattle.card.specs.GoodCard.{GoodCard};
 ghost use Rattle.verdict.specs.Summed.{Summed};
 ghost use Rattle.verdict.specs.Verdicts.{plan_weight, revisions_verdict, selections_verdict, graded_with};
 
-use crate::sums::{no_sums, plan_weight, sum};
-use card::check::{answer_of, check};
-use layout::entries::{read_revision, read_selection};
+use crate::sums::{plan_weight, sum};
+use card::check::{accept, answer_of};
+use layout::card::Card;
 use layout::limits::heaviest_plan;
 use layout::sizes::header_bytes;
-use meaning::{Answer, Checked, Layout};
+use meaning::Answer;
 use runs::{Offender, Verdict};
 
 // Whether selection rule i's plan weighs at most 1,024.
-fn selection_light(card: &[u8], l: Layout, sums: &[u32; 257], i: usize) -> bool
-    requires { GoodCard l card.now × Summed l.pool card.now sums.now × (i < l.selections.count) }
-    ensures { result ≡ leb (plan_weight l card.now (selection_at l card.now i).plan) heaviest_plan }
+fn selection_light(card: &Card, sums: &[u32; 257], i: usize) -> bool
+    requires { GoodCard card.now.layout card.now.bytes.now × Summed card.now.layout.pool card.now.bytes.now sums.now × (i < card.now.layout.selections.count) }
+    ensures { result ≡ leb (plan_weight card.now.layout card.now.bytes.now (selection_at card.now.layout card.now.bytes.now i).plan) heaviest_plan }
 {
-    let e = read_selection(card, l, i);
-    let pool = l.pool;
-    plan_weight(card, header_bytes(l), pool, sums, e.plan) <= heaviest_plan()
+    let plan = card.selection(i).plan;
+    plan_weight(
+        card.bytes,
+        header_bytes(card.layout),
+        card.layout.pool,
+        sums,
+        plan,
+    ) <= heaviest_plan()
 }
 
 // Whether revision rule i's body weighs less than its head.
-fn revision_lowers(card: &[u8], l: Layout, sums: &[u32; 257], i: usize) -> bool
-    requires { GoodCard l card.now × Summed l.pool card.now sums.now × (i < l.revisions.count) }
-    ensures { result ≡ ltb (plan_weight l card.now (revision_at l card.now i).body)
-        (plan_weight l card.now (revision_at l card.now i).head) }
+fn revision_lowers(card: &Card, sums: &[u32; 257], i: usize) -> bool
+    requires { GoodCard card.now.layout card.now.bytes.now × Summed card.now.layout.pool card.now.bytes.now sums.now × (i < card.now.layout.revisions.count) }
+    ensures { result ≡ ltb (plan_weight card.now.layout card.now.bytes.now (revision_at card.now.layout card.now.bytes.now i).body)
+        (plan_weight card.now.layout card.now.bytes.now (revision_at card.now.layout card.now.bytes.now i).head) }
 {
-    let e = read_revision(card, l, i);
-    let pool = l.pool;
-    let weights = header_bytes(l);
-    let head = plan_weight(card, weights, pool, sums, e.head);
-    let body = plan_weight(card, weights, pool, sums, e.body);
+    let e = card.revision(i);
+    let weights = header_bytes(card.layout);
+    let head = plan_weight(card.bytes, weights, card.layout.pool, sums, e.head);
+    let body = plan_weight(card.bytes, weights, card.layout.pool, sums, e.body);
     body < head
 }
 
-// The first revision rule that does not lower the weight.
-fn from_revisions(card: &[u8], l: Layout, sums: &[u32; 257]) -> Verdict
-    requires { GoodCard l card.now × Summed l.pool card.now sums.now }
-    ensures { result ≡ revisions_verdict l card.now }
+// The first revision rule that does not lower the weight. The two walks ask another question, name another offender and go on to
+// something else, so one with closures for these is no plainer.
+fn from_revisions(card: &Card, sums: &[u32; 257]) -> Verdict
+    requires { GoodCard card.now.layout card.now.bytes.now × Summed card.now.layout.pool card.now.bytes.now sums.now }
+    ensures { result ≡ revisions_verdict card.now.layout card.now.bytes.now }
 {
-    let section = l.revisions;
-    let n = section.count as usize;
-    let mut i: usize = 0;
-    while i < n {
-        if !revision_lowers(card, l, sums, i) {
+    for i in 0..card.layout.revisions.count as usize {
+        if !revision_lowers(card, sums, i) {
             return Verdict::Open(Offender::Revision(i));
         }
-        i += 1;
     }
     Verdict::Bounded
 }
 
 // The first selection rule whose plan is too heavy; then the revision rules.
-fn from_selections(card: &[u8], l: Layout, sums: &[u32; 257]) -> Verdict
-    requires { GoodCard l card.now × Summed l.pool card.now sums.now }
-    ensures { result ≡ selections_verdict l card.now }
+fn from_selections(card: &Card, sums: &[u32; 257]) -> Verdict
+    requires { GoodCard card.now.layout card.now.bytes.now × Summed card.now.layout.pool card.now.bytes.now sums.now }
+    ensures { result ≡ selections_verdict card.now.layout card.now.bytes.now }
 {
-    let section = l.selections;
-    let n = section.count as usize;
-    let mut i: usize = 0;
-    while i < n {
-        if !selection_light(card, l, sums, i) {
+    for i in 0..card.layout.selections.count as usize {
+        if !selection_light(card, sums, i) {
             return Verdict::Open(Offender::Selection(i));
         }
-        i += 1;
     }
-    from_revisions(card, l, sums)
+    from_revisions(card, sums)
 }
 
 // The initial plan, if it is too heavy; then the selection rules.
-fn from_initial(card: &[u8], l: Layout, sums: &[u32; 257]) -> Verdict
-    requires { GoodCard l card.now × Summed l.pool card.now sums.now }
-    ensures { result ≡ verdict (weight card.now) (agent card.now) (initial_plan card.now) }
+fn from_initial(card: &Card, sums: &[u32; 257]) -> Verdict
+    requires { GoodCard card.now.layout card.now.bytes.now × Summed card.now.layout.pool card.now.bytes.now sums.now }
+    ensures { result ≡ verdict (weight card.now.bytes.now) (agent card.now.bytes.now) (initial_plan card.now.bytes.now) }
 {
-    let initial = l.initial;
-    let pool = l.pool;
-    if plan_weight(card, header_bytes(l), pool, sums, initial) <= heaviest_plan() {
-        from_selections(card, l, sums)
+    if plan_weight(
+        card.bytes,
+        header_bytes(card.layout),
+        card.layout.pool,
+        sums,
+        card.layout.initial,
+    ) <= heaviest_plan()
+    {
+        from_selections(card, sums)
     } else {
         Verdict::Open(Offender::InitialPlan)
     }
 }
 
 // The verdict on an accepted card.
-pub fn judge(card: &[u8], l: Layout) -> Verdict
-    requires { GoodCard l card.now }
-    ensures { result ≡ verdict (weight card.now) (agent card.now) (initial_plan card.now) }
+pub fn judge(card: &Card) -> Verdict
+    requires { GoodCard card.now.layout card.now.bytes.now }
+    ensures { result ≡ verdict (weight card.now.bytes.now) (agent card.now.bytes.now) (initial_plan card.now.bytes.now) }
 {
-    let mut sums = no_sums();
-    let pool = l.pool;
-    sum(card, header_bytes(l), pool, &mut sums);
-    from_initial(card, l, &sums)
+    let mut sums = [0; 257];
+    sum(
+        card.bytes,
+        header_bytes(card.layout),
+        card.layout.pool,
+        &mut sums,
+    );
+    from_initial(card, &sums)
 }
 
 // Of `Graded`: all but the configuration, which is the empty one.
@@ -111,15 +117,15 @@ pub struct GradedInPlace {
 pub fn grade(card: &[u8]) -> GradedInPlace
     ensures { graded_with result empty ≡ grades card.now }
 {
-    let v = check(card);
-    let Checked::Good(l) = v else {
+    let v = accept(card);
+    let Ok(card) = v else {
         return GradedInPlace {
             answer: answer_of(v),
             verdict: Verdict::Open(Offender::InitialPlan),
         };
     };
     GradedInPlace {
-        answer: Answer::Done,
-        verdict: judge(card, l),
+        answer: Ok(()),
+        verdict: judge(&card),
     }
 }

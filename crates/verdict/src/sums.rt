@@ -21,19 +21,10 @@ fn part_weight(card: &[u8], weights: usize, at: usize, n: usize) -> usize
     ensures { result ≡ weigh (weight card.now) (part card.now at n) }
 {
     let mut total: usize = 0;
-    let mut i: usize = 0;
-    while i < n {
+    for i in 0..n {
         total += weight_of(card, weights, card[at + i]);
-        i += 1;
     }
     total
-}
-
-// No sum.
-pub fn no_sums() -> [u32; 257]
-    ensures { result ≡ replicate 257 0 }
-{
-    [0u32; 257]
 }
 
 // The running sums, where there is none yet, in one pass over the pool: what its first 32 actions weigh, its first 64, and so on.
@@ -41,28 +32,15 @@ pub fn sum(card: &[u8], weights: usize, pool: Section, sums: &mut [u32; 257])
     requires { Weighable card.now weights pool.offset pool.count × (sums.old ≡ replicate 257 0) }
     ensures { Summed pool card.now sums.new }
 {
-    let n = (pool.count as usize) / 32;
     let mut total: usize = 0;
-    let mut k: usize = 0;
-    while k < n {
+    for k in 0..pool.count as usize / 32 {
         total += part_weight(card, weights, (pool.offset as usize) + 32 * k, 32);
-        k += 1;
-        sums[k] = total as u32;
+        sums[k + 1] = total as u32;
     }
 }
 
-// The weight of the pool's first n actions, by the running sum before them and the actions behind it.
-fn from_below(card: &[u8], weights: usize, pool: Section, sums: &[u32; 257], n: usize) -> usize
-    requires { Weighable card.now weights pool.offset pool.count × Summed pool card.now sums.now × (n ≤ pool.count) }
-    ensures { result ≡ weigh (weight card.now) (part card.now pool.offset n) }
-{
-    let k = n / 32;
-    let more = part_weight(card, weights, (pool.offset as usize) + 32 * k, n % 32);
-    (sums[k] as usize) + more
-}
-
-// The same, by running sum k behind them, without the actions up to it.
-fn from_above(
+// The weight of the pool's first n actions, by running sum k: with the actions behind it, or without those up to it.
+fn from_sum(
     card: &[u8],
     weights: usize,
     pool: Section,
@@ -71,11 +49,15 @@ fn from_above(
     k: usize,
 ) -> usize
     requires weighable { Weighable card.now weights pool.offset pool.count × Summed pool card.now sums.now }
-    requires n_bound { (n ≤ 32 * k) × (32 * k ≤ pool.count) }
+    requires within { (n ≤ pool.count) × (32 * k ≤ pool.count) }
     ensures { result ≡ weigh (weight card.now) (part card.now pool.offset n) }
 {
-    let less = part_weight(card, weights, (pool.offset as usize) + n, 32 * k - n);
-    (sums[k] as usize) - less
+    let at = pool.offset as usize;
+    if n < 32 * k {
+        (sums[k] as usize) - part_weight(card, weights, at + n, 32 * k - n)
+    } else {
+        (sums[k] as usize) + part_weight(card, weights, at + 32 * k, n - 32 * k)
+    }
 }
 
 // The same, by the nearest running sum: at most 16 actions more or less, but for the pool's last 31.
@@ -83,13 +65,12 @@ fn first_weight(card: &[u8], weights: usize, pool: Section, sums: &[u32; 257], n
     requires { Weighable card.now weights pool.offset pool.count × Summed pool card.now sums.now × (n ≤ pool.count) }
     ensures { result ≡ weigh (weight card.now) (part card.now pool.offset n) }
 {
-    let k = (n + 16) / 32;
-    if n < 32 * k {
-        if 32 * k <= (pool.count as usize) {
-            return from_above(card, weights, pool, sums, n, k);
-        }
+    let nearest = (n + 16) / 32;
+    if 32 * nearest <= pool.count as usize {
+        from_sum(card, weights, pool, sums, n, nearest)
+    } else {
+        from_sum(card, weights, pool, sums, n, n / 32)
     }
-    from_below(card, weights, pool, sums, n)
 }
 
 // The weight of a plan in the pool: of a short one its actions' added up, and of another what the actions up to its end weigh,
@@ -104,7 +85,6 @@ pub fn plan_weight(card: &[u8], weights: usize, pool: Section, sums: &[u32; 257]
     if n <= 32 {
         return part_weight(card, weights, (pool.offset as usize) + start, n);
     }
-    let front = first_weight(card, weights, pool, sums, start);
-    let whole = first_weight(card, weights, pool, sums, start + n);
-    whole - front
+    first_weight(card, weights, pool, sums, start + n)
+        - first_weight(card, weights, pool, sums, start)
 }

@@ -9,6 +9,7 @@ use Prim.Native.Nat.{◌+◌, ◌-◌}
 use native.Mathlib.Omega.{arith}
 use lib.ListN.{length, get_or, take}
 use Rattle.plans.proofs.starts_with.Goals as goal
+use Rattle.plans.proofs.starts_with.Goals.{else-loop-i-test, then-loop-i-test+else-not-same_bytes+else-last-i-gt64}
 
 pub returns-then-len-hlen : goal.returns-then-len-hlen
 returns-then-len-hlen c =
@@ -64,4 +65,9 @@ returns c =
     let b = a.card.now in
     let d = a.plan.now in
     let l = c.loop-i in
-    last_block b d a.hstart a.hlen a.len (omega arith) (omega arith) (omega arith) (a.hstart + (a.hlen - 64)) (a.hlen - 64) 64 l.i refl (omega arith) (omega arith) l.invariant.1 c.same_bytes-2.result c.same_bytes-2.ensures
+    elim c.loop-i-test.branch [
+      | else-loop-i-test w ↦ last_block b d a.hstart a.hlen a.len (omega arith) (omega arith) (omega arith) (a.hstart + (a.hlen - 64)) (a.hlen - 64) 64 l.i refl (omega arith) (omega arith) l.invariant.1 c.same_bytes-2.result c.same_bytes-2.ensures
+      | then-loop-i-test+else-not-same_bytes+else-last-i-gt64 w ↦
+          let m = agree-more b d a.hstart a.hlen a.len (omega arith) (omega arith) (omega arith) (a.hstart + l.i) l.i 64 l.i refl (omega arith) l.invariant.1 (sym w.same_bytes-in-loop-i.ensures ∙ w.if-not-same_bytes.false) in
+          last_block b d a.hstart a.hlen a.len (omega arith) (omega arith) (omega arith) (a.hstart + (a.hlen - 64)) (a.hlen - 64) 64 (l.i + 64) refl (omega arith) (omega arith) m c.same_bytes-2.result c.same_bytes-2.ensures
+    ]

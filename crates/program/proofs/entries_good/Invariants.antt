@@ -3,11 +3,7 @@ use Rattle.card.specs.Marks.{Marks}
 use Rattle.meaning.specs.Refusals.{containing}
 use Rattle.meaning.specs.Card.{Bytes}
 use Rattle.sets.proofs.Loops.{Kept}
-use Prim.Native.Nat.{◌-◌, ◌≤◌}
 use Rattle.program.proofs.entries_good.Given as goal
 
 abbrev pub invariant-loop-i : goal.invariant-loop-i
-invariant-loop-i l = (l.i ≤ l.n) × ((b : Bytes) → Marks 2 l.l b l.marks → Kept (λ i₁. entry_good (containing 2 l.l b) l.l i₁ (entry_of l.program i₁)) l.n l.good l.i)
-
-abbrev pub decreases-loop-i : goal.decreases-loop-i
-decreases-loop-i l = l.n - l.i
+invariant-loop-i l = (b : Bytes) → Marks 2 l.l b l.marks → Kept (λ i. entry_good (containing 2 l.l b) l.l i (entry_of l.program i)) l.n l.good l.i

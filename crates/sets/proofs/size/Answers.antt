@@ -1,38 +1,27 @@
-use mir.Syntax.{w8}
-use mathlib.Core.Path.{refl, ap, ◌∙◌}
-use native.Mathlib.Omega.{arith}
-use borrow.Author.Rules.{elem_Fits}
+use Rattle.std.proofs.Common.{◌≡◌, ◌∙◌, ◌*◌, ◌+◌, ap, arith, rules}
 use lib.Seq.{take_all}
+use Rattle.paper.specs.Theorems.{AreBytes}
 use Rattle.sets.specs.Ones.{ones_of}
 use Rattle.sets.proofs.Ones.{ones_law, ones_more, ones_most}
 use Rattle.sets.proofs.size.Goals as goal
 
-pub loop-i-init : goal.loop-i-init
-loop-i-init c = (omega arith, omega arith, refl, omega arith)
-
-pub word_ones-n-requires : goal.word_ones-n-requires
-word_ones-n-requires c = (omega arith, omega arith)
-
 pub overflow_add-n : goal.overflow_add-n
 overflow_add-n c =
-    let a = c.args in
-    let g = c.well_formed in
-    let l = c.loop-i in
-    let m = ones_most a.s (λ i. (elem_Fits w8 w8 a.s _ i g.0.1.1 tt).fits) 8 l.i in
+    let bytes : AreBytes c.args.s = λ i. search rules in
+    let m = ones_most c.args.s bytes 8 (8 * c.loop-word.word) in
     omega (arith, m)
 
-pub loop-i-preserved : goal.loop-i-preserved
-loop-i-preserved c =
-    let a = c.args in
-    let g = c.well_formed in
-    let l = c.loop-i in
-    let m = ones_most a.s (λ i. (elem_Fits w8 w8 a.s _ i g.0.1.1 tt).fits) 8 l.i in
-    let e = ones_more a.s l.i 8 in
-    (omega arith, omega arith, omega (arith, e), omega (arith, m))
+pub loop-word-preserved : goal.loop-word-preserved
+loop-word-preserved c =
+    let l = c.loop-word in
+    let bytes : AreBytes c.args.s = λ i. search rules in
+    let m = ones_most c.args.s bytes 8 (8 * l.word) in
+    let e = ones_more c.args.s (8 * l.word) 8 in
+    let k : 8 * (l.word + 1) ≡ 8 * l.word + 8 = omega arith in
+    (rw k (omega (arith, e)), omega (arith, m))
 
 pub returns : goal.returns
 returns c =
-    let a = c.args in
-    let g = c.well_formed in
-    let l = c.loop-i in
-    l.invariant.2 ∙ ap ones_of (take_all l.i a.s (omega arith)) ∙ ones_law a.s (λ i. (elem_Fits w8 w8 a.s _ i g.0.1.1 tt).fits)
+    let l = c.loop-word in
+    let bytes : AreBytes c.args.s = λ i. search rules in
+    l.invariant.0 ∙ ap ones_of (take_all (8 * l.word) c.args.s (omega arith)) ∙ ones_law c.args.s bytes

@@ -1,32 +1,18 @@
 use Rattle.meaning.specs.Card.{part}
 use Rattle.utf8.specs.Reading.{utf8}
-use Rattle.utf8.proofs.Steps.{ends, part_on, part_over}
-use mathlib.Core.Path.{◌≡◌, refl, sym, ap, ◌∙◌}
-use Prim.Native.Nat.{◌+◌, ◌-◌}
-use native.Mathlib.Omega.{arith}
+use Rattle.utf8.proofs.Steps.{ends, rest_on, rest_over}
+use Rattle.std.proofs.Common.{◌+◌, ◌-◌, take, drop, sym, ap, ◌∙◌}
 use Rattle.utf8.proofs.utf8_part.Goals as goal
 
-pub loop-at-init : goal.loop-at-init
-loop-at-init c = (omega arith, c.requires.0, refl)
-
-pub loop-at-preserved : goal.loop-at-preserved
-loop-at-preserved c =
-    let B = c.args.bytes.now in
-    let to = c.args.to in
-    let L = c.loop-at in (
-      omega arith,
-      omega arith,
-      ap (λ a. ends a (part B (L.at + 1) (to - (L.at + 1)))) c.behind-a.ensures
-          ∙ sym (part_on B L.a L.at to c.loop-at-test.true c.requires.1)
-          ∙ L.invariant.2,
-    )
+pub loop-x-preserved : goal.loop-x-preserved
+loop-x-preserved c =
+    let a = c.args in
+    let s = take (a.to - a.from) (drop a.from a.bytes.now) in
+    let i = c.loop-x.x-index in
+    ap (λ x. ends x (drop (i + 1) s)) c.behind-a.ensures ∙ sym (rest_on s c.loop-x.a i c.loop-x-test.true) ∙ c.loop-x.invariant
 
 pub returns : goal.returns
-unfolding utf8
+unfolding utf8 part
 returns c =
-    let B = c.args.bytes.now in
-    let to = c.args.to in
-    let L = c.loop-at in
-    let t = c.loop-at-test.false in
-    let e : L.at ≡ to = omega (arith, L.invariant.1) in
-    sym (part_over B L.a L.at to e) ∙ L.invariant.2
+    let a = c.args in
+    sym (rest_over (take (a.to - a.from) (drop a.from a.bytes.now)) c.loop-x.a c.loop-x.x-index c.loop-x-test.false) ∙ c.loop-x.invariant

@@ -1,7 +1,7 @@
 use Rattle.card.proofs.check.answer_of.Goals as goal
 
-pub returns-in-Good : goal.returns-in-Good
-returns-in-Good c = rw c.in-Good.is
+pub returns-in-Ok : goal.returns-in-Ok
+returns-in-Ok g c = rw c.in-Ok.is
 
-pub returns-in-Refused : goal.returns-in-Refused
-returns-in-Refused c = rw c.in-Refused.is
+pub returns-in-Err : goal.returns-in-Err
+returns-in-Err g c = rw c.in-Err.is

@@ -7,19 +7,19 @@ use native.Mathlib.Omega.{arith}
 use Rattle.card.proofs.nodes.nodes_good.Goals as goal
 
 pub loop-i-init : goal.loop-i-init
-loop-i-init c = (omega arith, kept_start _ _)
+loop-i-init c = kept_start _ _
 
 pub loop-i-preserved : goal.loop-i-preserved
 loop-i-preserved c =
     let a = c.args in
     let l = c.loop-i in
-    let t : ℕ → Bool = λ i. node_good a.l.atoms i (node_at a.l a.card.now i) in
-    (omega arith, rw (c.kind_good-kept.ensures, c.read_node-x.ensures) (kept_turn t a.l.nodes.count l.good l.i (omega arith) l.invariant.1))
+    let t : ℕ → Bool = λ i. node_good a.card.now.layout.atoms i (node_at a.card.now.layout a.card.now.bytes.now i) in
+    rw (c.kind_good.ensures, c.node-x.ensures) (kept_turn t a.card.now.layout.nodes.count l.good l.i (omega arith) l.invariant)
 
 pub returns : goal.returns
 unfolding nodes_good
 returns c =
     let a = c.args in
     let l = c.loop-i in
-    let t : ℕ → Bool = λ i. node_good a.l.atoms i (node_at a.l a.card.now i) in
-    kept_all t a.l.nodes.count l.good l.i (omega arith) l.invariant.1
+    let t : ℕ → Bool = λ i. node_good a.card.now.layout.atoms i (node_at a.card.now.layout a.card.now.bytes.now i) in
+    kept_all t a.card.now.layout.nodes.count l.good l.i (omega arith) l.invariant

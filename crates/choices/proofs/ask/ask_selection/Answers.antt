@@ -12,6 +12,6 @@ pub returns : goal.returns
 returns c = λ σ γ j.
     let a = c.args in
     let M = a.marks.now in
-    let e = c.read_selection-e.ensures.0 in
+    let e = c.selection-e.ensures.0 in
     let p = c.both_of.ensures ∙ ap (λ (x : SelectionEntry). both (mark_at M x.belief) (mark_at M x.goal)) e in
-    c.asked_by.ensures ∙ ap (asked_by true (eqb a.m.length 0)) p ∙ asks_selection a.l a.card.now (configured σ γ a.m a.plan.now) (mark_at M) j.ready j.marked a.i c.requires.1
+    c.asked_by.ensures ∙ ap (asked_by true (eqb a.m.length 0)) p ∙ asks_selection a.card.now.layout a.card.now.bytes.now (configured σ γ a.m a.plan.now) (mark_at M) j.ready j.marked a.i c.requires.1

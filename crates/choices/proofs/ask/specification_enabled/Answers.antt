@@ -9,17 +9,17 @@ use lib.Dec.{eqb}
 use lib.ListN.{get_or}
 use Rattle.choices.proofs.ask.specification_enabled.Goals as goal
 
-pub returns-then-e-first : goal.returns-then-e-first
-returns-then-e-first c = λ σ γ j.
+pub returns-then-e-plan : goal.returns-then-e-plan
+returns-then-e-plan c = λ σ γ j.
     let a = c.args in
-    let f = ap (λ (x : SpecificationEntry). eqb x.action (get_or a.plan.now 0 0)) (sym c.read_specification-e.ensures) ∙ ne_eqb _ _ c.if-e-first.true in
-    specification_shut a.l a.card.now (configured σ γ a.m a.plan.now) a.marks.now j a.i c.requires.1 f
+    let f = ap (λ (x : SpecificationEntry). eqb x.action (get_or a.plan.now 0 0)) (sym c.specification-e.ensures) ∙ ne_eqb _ _ c.if-e-plan.true in
+    specification_shut a.card.now.layout a.card.now.bytes.now (configured σ γ a.m a.plan.now) a.marks.now j a.i c.requires.1 f
 
 pub returns : goal.returns
 returns c = λ σ γ j.
     let a = c.args in
     let M = a.marks.now in
-    let q = c.read_specification-e.ensures in
-    let f = ap (λ (x : SpecificationEntry). eqb x.action (get_or a.plan.now 0 0)) (sym q) ∙ eq-eqb _ _ c.if-e-first.false in
+    let q = c.specification-e.ensures in
+    let f = ap (λ (x : SpecificationEntry). eqb x.action (get_or a.plan.now 0 0)) (sym q) ∙ eq-eqb _ _ c.if-e-plan.false in
     ap (λ v. not (eqb a.m.length 0) && v) (c.is_true.ensures ∙ ap (λ (x : SpecificationEntry). (mark_at M x.node).0) q)
-    ∙ specification_by a.l a.card.now (configured σ γ a.m a.plan.now) M j a.i c.requires.1 f
+    ∙ specification_by a.card.now.layout a.card.now.bytes.now (configured σ γ a.m a.plan.now) M j a.i c.requires.1 f

@@ -1,11 +1,8 @@
-use Rattle.conditions.proofs.Units.{byte_over, byte_on}
+use Rattle.conditions.proofs.Units.{byte_on}
 use Prim.Native.Nat.{◌<◌}
 use native.Mathlib.Omega.{arith}
 use lib.ListN.{length}
 use Rattle.conditions.proofs.read.behind_byte.Goals as goal
-
-pub returns-then-at-text : goal.returns-then-at-text
-returns-then-at-text c = (omega arith, (c.requires, byte_over c.args.text.now c.args.at c.if-at-text.true))
 
 pub returns-else-at-text : goal.returns-else-at-text
 returns-else-at-text c =

@@ -1,22 +1,23 @@
 use Rattle.conditions.proofs.Units.{read_T, read_B, read_G}
 use mathlib.Core.Path.{sym, ◌∙◌}
+use native.Mathlib.Omega.{arith}
 use Rattle.conditions.proofs.read.read_leaf.Goals as goal
 
-pub returns-then-x-eq84 : goal.returns-then-x-eq84
-returns-then-x-eq84 c left =
+pub returns-in-84 : goal.returns-in-84
+returns-in-84 c left =
     let a = c.args in
     let put = c.put_node.ensures in
     read_T a.text.now a.at left c.requires.at_in_bounds.0 a.nodes.now a.k c.put_node.new.nodes c.put_node.result
-    c.if-x-eq84.true put.upper_bound (put.nodes_len_2 ∙ sym c.requires.nodes_len.0) put.nodes_after
+    c.in-84.is put.upper_bound (put.nodes_len_2 ∙ sym c.requires.nodes_len.0) put.nodes_after
 
-pub returns-then-x-eq66 : goal.returns-then-x-eq66
-returns-then-x-eq66 c left =
+pub returns-in-66 : goal.returns-in-66
+returns-in-66 c left =
     let a = c.args in
     read_B a.text.now a.at left c.requires.at_in_bounds.0 a.nodes.now a.k c.read_atom.new.nodes
-    c.read_atom.result c.if-x-eq66.true c.read_atom.ensures
+    c.read_atom.result c.in-66.is c.read_atom.ensures
 
-pub returns : goal.returns
-returns c left =
+pub returns-in_default : goal.returns-in_default
+returns-in_default c left =
     let a = c.args in
-    read_G a.text.now a.at left c.requires.at_in_bounds.0 a.nodes.now a.k c.read_atom-2.new.nodes
-    c.read_atom-2.result c.requires.at_in_bounds.1 c.if-x-eq84.false c.if-x-eq66.false c.read_atom-2.ensures
+    read_G a.text.now a.at left c.requires.at_in_bounds.0 a.nodes.now a.k c.read_atom-in_default.new.nodes
+    c.read_atom-in_default.result c.requires.at_in_bounds.1 (omega arith) (omega arith) c.read_atom-in_default.ensures

@@ -1,22 +1,21 @@
-use Rattle.door.proofs.Accepting.{accepted_card}
+use Rattle.deliberate.specs.InPlace.{Admits}
+use Rattle.meaning.specs.Card.{Bytes}
 use Rattle.card.specs.Rows.{answer_of}
 use Rattle.deliberate.proofs.Calling.{admits, admits_not}
-use mathlib.Core.Path.{sym, ap, ◌∙◌}
+use mathlib.Core.Path.{ap, ◌∙◌, subst}
 use Rattle.deliberate.proofs.call.check_program.Goals as goal
 
 pub returns-in_default : goal.returns-in_default
 returns-in_default c =
     let a = c.args in
-    let told = c.in_default.is in
-    admits_not a.card.now a.program.now _ (sym c.check-checked.ensures ∙ told) c.answer_of.result (c.answer_of.ensures ∙ ap answer_of told)
+    admits_not a.card.now a.program.now _ c.in_default.ensures c.answer_of.result (c.answer_of.ensures ∙ ap answer_of c.in_default.is)
 
 pub judge_program-requires : goal.judge_program-requires
-judge_program-requires c =
-    let a = c.args in
-    accepted_card a.card.now _ (sym c.check-checked.ensures ∙ c.in-Good.is)
+judge_program-requires c = c.in-Ok.ensures.good
 
 pub returns : goal.returns
 returns c =
-    let a = c.args in
-    let e = sym c.check-checked.ensures ∙ c.in-Good.is in
-    admits a.card.now a.program.now _ e c.judge_program.result c.judge_program.ensures
+    let p = c.args.program.now in
+    let told = c.in-Ok.ensures in
+    let j = c.judge_program in
+    subst (λ (b : Bytes). Admits b p j.result) told.same (admits _ p _ told.checked j.result j.ensures)

@@ -16,13 +16,20 @@ use Rattle.deliberation.specs.Deliberate.{deliberate, deliberated}
 use Rattle.deliberation.proofs.Room.{stacked_length, good_stacked}
 use Rattle.deliberate.proofs.call.from_configuration.Goals as goal
 
-pub read_layout-l-requires : goal.read_layout-l-requires
-read_layout-l-requires c = has_header c.args.card.now c.requires.0
+pub read_layout-layout-requires : goal.read_layout-layout-requires
+read_layout-layout-requires c = has_header c.args.card.now c.requires.0
+
+pub invariant_of-card : goal.invariant_of-card
+invariant_of-card c =
+    let b = c.args.card.now in
+    let l = c.read_layout-layout in
+    let (e, g) = read_again b c.requires.0 c.args.program.now c.requires.1 l.result l.ensures.0 in
+    record { good = (accepted_card b l.result e).layout }
 
 pub judge_configuration-judged-requires : goal.judge_configuration-judged-requires
 judge_configuration-judged-requires c =
     let b = c.args.card.now in
-    let l = c.read_layout-l in
+    let l = c.read_layout-layout in
     let (e, g) = read_again b c.requires.0 c.args.program.now c.requires.1 l.result l.ensures.0 in
     counted _ _ (accepted_card b l.result e).layout
 
@@ -32,7 +39,7 @@ returns-in_default c =
     let b = a.card.now in
     let p = a.program.now in
     let d = configured a.beliefs.now a.goals.now a.m a.plan.now in
-    let l = c.read_layout-l in
+    let l = c.read_layout-layout in
     let (e, g) = read_again b c.requires.0 p c.requires.1 l.result l.ensures.0 in
     let j = c.judge_configuration-judged in
     let q = c.in_default.is in
@@ -44,22 +51,16 @@ put_numbers-requires c =
     let most = c.requires.1.most in
     omega arith
 
-pub overflow_sub-first : goal.overflow_sub-first
-overflow_sub-first c =
-    let k = stacked_length (good_stacked (entry_count c.args.program.now) c.args.given.now c.requires.2) in
-    let most = c.requires.1.most in
-    omega arith
-
 pub from_moves-requires : goal.from_moves-requires
 from_moves-requires c =
     let a = c.args in
     let b = a.card.now in
-    let l = c.read_layout-l in
+    let l = c.read_layout-layout in
     let (e, g) = read_again b c.requires.0 a.program.now c.requires.1 l.result l.ensures.0 in
     let j = c.judge_configuration-judged in
     let (f, r) = c.put_numbers.ensures in
     record {
-      ready = is_ready b (configured a.beliefs.now a.goals.now a.m a.plan.now) l.result e j.result j.ensures.value c.in-Done.is j.ensures.plan_len;
+      ready = is_ready b (configured a.beliefs.now a.goals.now a.m a.plan.now) l.result e j.result j.ensures.value c.in-Ok.is j.ensures.plan_len;
       good = g;
       remains = given_remains a.program.now _ a.given.now (128 - length a.given.now) f (omega arith) r c.requires.2;
     }
@@ -70,9 +71,9 @@ returns c =
     let b = a.card.now in
     let p = a.program.now in
     let d = configured a.beliefs.now a.goals.now a.m a.plan.now in
-    let l = c.read_layout-l in
+    let l = c.read_layout-layout in
     let (e, g) = read_again b c.requires.0 p c.requires.1 l.result l.ensures.0 in
     let j = c.judge_configuration-judged in
     let all : List ℕ → Deliberated = λ ns. deliberated (deliberate (agent_for l.result b) (conditions 𝐁 l.result b) (entries_of p) a.budget ns (state_of d)) in
-    done_so b p l.result e a.given.now d a.budget a.remaining.now (by_configuration b p l.result e g a.given.now d c.requires.2 j.result j.ensures.value ∙ c.in-Done.is) _
+    done_so b p l.result e a.given.now d a.budget a.remaining.now (by_configuration b p l.result e g a.given.now d c.requires.2 j.result j.ensures.value ∙ c.in-Ok.is) _
     (c.from_moves.ensures ∙ ap all c.put_numbers.ensures.0)

@@ -17,11 +17,6 @@ returns-then-not-numbers_good c =
     let b = a.card.now in
     let p = a.program.now in
     let d = configured a.beliefs.now a.goals.now a.m a.plan.now in
-    let (e, g) = c.check_program-checked.ensures.good c.in-Done.is in
+    let (e, g) = c.check_program-checked.ensures.good c.in-Ok.is in
     let n = sym c.numbers_good.ensures ∙ c.if-not-numbers_good.true in
     refused_so b p a.given.now a.beliefs.now a.goals.now a.m a.plan.now a.budget a.remaining.now _ (by_numbers b p _ e a.given.now d n) _ refl c.refused-then-not-numbers_good.result c.refused-then-not-numbers_good.ensures
-
-pub from_configuration-requires : goal.from_configuration-requires
-from_configuration-requires c =
-    let (e, g) = c.check_program-checked.ensures.good c.in-Done.is in
-    (e, g, sym c.numbers_good.ensures ∙ c.if-not-numbers_good.false)

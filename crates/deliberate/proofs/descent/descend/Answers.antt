@@ -1,6 +1,6 @@
 use Rattle.paper.specs.Atoms.{◌∈◌}
 use Rattle.deliberate.specs.Descent.{Into}
-use Rattle.deliberate.proofs.Descending.{stacked_room, descended_start, descended_turn, next_lower, first_known, one_more}
+use Rattle.deliberate.proofs.Descending.{descended_start, descended_turn, next_lower, first_known, one_more}
 use Rattle.meaning.specs.declared.Node.{Node}
 use Rattle.deliberation.specs.Entries.{entry_of}
 use mathlib.Core.Path.{sym, subst}
@@ -8,14 +8,6 @@ use Prim.Native.Nat.{◌≤◌, ◌<◌}
 use native.Mathlib.Omega.{arith}
 use lib.ListN.{drop}
 use Rattle.deliberate.proofs.descent.descend.Goals as goal
-
-pub read_entry-e-requires : goal.read_entry-e-requires
-read_entry-e-requires c =
-    let h = stacked_room c.requires.1.stacked in
-    let g = c.requires.0.1.1 in
-    let some = g.some in
-    let bytes = g.bytes in
-    omega arith
 
 pub loop-e-init : goal.loop-e-init
 loop-e-init c =
@@ -72,12 +64,3 @@ loop-e-preserved c =
     let k = subst (λ (x : Node). Into x (x.a ∈ a.movable.now) (drop l.rest l.stack) r.result.at (drop r.result.top then)) l.invariant.1 r.ensures.into in
     let (h, s, f) = r.ensures.top_le_top in
     (descended_turn ly b p g (λ j. j ∈ a.movable.now) a.from a.top a.stack.now l.stack l.at l.rest l.invariant.0 then r.result.at r.result.top k h s f, c.read_entry-e-in-loop-e.ensures)
-
-pub returns : goal.returns
-returns c =
-    let l = c.loop-e in
-    let d = l.invariant.0 in
-    let n : l.e.kind < 5 = (let t = c.loop-e-test.false in omega arith) in record {
-      down = d.down;
-      at_leaf = (record { entry = l.invariant.1; leaf = n; stacked = d.stack }, d.rising, d.kept);
-    }

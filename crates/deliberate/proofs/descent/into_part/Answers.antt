@@ -34,8 +34,8 @@ returns-then-has_member c =
       top_le_top = (omega arith, s, refl);
     }
 
-pub returns : goal.returns
-returns c =
+pub returns-else-has_member : goal.returns-else-has_member
+returns-else-has_member c =
     let a = c.args in
     let (h, m, _, _, _, s) = c.requires in
     let six : a.e.kind ≡ 6 = (let t = c.if-e-eq5.false in omega arith) in

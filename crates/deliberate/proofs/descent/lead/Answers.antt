@@ -1,5 +1,5 @@
 use Rattle.deliberate.specs.Descent.{Into, first_of}
-use Rattle.deliberate.proofs.Descending.{pushed, stacked_room, descended_start, descended_turn, first_known, one_more}
+use Rattle.deliberate.proofs.Descending.{pushed, descended_start, descended_turn, first_known, one_more}
 use Rattle.meaning.specs.declared.Node.{Node}
 use Rattle.deliberation.specs.Kinds.{entry_kind}
 use Rattle.deliberation.specs.Entries.{entry_of}
@@ -12,12 +12,6 @@ use borrow.Author.Rules.{rules}
 use lib.ListN.{drop, set, length-set}
 use lib.Seq.{drop-set-lt}
 use Rattle.deliberate.proofs.descent.lead.Goals as goal
-
-pub read_entry-e-requires : goal.read_entry-e-requires
-read_entry-e-requires c =
-    let h = stacked_room c.requires.1.stacked in
-    let bytes = c.requires.0.1.1.bytes in
-    omega arith
 
 pub loop-e-init : goal.loop-e-init
 loop-e-init c =

@@ -11,37 +11,25 @@ use Prim.Native.Nat.{ℕ}
 use native.Mathlib.Omega.{arith}
 use Rattle.deliberate.proofs.made.reach.Goals as goal
 
-pub lead-first-requires : goal.lead-first-requires
-lead-first-requires c =
+pub returns-then-first-lt5 : goal.returns-then-first-lt5
+returns-then-first-lt5 c =
     let a = c.args in
-    let (j, g, st) = c.requires in
-    ((a.l, (a.card.now, g)), st)
-
-pub action_for-action-requires : goal.action_for-action-requires
-action_for-action-requires c = c.requires.0
-
-pub returns-then-kind-lt5 : goal.returns-then-kind-lt5
-returns-then-kind-lt5 c =
-    let a = c.args in
-    let b = a.card.now in
+    let b = a.card.now.bytes.now in
     let p = a.program.now in
     let (_, g, st) = c.requires in
     let q = c.lead-first in
     let (x, rising, kept) = q.ensures.reaches in
-    let low = c.if-kind-lt5.true in record {
+    let low = c.if-first-lt5.true in record {
       all_sets = λ σ γ j.
           (let d = configured σ γ a.m a.plan.now in
-          let has : ℕ → Bool = λ i. is_some (move_at a.l b p (state_of d).mental i) in
+          let has : ℕ → Bool = λ i. is_some (move_at a.card.now.layout b p (state_of d).mental i) in
           record {
             leaf = record { entry = x.entry; leaf = omega arith; stacked = x.stacked };
-            same = down_came a.l b p d g a.from has (λ i h. refl) (q.ensures.by_index has);
-            action = c.action_for-action.ensures σ γ j;
+            same = down_came a.card.now.layout b p d g a.from has (λ i h. refl) (q.ensures.by_index has);
+            action = c.action_for.ensures σ γ j;
           });
       top_le_top = (rising, kept);
     }
-
-pub first_of_kind-action-requires : goal.first_of_kind-action-requires
-first_of_kind-action-requires c = (c.requires.0, omega arith)
 
 pub mark_moves-movable-requires : goal.mark_moves-movable-requires
 mark_moves-movable-requires c =
@@ -49,32 +37,26 @@ mark_moves-movable-requires c =
     let h = stacked_room c.lead-first.ensures.reaches.0.stacked.stacked in
     (j, g, omega arith)
 
-pub descend-leaf-requires : goal.descend-leaf-requires
-descend-leaf-requires c =
-    let a = c.args in
-    let (j, g, st) = c.requires in
-    ((a.l, (a.card.now, g)), c.lead-first.ensures.reaches.0.stacked)
-
 pub returns : goal.returns
 returns c =
     let a = c.args in
-    let b = a.card.now in
+    let b = a.card.now.bytes.now in
     let p = a.program.now in
     let (_, g, st) = c.requires in
     let q = c.lead-first in
     let (x, rising, kept) = q.ensures.reaches in
     let k = c.mark_moves-movable in
-    let e = c.descend-leaf in
+    let e = c.descend in
     let (y, rising', kept') = e.ensures.at_leaf in record {
       all_sets = λ σ γ j.
           (let d = configured σ γ a.m a.plan.now in
-          let has : ℕ → Bool = λ i. is_some (move_at a.l b p (state_of d).mental i) in
+          let has : ℕ → Bool = λ i. is_some (move_at a.card.now.layout b p (state_of d).mental i) in
           let act = c.first_of_kind-action.ensures σ γ j in
           record {
             leaf = y;
             same =
-                down_came a.l b p d g a.from has (λ i h. refl) (q.ensures.by_index has)
-                ∙ down_came a.l b p d g q.result.at (λ i. i ∈ k.result) (passing_below has q.result.at k.result (k.ensures σ γ j act)) e.ensures.down;
+                down_came a.card.now.layout b p d g a.from has (λ i h. refl) (q.ensures.by_index has)
+                ∙ down_came a.card.now.layout b p d g q.result.at (λ i. i ∈ k.result) (passing_below has q.result.at k.result (k.ensures σ γ j act)) e.ensures.down;
             action = λ _. act;
           });
       top_le_top = (omega arith, later_kept q.result.top a.top e.new.stack q.new.stack rising kept' ∙ kept);

@@ -12,15 +12,15 @@ pub returns-then-edition-eq2 : goal.returns-then-edition-eq2
 returns-then-edition-eq2 c =
     let e = set_second _ c.if-edition-eq2.true in
     c.copy.ensures
-    ∙ copy_set c.args.bytes.now c.args.at 32 (omega arith) (omega arith)
+    ∙ copy_set c.args.bytes.now c.args.at 32 (omega arith)
     ∙ ap (λ n. widened (part c.args.bytes.now c.args.at n)) (sym e)
 
-pub copy-requires-2 : goal.copy-requires-2
-copy-requires-2 c = let e = set_first _ c.if-edition-eq2.false in (omega arith, omega arith)
+pub copy-requires-else-edition-eq2 : goal.copy-requires-else-edition-eq2
+copy-requires-else-edition-eq2 c = let e = set_first _ c.if-edition-eq2.false in (omega arith, omega arith)
 
-pub returns : goal.returns
-returns c =
+pub returns-else-edition-eq2 : goal.returns-else-edition-eq2
+returns-else-edition-eq2 c =
     let e = set_first _ c.if-edition-eq2.false in
-    c.copy-2.ensures
-    ∙ copy_set c.args.bytes.now c.args.at 16 (omega arith) (omega arith)
+    c.copy-else-edition-eq2.ensures
+    ∙ copy_set c.args.bytes.now c.args.at 16 (omega arith)
     ∙ ap (λ n. widened (part c.args.bytes.now c.args.at n)) (sym e)

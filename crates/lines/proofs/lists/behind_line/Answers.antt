@@ -1,16 +1,8 @@
+use Rattle.std.proofs.Common.{◌≡◌, length, drop, ap}
 use Rattle.lines.proofs.Numbered.{line_none, line_here, line_on}
-use mathlib.Core.Path.{refl, sym, ◌∙◌}
+use mathlib.Core.Path.{sym, ◌∙◌}
 use native.Mathlib.Omega.{arith}
-use borrow.Author.Rules.{rules}
 use Rattle.lines.proofs.lists.behind_line.Goals as goal
-
-pub loop-n-init : goal.loop-n-init
-loop-n-init c =
-    (omega arith, c.requires, refl)
-
-pub overflow_add-result : goal.overflow_add-result
-overflow_add-result c =
-    search rules
 
 pub returns-then-text-n-eq10 : goal.returns-then-text-n-eq10
 returns-then-text-n-eq10 c =
@@ -24,5 +16,9 @@ loop-n-preserved c =
 
 pub returns : goal.returns
 returns c =
-    let l = c.loop-n.invariant in let h = c.loop-n-test.false in let a = l.0 in let b = l.1 in
-    (l.0, (λ q. omega arith), (l.1, sym (line_none c.args.text.now c.loop-n.n (omega arith)) ∙ l.2))
+    let l = c.loop-n.invariant in
+    let h = c.loop-n-test.false in
+    let a = l.0 in
+    let b = l.1 in
+    let e : c.loop-n.n ≡ length c.args.text.now = omega arith in
+    (omega arith, (λ q. q), (omega arith, sym (ap (λ k. drop k c.args.text.now) e) ∙ (sym (line_none c.args.text.now c.loop-n.n e) ∙ l.2)))

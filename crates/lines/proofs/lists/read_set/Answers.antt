@@ -1,3 +1,4 @@
+use Rattle.std.proofs.Common.{refl}
 use Rattle.lines.proofs.Filling.{set_start, set_turn, set_over}
 use Rattle.lines.proofs.Numbered.{goes_inside}
 use mathlib.Core.Path.{sym, ◌∙◌}
@@ -7,7 +8,7 @@ use Rattle.lines.proofs.lists.read_set.Goals as goal
 
 pub loop-next-init : goal.loop-next-init
 loop-next-init c =
-    set_start c.args.text.now c.args.at c.no_atoms-set.result c.requires c.no_atoms-set.ensures
+    set_start c.args.text.now c.args.at _ c.requires refl
 
 pub goes_on-requires : goal.goes_on-requires
 goes_on-requires c =

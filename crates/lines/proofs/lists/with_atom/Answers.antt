@@ -3,8 +3,5 @@ use mathlib.Core.Path.{◌∙◌}
 use native.Mathlib.Omega.{arith}
 use Rattle.lines.proofs.lists.with_atom.Goals as goal
 
-pub returns-then-v-gt127 : goal.returns-then-v-gt127
-returns-then-v-gt127 c = λ h. absurd (omega arith)
-
 pub returns : goal.returns
 returns c = λ h. c.add_member.ensures ∙ (let a = c.args in with_single a.v a.set h (omega arith))

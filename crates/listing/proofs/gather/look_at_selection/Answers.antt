@@ -10,16 +10,16 @@ pub returns-then-is_true : goal.returns-then-is_true
 returns-then-is_true c =
     let a = c.args in
     let M = a.marks.now in
-    let held = sym c.if-is_true.true ∙ c.is_true.ensures ∙ ap (λ (x : SelectionEntry). (mark_at M x.belief).0) c.read_selection-e.ensures.0 in
+    let held = sym c.if-is_true.true ∙ c.is_true.ensures ∙ ap (λ (x : SelectionEntry). (mark_at M x.belief).0) c.selection-e.ensures.0 in
     λ σ γ j.
-    (ap (λ e. record { enabled = e; judged = 2 }) (c.is_enabled-enabled.ensures σ γ j)
-    ∙ selection_look a.l a.card.now (configured σ γ a.m a.plan.now) M j a.i c.requires.1 c.requires.2 true held)
+    (ap (λ e. record { enabled = e; judged = 2 }) (c.is_enabled.ensures σ γ j)
+    ∙ selection_look a.card.now.layout a.card.now.bytes.now (configured σ γ a.m a.plan.now) M j a.i c.requires.1 c.requires.2 true held)
 
-pub returns : goal.returns
-returns c =
+pub returns-else-is_true : goal.returns-else-is_true
+returns-else-is_true c =
     let a = c.args in
     let M = a.marks.now in
-    let held = sym c.if-is_true.false ∙ c.is_true.ensures ∙ ap (λ (x : SelectionEntry). (mark_at M x.belief).0) c.read_selection-e.ensures.0 in
+    let held = sym c.if-is_true.false ∙ c.is_true.ensures ∙ ap (λ (x : SelectionEntry). (mark_at M x.belief).0) c.selection-e.ensures.0 in
     λ σ γ j.
-    (ap (λ e. record { enabled = e; judged = 1 }) (c.is_enabled-enabled.ensures σ γ j)
-    ∙ selection_look a.l a.card.now (configured σ γ a.m a.plan.now) M j a.i c.requires.1 c.requires.2 false held)
+    (ap (λ e. record { enabled = e; judged = 1 }) (c.is_enabled.ensures σ γ j)
+    ∙ selection_look a.card.now.layout a.card.now.bytes.now (configured σ γ a.m a.plan.now) M j a.i c.requires.1 c.requires.2 false held)

@@ -1,9 +1,8 @@
-use mathlib.Core.Path.{◌≡◌, sym, ap, ◌∙◌}
+use mathlib.Core.Path.{sym, ap, ◌∙◌}
 use Prim.Native.Nat.{◌*◌}
 use native.Mathlib.Omega.{arith}
-use borrow.Author.Rules.{rules}
-use Rattle.listing.specs.Listed.{codes_in, over_from}
-use Rattle.listing.proofs.Writing.{Wrote, wrote_none, one_room, one_yes, one_no, bit_yes, bit_no, byte_none}
+use Rattle.listing.specs.Listed.{over_from}
+use Rattle.listing.proofs.Writing.{wrote_none, one_room, one_yes, one_no, bit_yes, bit_no, byte_none}
 use lib.ListN.{length, take-append-drop}
 use Rattle.paper.specs.Atoms.{◌∈◌}
 use Rattle.listing.proofs.list.write_byte.Goals as goal
@@ -21,28 +20,14 @@ returns-then-bits-eq0 c =
 pub loop-i-init : goal.loop-i-init
 loop-i-init c =
     let a = c.args in
-    (omega arith, wrote_none (λ k. k ∈ a.codes.now) (8 * a.b) 8 a.at a.out.now c.requires.2)
-
-pub offset_bounds-out-j : goal.offset_bounds-out-j
-offset_bounds-out-j c =
-    let a = c.args in
-    let l = c.loop-i in
-    let r = one_room (λ k. k ∈ a.codes.now) (8 * a.b) 8 a.at a.out.now c.requires.2 l.i l.j l.out l.invariant.1 c.loop-i-test.true (bit_yes a.codes.now a.b l.i c.loop-i-test.true c.if-bits-i-eq1.true) in
-    search (rules, r)
+    wrote_none (λ k. k ∈ a.codes.now) (8 * a.b) 8 a.at a.out.now c.requires.2
 
 pub bounds-out-j : goal.bounds-out-j
 bounds-out-j c =
     let a = c.args in
     let l = c.loop-i in
-    let r = one_room (λ k. k ∈ a.codes.now) (8 * a.b) 8 a.at a.out.now c.requires.2 l.i l.j l.out l.invariant.1 c.loop-i-test.true (bit_yes a.codes.now a.b l.i c.loop-i-test.true c.if-bits-i-eq1.true) in
+    let r = one_room (λ k. k ∈ a.codes.now) (8 * a.b) 8 a.at a.out.now c.requires.2 l.i l.j l.out l.invariant c.loop-i-test.true (bit_yes a.codes.now a.b l.i c.loop-i-test.true c.if-bits-i-eq1.true) in
     r
-
-pub overflow_add-j : goal.overflow_add-j
-overflow_add-j c =
-    let a = c.args in
-    let l = c.loop-i in
-    let r = one_room (λ k. k ∈ a.codes.now) (8 * a.b) 8 a.at a.out.now c.requires.2 l.i l.j l.out l.invariant.1 c.loop-i-test.true (bit_yes a.codes.now a.b l.i c.loop-i-test.true c.if-bits-i-eq1.true) in
-    search (rules, r)
 
 pub loop-i-preserved : goal.loop-i-preserved
 loop-i-preserved c =
@@ -51,19 +36,6 @@ loop-i-preserved c =
     let p = c.requires.2 in
     let h = c.loop-i-test.true in
     elim c.if-bits-i-eq1.branch [
-      | then-bits-i-eq1 w ↦ (omega arith, rw (w.out-is, w.j-is) (one_yes (λ k. k ∈ a.codes.now) (8 * a.b) 8 a.at a.out.now p l.i l.j l.out l.invariant.1 h (bit_yes a.codes.now a.b l.i h w.if-bits-i-eq1.true)))
-      | else-bits-i-eq1 w ↦ (omega arith, rw (w.out-is, w.j-is) (one_no (λ k. k ∈ a.codes.now) (8 * a.b) 8 a.at a.out.now p l.i l.j l.out l.invariant.1 h (bit_no a.codes.now a.b l.i h w.if-bits-i-eq1.false)))
+      | then-bits-i-eq1 w ↦ rw (w.out-is, w.j-is) (one_yes (λ k. k ∈ a.codes.now) (8 * a.b) 8 a.at a.out.now p l.i l.j l.out l.invariant h (bit_yes a.codes.now a.b l.i h w.if-bits-i-eq1.true))
+      | else-bits-i-eq1 w ↦ rw (w.out-is, w.j-is) (one_no (λ k. k ∈ a.codes.now) (8 * a.b) 8 a.at a.out.now p l.i l.j l.out l.invariant h (bit_no a.codes.now a.b l.i h w.if-bits-i-eq1.false))
     ]
-
-pub shape_of-out : goal.shape_of-out
-shape_of-out c = c.loop-i.invariant.1.long
-
-pub returns : goal.returns
-returns c =
-    let a = c.args in
-    let l = c.loop-i in
-    let e : l.i ≡ 8 = omega arith in
-    let w : Wrote a.at (codes_in a.codes.now (8 * a.b) 8) a.out.now l.j l.out = rw e at l.invariant.1 in record {
-      value = w.next;
-      out_after = w.left;
-    }

@@ -8,35 +8,35 @@ use Rattle.moves.proofs.next.coming.Goals as goal
 pub returns-in_default : goal.returns-in_default
 returns-in_default c = λ σ γ j.
     let a = c.args in
-    sym (comes_rest a.l a.card.now (configured σ γ a.m a.plan.now) (sym (c.choose-chosen.ensures σ γ j) ∙ c.in_default.is))
+    sym (comes_rest a.card.now.layout a.card.now.bytes.now (configured σ γ a.m a.plan.now) (c.in_default.ensures σ γ j))
 
-pub code_of-code-requires : goal.code_of-code-requires
-code_of-code-requires c =
+pub code-code-requires : goal.code-code-requires
+code-code-requires c =
     let a = c.args in
     let p = c.requires in
     let d = configured p.beliefs p.goals a.m a.plan.now in
-    let k = chose a.l a.card.now d _ _ (sym (c.choose-chosen.ensures p.beliefs p.goals p.judged) ∙ c.in-At.is) in
-    (k.0, number_lt a.l a.card.now d p.judged.ready _ _ k.0 k.1)
+    let k = chose a.card.now.layout a.card.now.bytes.now d _ (c.in-Some.ensures p.beliefs p.goals p.judged) in
+    number_lt a.card.now.layout a.card.now.bytes.now d p.judged.ready c.in-Some.choice.kind c.in-Some.choice.number k.0
 
 pub too_long-requires : goal.too_long-requires
 too_long-requires c =
     let a = c.args in
     let p = c.requires in
-    let k = chose a.l a.card.now (configured p.beliefs p.goals a.m a.plan.now) _ _ (sym (c.choose-chosen.ensures p.beliefs p.goals p.judged) ∙ c.in-At.is) in
-    (k.0, record { beliefs = p.beliefs; goals = p.goals; ready = p.judged.ready; may = k.1 })
+    let k = chose a.card.now.layout a.card.now.bytes.now (configured p.beliefs p.goals a.m a.plan.now) _ (c.in-Some.ensures p.beliefs p.goals p.judged) in
+    record { beliefs = p.beliefs; goals = p.goals; ready = p.judged.ready; may = k.0 }
 
 pub returns-then-too_long : goal.returns-then-too_long
 returns-then-too_long c = λ σ γ j.
     let a = c.args in
     let d = configured σ γ a.m a.plan.now in
-    let e = sym (c.choose-chosen.ensures σ γ j) ∙ c.in-At.is in
-    let k = chose a.l a.card.now d _ _ e in
-    ap Coming.Full c.code_of-code.ensures ∙ sym (comes_full a.l a.card.now d _ _ e (sym c.if-too_long.true ∙ c.too_long.ensures σ γ j.ready k.1))
+    let e = c.in-Some.ensures σ γ j in
+    let k = chose a.card.now.layout a.card.now.bytes.now d _ e in
+    ap Coming.Full c.code-code.ensures ∙ sym (comes_full a.card.now.layout a.card.now.bytes.now d _ e (sym c.if-too_long.true ∙ c.too_long.ensures σ γ j.ready k.0))
 
-pub returns : goal.returns
-returns c = λ σ γ j.
+pub returns-else-too_long : goal.returns-else-too_long
+returns-else-too_long c = λ σ γ j.
     let a = c.args in
     let d = configured σ γ a.m a.plan.now in
-    let e = sym (c.choose-chosen.ensures σ γ j) ∙ c.in-At.is in
-    let k = chose a.l a.card.now d _ _ e in
-    ap Coming.Move c.code_of-code.ensures ∙ sym (comes_move a.l a.card.now d _ _ e k.1 (sym c.if-too_long.false ∙ c.too_long.ensures σ γ j.ready k.1))
+    let e = c.in-Some.ensures σ γ j in
+    let k = chose a.card.now.layout a.card.now.bytes.now d _ e in
+    ap Coming.Move c.code-code.ensures ∙ sym (comes_move a.card.now.layout a.card.now.bytes.now d _ e k.0 (sym c.if-too_long.false ∙ c.too_long.ensures σ γ j.ready k.0))

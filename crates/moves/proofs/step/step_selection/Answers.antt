@@ -14,45 +14,45 @@ use mathlib.Core.List.{append-nil}
 use native.Mathlib.Omega.{arith}
 use Rattle.moves.proofs.step.step_selection.Goals as goal
 
-pub read_selection-e-requires : goal.read_selection-e-requires
-read_selection-e-requires c =
+pub selection-e-requires : goal.selection-e-requires
+selection-e-requires c =
     let a = c.args in
-    (c.requires.ready.card.layout, selection_known a.l a.card.now (configured c.requires.beliefs c.requires.goals a.m a.plan.now) c.requires.ready a.i c.requires.may)
+    selection_known a.card.now.layout a.card.now.bytes.now (configured c.requires.beliefs c.requires.goals a.m a.plan.now) c.requires.ready a.i c.requires.may
 
 pub replace_front-requires : goal.replace_front-requires
 replace_front-requires c =
     let a = c.args in
-    let z = plan_empty a.l a.card.now (configured c.requires.beliefs c.requires.goals a.m a.plan.now) c.requires.ready a.i c.requires.may in
-    let k = selection_known a.l a.card.now (configured c.requires.beliefs c.requires.goals a.m a.plan.now) c.requires.ready a.i c.requires.may in
-    let e = ap (λ (x : SelectionEntry). x.plan) c.read_selection-e.ensures.0 in
-    let g = subst (GoodSpan a.l 1) (sym e) (c.requires.ready.card.selections a.i k).plan in
+    let z = plan_empty a.card.now.layout a.card.now.bytes.now (configured c.requires.beliefs c.requires.goals a.m a.plan.now) c.requires.ready a.i c.requires.may in
+    let k = selection_known a.card.now.layout a.card.now.bytes.now (configured c.requires.beliefs c.requires.goals a.m a.plan.now) c.requires.ready a.i c.requires.may in
+    let e = ap (λ (x : SelectionEntry). x.plan) c.selection-e.ensures.0 in
+    let g = subst (GoodSpan a.card.now.layout 1) (sym e) (c.requires.ready.card.selections a.i k).plan in
     let x = g.inside in
     let y = g.fits in
     let w = c.requires.ready.card.layout.ends in
-    let at = c.pool_at-at.ensures in
+    let at = c.pool_at.ensures in
     (omega arith, omega arith, omega arith, omega arith, rw z at c.requires.ready.zeros)
 
 pub taken-requires : goal.taken-requires
 taken-requires c =
     let a = c.args in
-    let k = selection_known a.l a.card.now (configured c.requires.beliefs c.requires.goals a.m a.plan.now) c.requires.ready a.i c.requires.may in
-    let e = ap (λ (x : SelectionEntry). x.plan) c.read_selection-e.ensures.0 in
-    let g = subst (GoodSpan a.l 1) (sym e) (c.requires.ready.card.selections a.i k).plan in
-    (g.fits, omega arith)
+    let k = selection_known a.card.now.layout a.card.now.bytes.now (configured c.requires.beliefs c.requires.goals a.m a.plan.now) c.requires.ready a.i c.requires.may in
+    let e = ap (λ (x : SelectionEntry). x.plan) c.selection-e.ensures.0 in
+    let g = subst (GoodSpan a.card.now.layout 1) (sym e) (c.requires.ready.card.selections a.i k).plan in
+    g.fits
 
 pub returns : goal.returns
 unfolding plan configuration_of kind number
 returns c = λ σ γ ready may.
     let a = c.args in
-    let b = a.card.now in
+    let b = a.card.now.bytes.now in
     let d = configured σ γ a.m a.plan.now in
-    let k = selection_known a.l a.card.now (configured σ γ a.m a.plan.now) ready a.i may in
-    let t = selects_to a.l a.card.now (configured σ γ a.m a.plan.now) ready a.i may in
-    let e = ap (λ (x : SelectionEntry). x.plan) c.read_selection-e.ensures.0 in
-    let n = ap (λ (x : SelectionEntry). x.plan.length) c.read_selection-e.ensures.0 ∙ sym (plan_length a.l b d ready a.i 1 (selection_at a.l b a.i).plan (ready.card.selections a.i k).plan) in
+    let k = selection_known a.card.now.layout a.card.now.bytes.now (configured σ γ a.m a.plan.now) ready a.i may in
+    let t = selects_to a.card.now.layout a.card.now.bytes.now (configured σ γ a.m a.plan.now) ready a.i may in
+    let e = ap (λ (x : SelectionEntry). x.plan) c.selection-e.ensures.0 in
+    let n = ap (λ (x : SelectionEntry). x.plan.length) c.selection-e.ensures.0 ∙ sym (plan_length a.card.now.layout b d ready a.i 1 (selection_at a.card.now.layout b a.i).plan (ready.card.selections a.i k).plan) in
     let f = finished_at_lem a.m.finished _ _ n in
     let r = c.taken.ensures in
-    let q = c.replace_front.ensures ∙ ap padded (append-nil _ ∙ (λ j. part b (c.pool_at-at.ensures j) c.read_selection-e.result.plan.length) ∙ ap (plan a.l b) e) in (
+    let q = c.replace_front.ensures ∙ ap padded (append-nil _ ∙ (λ j. part b (c.pool_at.ensures j) c.selection-e.result.plan.length) ∙ ap (plan a.card.now.layout b) e) in (
       ap (λ (x : Stepped). x.transition) r ∙ ap transition_of (sym t),
-      (λ j. configured σ γ (r j).standing (q j)) ∙ (λ j. configured σ γ (record { length = n j; phase = 1; finished = f j }) (padded (plan a.l b (selection_at a.l b a.i).plan))) ∙ ap (λ (x : Reached). configuration_after x d) (sym t),
+      (λ j. configured σ γ (r j).standing (q j)) ∙ (λ j. configured σ γ (record { length = n j; phase = 1; finished = f j }) (padded (plan a.card.now.layout b (selection_at a.card.now.layout b a.i).plan))) ∙ ap (λ (x : Reached). configuration_after x d) (sym t),
     )

@@ -1,40 +1,39 @@
-use Rattle.card.proofs.Rows.{stops, goes_on, last_row, no_row}
-use Rattle.names.specs.Naming.{asked, name_table}
-use mathlib.Core.Bool.{not}
-use lib.Dec.{ltb}
-use mathlib.Core.Path.{refl, sym, ap, ◌∙◌}
+use Rattle.card.proofs.Rows.{handed_on, row_passed, row_refused}
+use Rattle.names.specs.Naming.{asked}
+use Rattle.names.proofs.Naming.{few_actions, card_refuses, no_shed, no_master, last_asked}
+use mathlib.Core.Path.{sym, ◌∙◌}
 use Rattle.names.proofs.name.judge.Goals as goal
 
-pub returns-in_default : goal.returns-in_default
-unfolding name_table
-returns-in_default c =
+pub returns-in_err-l : goal.returns-in_err-l
+returns-in_err-l c =
     let a = c.args in
-    let q = asked a.shed.now a.master.now a.action in
-    let g = c.shed_good in
-    let r = c.row-own in
-    stops _ _ q g.result (ap not (sym g.ensures)) r.result r.ensures _ c.in_default.is
+    let f = c.from_residual in
+    handed_on f.result _ f.ensures.1 ∙ card_refuses a.card.now (asked a.shed.now a.master.now a.action) _ (sym c.in_err-l.ensures)
 
-pub returns-in_default-other : goal.returns-in_default-other
-unfolding name_table
-returns-in_default-other c =
+pub shed_good-requires : goal.shed_good-requires
+shed_good-requires c = few_actions c.args.card.now _ (sym c.in_ok-l.ensures)
+
+pub returns-in_err-row : goal.returns-in_err-row
+returns-in_err-row c =
     let a = c.args in
-    let q = asked a.shed.now a.master.now a.action in
-    let g = c.shed_good in
-    let r = c.row-own in
-    let g2 = c.master_good in
-    let r2 = c.row-other in
-    stops _ _ q g2.result (ap not (sym g2.ensures)) r2.result r2.ensures _ c.in_default-other.is
-    ∙ sym (goes_on _ _ q g.result (ap not (sym g.ensures)) r.result r.ensures c.in-Done.is)
+    let f = c.from_residual-in_err-row in
+    row_refused f.result _ _ f.ensures.1 _ _ _ c.shed_good.ensures c.in_err-row.ensures
+    (no_shed a.card.now (asked a.shed.now a.master.now a.action) _ (sym c.in_ok-l.ensures))
+
+pub master_good-requires : goal.master_good-requires
+master_good-requires c = few_actions c.args.card.now _ (sym c.in_ok-l.ensures)
+
+pub returns-in_err-row-2 : goal.returns-in_err-row-2
+returns-in_err-row-2 c =
+    let a = c.args in
+    let f = c.from_residual-in_err-row-2 in
+    let shed = row_passed _ _ _ c.shed_good.ensures c.in_ok-row.ensures in
+    row_refused f.result _ _ f.ensures.1 _ _ _ c.master_good.ensures c.in_err-row-2.ensures
+    (no_master a.card.now (asked a.shed.now a.master.now a.action) _ (sym c.in_ok-l.ensures) shed)
 
 pub returns : goal.returns
-unfolding name_table
 returns c =
     let a = c.args in
-    let q = asked a.shed.now a.master.now a.action in
-    let g = c.shed_good in
-    let r = c.row-own in
-    let g2 = c.master_good in
-    let r2 = c.row-other in
-    last_row _ _ q (ltb a.action a.n) refl c.row.result c.row.ensures (no_row q)
-    ∙ sym (goes_on _ _ q g2.result (ap not (sym g2.ensures)) r2.result r2.ensures c.in-Done-other.is)
-    ∙ sym (goes_on _ _ q g.result (ap not (sym g.ensures)) r.result r.ensures c.in-Done.is)
+    let shed = row_passed _ _ _ c.shed_good.ensures c.in_ok-row.ensures in
+    let master = row_passed _ _ _ c.master_good.ensures c.in_ok-row-2.ensures in
+    last_asked a.card.now (asked a.shed.now a.master.now a.action) _ (sym c.in_ok-l.ensures) shed master c.row-3.result c.row-3.ensures

@@ -6,7 +6,4 @@ use lib.ListN.{length}
 use Rattle.names.proofs.sheet.names_good.Given as goal
 
 abbrev pub invariant-loop-i : goal.invariant-loop-i
-invariant-loop-i l = (l.i ≤ l.n) × (l.to ≡ offset_at l.sheet l.i) × (l.to ≤ length l.sheet) × ((j : ℕ) → l.i ≤ j → j < l.n → name_good l.least l.sheet j ≡ true)
-
-abbrev pub decreases-loop-i : goal.decreases-loop-i
-decreases-loop-i l = l.i
+invariant-loop-i l = (l.to ≡ offset_at l.sheet l.i) × (l.to ≤ length l.sheet) × ((j : ℕ) → l.i ≤ j → j < l.n → name_good l.least l.sheet j ≡ true)

@@ -1,10 +1,7 @@
+use Rattle.std.proofs.Common.{arith, sym, ◌∙◌}
+use Rattle.std.proofs.lemmas.Bool.{lt-leb}
 use Rattle.names.proofs.Sheets.{sheet_short, head_last, head_right, head_wrong}
-use mathlib.Core.Path.{sym, ◌∙◌}
-use native.Mathlib.Omega.{arith}
 use Rattle.names.proofs.sheet.sheet_good.Goals as goal
-
-pub returns-then-sheet-n : goal.returns-then-sheet-n
-returns-then-sheet-n c = let a = c.args in sheet_short a.least a.n a.sheet.now c.if-sheet-n.true
 
 pub names_good-requires : goal.names_good-requires
 names_good-requires c =
@@ -20,4 +17,9 @@ returns-then-head_good c =
 pub returns-else-head_good : goal.returns-else-head_good
 returns-else-head_good c =
     let a = c.args in
-    head_wrong a.least a.n a.sheet.now (omega arith) (sym c.head_good.ensures ∙ c.if-head_good.false)
+    c.if-head_good.false ∙ head_wrong a.least a.n a.sheet.now (omega arith) (sym c.head_good.ensures ∙ c.if-head_good.false)
+
+pub returns-else-n-sheet : goal.returns-else-n-sheet
+returns-else-n-sheet c =
+    let a = c.args in
+    lt-leb _ _ c.if-n-sheet.false ∙ sheet_short a.least a.n a.sheet.now c.if-n-sheet.false

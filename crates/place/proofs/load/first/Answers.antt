@@ -13,14 +13,14 @@ pub returns : goal.returns
 unfolding configuration_of start plan initial_plan
 returns c =
     let a = c.args in
-    let b = a.card.now in
+    let b = a.card.now.bytes.now in
     let p = c.requires.0 in
     let d = p.layout in
     let g = p.initial in
-    let at = a.l.pool.offset + a.l.initial.start in
-    let π : part b at a.l.initial.length ≡ initial_plan b = ap (λ (x : Layout). plan x b x.initial) d.says in
-    let n : a.l.initial.length ≡ length (initial_plan b) = sym (length_part b at a.l.initial.length (omega arith)) ∙ ap length π in
+    let at = a.card.now.layout.pool.offset + a.card.now.layout.initial.start in
+    let π : part b at a.card.now.layout.initial.length ≡ initial_plan b = ap (λ (x : Layout). plan x b x.initial) d.says in
+    let n : a.card.now.layout.initial.length ≡ length (initial_plan b) = sym (length_part b at a.card.now.layout.initial.length (omega arith)) ∙ ap length π in
     let σ = c.initial_beliefs-believed.ensures ∙ ap (λ (x : Layout). initial_beliefs x b) d.says in
     let γ = c.difference.ensures ∙ (λ i. struck_by (σ i) ((c.initial_goals.ensures ∙ ap (λ (x : Layout). initial_goals x b) d.says) i)) in
-    let q = c.fill.ensures ∙ ap padded ((λ i. part b (c.pool_at-at.ensures i) a.l.initial.length) ∙ π) in
+    let q = c.fill.ensures ∙ ap padded ((λ i. part b (c.pool_at-at.ensures i) a.card.now.layout.initial.length) ∙ π) in
     λ i. record { mind = record { beliefs = σ i; goals = γ i; length = n i; phase = 0; finished = 0 }; plan = q i }

@@ -1,20 +1,28 @@
-use mathlib.Core.Path.{◌≡◌}
+use mathlib.Core.Path.{refl}
 use native.Mathlib.Omega.{arith}
-use Rattle.plain.proofs.Asking.{selections_asked, specifications_asked, revisions_asked}
+use lib.ListN.{length-set}
+use Rattle.runs.specs.Kinds.{kind_number}
+use Rattle.meaning.specs.Configurations.{state_of}
+use Rattle.door.specs.Asking.{asked, choice_at}
+use Rattle.layout.proofs.GoodLayout.{at_most_256}
+use Rattle.unpacked.specs.Truths.{configuration_from}
+use Rattle.plain.proofs.Asking.{asks_start, asks_turn, kind_asked}
 use Rattle.plain.proofs.ask.ask_kind.Goals as goal
 
-pub returns-in-0 : goal.returns-in-0
-returns-in-0 c =
-    let a = c.args in
-    rw c.in-0.is (selections_asked a.l a.card.now a.t a.u a.judged c.requires.ready.0 c.requires.ready.1 c.requires.judged_all c.ask_selections.result c.ask_selections.ensures)
+pub loop-number-init : goal.loop-number-init
+loop-number-init c = (refl, asks_start _)
 
-pub returns-in-1 : goal.returns-in-1
-returns-in-1 c =
+pub loop-number-preserved : goal.loop-number-preserved
+loop-number-preserved c =
     let a = c.args in
-    rw c.in-1.is (specifications_asked a.l a.card.now a.t a.u a.judged c.requires.ready.0 c.requires.ready.1 c.requires.judged_all c.ask_specifications.result c.ask_specifications.ensures)
+    let l = c.loop-number in
+    let m = at_most_256 a.card.now.layout a.card.now.bytes.now c.requires.ready.0.card.layout (kind_number a.kind) in (
+      simp length-set l.invariant.0,
+      asks_turn (λ i. asked a.card.now.layout a.card.now.bytes.now (state_of (configuration_from a.u)).mental (choice_at (kind_number a.kind) i)) l.number l.answers c.ask.result (omega arith) c.ask.ensures l.invariant.1,
+    )
 
-pub returns-in_default : goal.returns-in_default
-returns-in_default c =
+pub returns : goal.returns
+returns c =
     let a = c.args in
-    let e : a.kind ≡ 2 = omega arith in
-    rw e (revisions_asked a.l a.card.now a.t a.u a.judged c.requires.ready.0 c.requires.ready.1 c.requires.judged_all c.ask_revisions.result c.ask_revisions.ensures)
+    let l = c.loop-number in
+    kind_asked a.card.now.layout a.card.now.bytes.now (configuration_from a.u) (kind_number a.kind) l.number (omega arith) l.answers l.invariant.1

@@ -4,6 +4,7 @@ use Prim.Native.Nat.{ℕ, ◌<◌}
 use native.Mathlib.Omega.{arith}
 use borrow.Author.Rules.{rules}
 use lib.ListN.{length, get_or}
+use Rattle.runs.specs.Kinds.{kind_number}
 use Rattle.paper.specs.Next.{enabled}
 use Rattle.meaning.specs.declared.Layout.{Layout}
 use Rattle.meaning.specs.declared.Configuration.{Configuration}
@@ -12,7 +13,7 @@ use Rattle.meaning.specs.Configurations.{state_of}
 use Rattle.layout.specs.Entries.{count_of}
 use Rattle.door.specs.declared.asked.Asked.{Asked}
 use Rattle.door.specs.Asking.{choice_at}
-use Rattle.door.proofs.First.{left_start, left_turn, found_of_kind, none_of_kind}
+use Rattle.door.proofs.First.{left_turn, found_of_kind, none_of_kind}
 use Rattle.listing.specs.Looking.{look_by}
 use Rattle.plain.specs.Asking.{AsksKind}
 use Rattle.plain.proofs.Asking.{read_inside, answer_enabled}
@@ -24,25 +25,20 @@ found : (l : Layout) (b : Bytes) (s : Configuration) (kind : ℕ) (answers : Lis
 found l b s kind answers m a i h =
     sym (answer_enabled l b s kind answers a i h) ∙ ap (λ (x : Asked). (look_by x).enabled) (read_inside answers i Asked.NoRule Asked.Enabled (omega arith))
 
-pub loop-i-init : goal.loop-i-init
-loop-i-init c = (omega arith, λ l b s e a. left_start _ _ _ _)
-
 pub returns-then-is_enabled : goal.returns-then-is_enabled
-returns-then-is_enabled c = λ l b s k e a.
+returns-then-is_enabled c = λ l b s e a.
     let x = c.args in
-    let i = c.loop-i.i in
-    let r = c.loop-i.invariant.1 l b s e a in
-    found_of_kind l b (state_of s).mental x.kind i k (omega arith) (found l b s x.kind x.answers (search rules) a i (omega arith) ∙ sym c.is_enabled.ensures ∙ c.if-is_enabled.true) r
+    let i = c.loop-number.number in
+    let r = c.loop-number.invariant l b s e a in
+    found_of_kind l b (state_of s).mental x.kind i (omega arith) (found l b s (kind_number x.kind) x.answers (search rules) a i (omega arith) ∙ sym c.is_enabled.ensures ∙ c.if-is_enabled.true) r
 
-pub loop-i-preserved : goal.loop-i-preserved
-loop-i-preserved c = (
-  omega arith,
-  λ l b s e a.
-      let x = c.args in
-      let i = c.loop-i.i in
-      let r = c.loop-i.invariant.1 l b s e a in
-      left_turn (agent_for l b) (state_of s).mental (choice_at x.kind) (count_of l x.kind) i (omega arith) (found l b s x.kind x.answers (search rules) a i (omega arith) ∙ sym c.is_enabled.ensures ∙ c.if-is_enabled.false) r,
-)
+pub loop-number-preserved : goal.loop-number-preserved
+loop-number-preserved c =
+    λ l b s e a.
+    let x = c.args in
+    let i = c.loop-number.number in
+    let r = c.loop-number.invariant l b s e a in
+    left_turn (agent_for l b) (state_of s).mental (choice_at (kind_number x.kind)) (count_of l (kind_number x.kind)) i (omega arith) (found l b s (kind_number x.kind) x.answers (search rules) a i (omega arith) ∙ sym c.is_enabled.ensures ∙ c.if-is_enabled.false) r
 
 pub returns : goal.returns
-returns c = λ l b s k e a. none_of_kind l b (state_of s).mental c.args.kind c.loop-i.i (omega arith) (c.loop-i.invariant.1 l b s e a)
+returns c = λ l b s e a. none_of_kind l b (state_of s).mental c.args.kind c.loop-number.number (omega arith) (c.loop-number.invariant l b s e a)

@@ -1,4 +1,4 @@
-use mathlib.Core.Path.{◌≡◌, refl, sym, ap}
+use mathlib.Core.Path.{◌≡◌, refl}
 use mathlib.Core.Bool.{false}
 use mathlib.Core.List.{List, [], ◌∷◌}
 use Prim.Native.Nat.{ℕ}
@@ -7,8 +7,6 @@ use types.Run.{OneOf, miss}
 use Rattle.door.specs.declared.asked.Asked.{Asked}
 use Rattle.door.specs.contracts.asked.Asked.{the_type}
 use Rattle.listing.specs.Looking.{look_by}
-use borrow.Enum.Refused.{opened}
-use Rattle.plain.proofs.choose.is_enabled.Goals as goal
 
 abbrev others : List ℕ
 others = 1 ∷ 2 ∷ 3 ∷ []
@@ -18,9 +16,3 @@ not_enabled Asked.Enabled h = absurd (miss others 0 tt h)
 not_enabled Asked.NoRule h = refl
 not_enabled Asked.Front h = refl
 not_enabled (Asked.Condition n) h = refl
-
-pub returns-in-Enabled : goal.returns-in-Enabled
-returns-in-Enabled c = ap (λ a. (look_by a).enabled) (sym c.in-Enabled.is)
-
-pub returns-in_default : goal.returns-in_default
-returns-in_default c = not_enabled c.args.asked (opened c.in_default.in_default-own.keys2)

@@ -1,5 +1,5 @@
 use mathlib.Core.Path.{◌≡◌}
-use Prim.Native.Nat.{◌-◌, ◌*◌, ◌≤◌}
+use Prim.Native.Nat.{◌*◌, ◌≤◌}
 use lib.ListN.{get_or}
 use Rattle.paper.specs.Next.{if}
 use Rattle.unpacked.specs.Tables.{no_selection}
@@ -8,7 +8,4 @@ use Rattle.plain.specs.Judging.{judgement_at}
 use Rattle.plain.proofs.list.judged_selecting.Given as goal
 
 abbrev pub invariant-loop-i : goal.invariant-loop-i
-invariant-loop-i l = (l.i ≤ l.n) × (l.count ≡ sum_of (λ k. if (judgement_at l.judged (get_or l.selections k no_selection).belief).0 2 1) l.i) × (l.count ≤ 2 * l.i)
-
-abbrev pub decreases-loop-i : goal.decreases-loop-i
-decreases-loop-i l = l.n - l.i
+invariant-loop-i l = (l.count ≡ sum_of (λ k. if (judgement_at l.judged (get_or l.t.selections k no_selection).belief).0 2 1) l.i) × (l.count ≤ 2 * l.i)

@@ -24,5 +24,5 @@ returns c =
     struck_by_lem 32 γ β c.strike.result g σ (search rules) g-long (λ i. (g-bytes i).fits) c.unpack_set-goals.ensures
     σ-long (λ i. (σ-bytes i).fits) c.unpack_set-beliefs.ensures c.strike.ensures
     ∙ ap₂ struck_by c.initial_beliefs.ensures c.initial_goals.ensures in
-    first_made c.args.l c.args.card.now c.requires β c.strike.result is-σ is-γ c.pool_at.result c.pool_at.ensures
+    first_made c.args.card.now.layout c.args.card.now.bytes.now c.requires β c.strike.result is-σ is-γ c.pool_at.result c.pool_at.ensures
     c.copy_plan-plan.result c.copy_plan-plan.ensures c.at_first.result c.at_first.ensures

@@ -1,12 +1,13 @@
 use mathlib.Core.Path.{sym, ap, ◌∙◌, subst}
 use Rattle.runs.specs.declared.Ending.{Ending}
 use Rattle.runs.specs.Run.{run}
-use Rattle.meaning.specs.declared.Answer.TheVariants.{Done}
+use Rattle.std.specs.Prelude.{Ok}
 use Rattle.meaning.specs.declared.Configuration.{Configuration}
 use Rattle.meaning.specs.Card.{agent_for}
 use Rattle.meaning.specs.Configurations.{state_of}
-use Rattle.meaning.specs.Calls.{ran}
+use Rattle.meaning.specs.Calls.{ran, runs}
 use Rattle.meaning.proofs.Calls.{runs_refused}
+use Rattle.card.specs.Rows.{answer_of}
 use Rattle.door.specs.Ready.{Ready}
 use Rattle.door.proofs.Accepting.{admitted_good, admitted_refused}
 use Rattle.moves.proofs.Running.{runs_by}
@@ -16,26 +17,25 @@ pub returns-in_default : goal.returns-in_default
 returns-in_default c =
     let a = c.args in
     let b = a.card.now in
-    let (e, s) = admitted_refused b a.c _ c.admit_configuration-admitted.ensures.value _ c.in_default.is _ c.answer_of.ensures in
+    let e = admitted_refused b a.c _ c.in_default.ensures in
+    let s = c.answer_of.ensures ∙ ap answer_of c.in_default.is in
     (λ i. record { answer = s i; count = 0; ending = Ending.Spent; configuration = a.c }) ∙ sym (runs_refused b a.c a.budget _ e)
-
-pub unpack_card-requires : goal.unpack_card-requires
-unpack_card-requires c = (c.admit_configuration-admitted.ensures.ready _ c.in-Good.is).card.layout
 
 pub run_on-reached-requires : goal.run_on-reached-requires
 run_on-reached-requires c =
-    let a = c.args in
-    let r = c.admit_configuration-admitted.ensures.ready _ c.in-Good.is in
-    (subst (Ready _ a.card.now) (sym c.unpack.ensures) r, c.unpack_card.ensures)
+    let r = c.in-Ok.ensures.ready in
+    (subst (Ready _ c.in-Ok.card.bytes.now) (sym c.unpack.ensures) r, c.unpack_card.ensures)
 
 pub returns : goal.returns
 returns c =
     let a = c.args in
-    let b = a.card.now in
-    let l = c.in-Good.l in
-    let (e, s) = admitted_good b a.c _ c.admit_configuration-admitted.ensures.value _ c.in-Good.is in
+    let b = c.in-Ok.card.bytes.now in
+    let l = c.in-Ok.card.layout in
+    let told = c.in-Ok.ensures in
+    let (e, s) = admitted_good b a.c _ told.value in
     let o = c.run_on-reached in
-    (λ i. record { answer = Done; count = o.result.count; ending = o.result.ending; configuration = c.pack.ensures i })
+    (λ i. record { answer = Ok tt; count = o.result.count; ending = o.result.ending; configuration = c.pack.ensures i })
     ∙ o.ensures
     ∙ ap (λ (x : Configuration). ran (run (agent_for l b) a.budget (state_of x))) c.unpack.ensures
     ∙ runs_by b a.c e a.budget _ s
+    ∙ ap (λ x. runs x a.c a.budget) told.same

@@ -1,8 +1,10 @@
+use lib.ListN.{length}
+use Rattle.std.proofs.Common.{ap}
 use Rattle.scan.proofs.Conditions.{after_close}
 use Rattle.scan.specs.Scans.{scan_from}
 use Rattle.notation.specs.Scanning.{ScanState, after}
 use Rattle.meaning.specs.Card.{Bytes}
-use mathlib.Core.Path.{◌≡◌, refl, ◌∙◌}
+use mathlib.Core.Path.{◌≡◌, ◌∙◌}
 use Prim.Native.Nat.{ℕ, suc, ◌-◌}
 use native.Mathlib.Omega.{arith}
 use Rattle.scan.proofs.condition.scan_closing.Goals as goal
@@ -11,9 +13,6 @@ use Rattle.scan.proofs.condition.scan_closing.Goals as goal
 
 one_less : (t : Bytes) (n i : ℕ) (w : Bytes) (k : ScanState) → (i ≡ 0 → ⊥) → scan_from t n (after i w k) ≡ scan_from t n (after (suc (i - 1)) w k)
 one_less t n i w k h = let e : i ≡ suc (i - 1) = omega arith in λ j. scan_from t n (after (e j) w k)
-
-pub loop-n-init : goal.loop-n-init
-loop-n-init c = (omega arith, c.requires, omega arith, λ w k. refl)
 
 pub returns-then-inside-eq0 : goal.returns-then-inside-eq0
 returns-then-inside-eq0 c = let i = c.loop-n.invariant in (i.0, i.1, i.2, (λ h e. c.if-inside-eq0.true), i.3)
@@ -37,5 +36,8 @@ loop-n-preserved c =
 pub returns : goal.returns
 returns c =
     let i = c.loop-n.invariant in
+    let a = i.0 in
+    let b = i.1 in
     let t = c.loop-n-test.false in
-    (i.0, i.1, i.2, (λ h e. absurd (omega arith)), i.3)
+    let e : c.loop-n.n ≡ length c.args.text.now = omega arith in
+    (omega arith, omega arith, i.2, (λ h f. absurd (omega arith)), λ w k. i.3 w k ∙ ap (λ m. scan_from c.args.text.now m (after c.loop-n.inside w k)) e)

@@ -1,31 +1,24 @@
-use Rattle.scan.proofs.Scanning.{passed}
-use Rattle.scan.specs.Scans.{place_of, Scans}
-use Rattle.notation.specs.Scanning.{unit, after}
+use Rattle.scan.proofs.Conditions.{unit_failed}
 use mathlib.Core.List.{[]}
-use mathlib.Core.Path.{◌∙◌, subst}
-use Prim.Native.Nat.{◌≤◌}
-use native.Mathlib.Omega.{arith}
+use Rattle.std.proofs.Common.{◌∙◌, arith}
 use Rattle.scan.proofs.condition.scan_unit.Goals as goal
 
-pub scan_closing-closed-requires : goal.scan_closing-closed-requires
-scan_closing-closed-requires c =
-    let o = c.scan_opening-opened.result in
-    (passed c.args.text.now (unit o.brackets []) (after o.brackets []) o.at c.scan_leaf-leaf.result (c.scan_leaf-leaf.ensures.1 o.brackets []) c.in-At.n c.in-At.is).1
+pub scan_closing-requires : goal.scan_closing-requires
+scan_closing-requires c = (c.in_ok-n.ensures.1 c.scan_opening-opened.result.brackets []).1
 
-pub returns-in-Wrong : goal.returns-in-Wrong
-returns-in-Wrong c w k =
-    let o = c.scan_opening-opened.result in
-    let e = subst (Scans c.args.text.now o.at (unit o.brackets w) (after o.brackets w)) c.in-Wrong.is (c.scan_leaf-leaf.ensures.1 o.brackets w) in
-    c.scan_opening-opened.ensures.4 w k ∙ e k
+pub returns-in_err-n : goal.returns-in_err-n
+returns-in_err-n c =
+    let o = c.scan_opening-opened in
+    unit_failed c.args.text.now c.args.at c.args.brackets c.from_residual.result _ c.from_residual.ensures.1
+    (λ w k. o.ensures.4 w k ∙ c.in_err-n.ensures.1 o.result.brackets w k)
 
-pub returns-in-At : goal.returns-in-At
-returns-in-At c =
-    let T = c.args.text.now in
+pub returns : goal.returns
+returns c =
     let o = c.scan_opening-opened.result in
     let e = c.scan_opening-opened.ensures in
-    let n = c.in-At.n in
-    let d = c.scan_closing-closed.ensures in
-    let l : o.at ≤ n = subst (λ r. o.at ≤ place_of r) c.in-At.is c.scan_leaf-leaf.ensures.0 in
+    let n = c.in_ok-n.n in
+    let d = c.scan_closing.ensures in
+    let l = c.in_ok-n.ensures.0 in
     let e0 = e.0 in
     let e2 = e.2 in
     let d0 = d.0 in
@@ -34,8 +27,5 @@ returns-in-At c =
       d.1,
       omega arith,
       d.3,
-      λ w k.
-          e.4 w k
-          ∙ (passed T (unit o.brackets w) (after o.brackets w) o.at c.scan_leaf-leaf.result (c.scan_leaf-leaf.ensures.1 o.brackets w) n c.in-At.is).2 k
-          ∙ d.4 w k,
+      λ w k. e.4 w k ∙ (c.in_ok-n.ensures.1 o.brackets w).2 k ∙ d.4 w k,
     )

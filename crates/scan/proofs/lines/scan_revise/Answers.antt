@@ -1,31 +1,28 @@
-use Rattle.scan.proofs.Scanning.{passed, failed, chained}
+use Rattle.scan.proofs.Scanning.{failed, chained}
 use Rattle.scan.specs.Scans.{revise_line_to}
 use Rattle.notation.specs.Words.{word}
-use Rattle.notation.specs.Scanning.{rest, list, list_end, unit}
-use mathlib.Core.Path.{refl, ◌∙◌}
-use native.Mathlib.Omega.{arith}
+use Rattle.notation.specs.Scanning.{rest, list_end, unit}
+use Rattle.std.proofs.Common.{refl, ◌∙◌, arith}
 use Rattle.scan.proofs.lines.scan_revise.Goals as goal
 
-pub returns-in_default : goal.returns-in_default
-returns-in_default c =
-    failed c.args.text.now (λ k. rest (word "evise") (list (word "if ") k)) (rest (word " if ")) c.args.at c.scan_word_list-head.result (c.scan_word_list-head.ensures 105 (word "f "))
-    c.args.at revise_line_to (λ k. k) (λ k. unit 0 (word "to") (list_end k)) (λ k. refl) c.in_default.field-0 c.in_default.is
+pub returns-in_err-head : goal.returns-in_err-head
+returns-in_err-head c =
+    failed c.args.text.now c.args.at revise_line_to (λ k. k) c.from_residual.result _ c.from_residual.ensures.1
+    (λ k. c.in_err-head.ensures 105 (word "f ") (unit 0 (word "to") (list_end k)))
 
-pub scan_word_condition-asked-requires : goal.scan_word_condition-asked-requires
-scan_word_condition-asked-requires c = (passed c.args.text.now (λ k. rest (word "evise") (list (word "if ") k)) (rest (word " if ")) c.args.at c.scan_word_list-head.result (c.scan_word_list-head.ensures 105 (word "f ")) c.in-At.n c.in-At.is).1
-
-pub returns-in_default-asked : goal.returns-in_default-asked
-returns-in_default-asked c =
-    let p0 = passed c.args.text.now (λ k. rest (word "evise") (list (word "if ") k)) (rest (word " if ")) c.args.at c.scan_word_list-head.result (c.scan_word_list-head.ensures 105 (word "f ")) c.in-At.n c.in-At.is in
-    failed c.args.text.now (λ k. rest (word " if ") (unit 0 (word "to") k)) (rest (word " to")) c.in-At.n c.scan_word_condition-asked.result (c.scan_word_condition-asked.ensures (word "to"))
-    c.args.at revise_line_to (λ k. k) (λ k. list_end k) (λ k. p0.2 (unit 0 (word "to") (list_end k))) c.in_default-asked.field-0 c.in_default-asked.is
-
-pub scan_word_end-requires : goal.scan_word_end-requires
-scan_word_end-requires c = (passed c.args.text.now (λ k. rest (word " if ") (unit 0 (word "to") k)) (rest (word " to")) c.in-At.n c.scan_word_condition-asked.result (c.scan_word_condition-asked.ensures (word "to")) c.in-At-asked.m c.in-At-asked.is).1
+pub returns-in_err-asked : goal.returns-in_err-asked
+returns-in_err-asked c =
+    failed c.args.text.now c.args.at revise_line_to (λ k. k) c.from_residual-in_err-asked.result _ c.from_residual-in_err-asked.ensures.1
+    (λ k. (c.in_ok-head.ensures 105 (word "f ")).2 (unit 0 (word "to") (list_end k)) ∙ c.in_err-asked.ensures (word "to") (list_end k))
 
 pub returns : goal.returns
 returns c =
-    let p0 = passed c.args.text.now (λ k. rest (word "evise") (list (word "if ") k)) (rest (word " if ")) c.args.at c.scan_word_list-head.result (c.scan_word_list-head.ensures 105 (word "f ")) c.in-At.n c.in-At.is in
-    let p1 = passed c.args.text.now (λ k. rest (word " if ") (unit 0 (word "to") k)) (rest (word " to")) c.in-At.n c.scan_word_condition-asked.result (c.scan_word_condition-asked.ensures (word "to")) c.in-At-asked.m c.in-At-asked.is in
-    chained c.args.text.now (λ k. rest (word " to") (list_end k)) (λ k. k) c.in-At-asked.m c.scan_word_end.result c.scan_word_end.ensures
-    c.args.at revise_line_to (λ k. k) (λ k. k) (λ k. p0.2 (unit 0 (word "to") (list_end k)) ∙ p1.2 (list_end k)) (let l0 = p0.0 in let l1 = p1.0 in omega arith) (λ k. refl)
+    chained c.args.text.now (λ k. rest (word " to") (list_end k)) (λ k. k) c.in_ok-asked.asked c.args.at revise_line_to (λ k. k) (λ k. k)
+    (λ k. (c.in_ok-head.ensures 105 (word "f ")).2 (unit 0 (word "to") (list_end k)) ∙ (c.in_ok-asked.ensures (word "to")).2 (list_end k))
+    c.scan_word_end.result c.scan_word_end.ensures (let l0 = (c.in_ok-head.ensures 105 (word "f ")).0 in let l1 = (c.in_ok-asked.ensures (word "to")).0 in omega arith) (λ k. refl)
+
+pub scan_word_condition-requires : goal.scan_word_condition-requires
+scan_word_condition-requires c = (c.in_ok-head.ensures 105 (word "f ")).1
+
+pub scan_word_end-requires : goal.scan_word_end-requires
+scan_word_end-requires c = (c.in_ok-asked.ensures (word "to")).1

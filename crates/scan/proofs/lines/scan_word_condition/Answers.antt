@@ -1,19 +1,14 @@
-use Rattle.scan.proofs.Scanning.{passed, failed, chained}
+use Rattle.scan.proofs.Scanning.{failed, chained}
 use Rattle.notation.specs.Scanning.{rest, unit}
 use mathlib.Core.List.{◌∷◌}
-use mathlib.Core.Path.{refl}
+use Rattle.std.proofs.Common.{refl}
 use Rattle.scan.proofs.lines.scan_word_condition.Goals as goal
 
-pub returns-in_default : goal.returns-in_default
-returns-in_default c w =
-    failed c.args.text.now (rest c.args.word.now) (λ k. k) c.args.at c.scan_word-said.result c.scan_word-said.ensures
-    c.args.at (λ k. rest c.args.word.now (unit 0 w k)) (rest (32 ∷ w)) (unit 0 w) (λ k. refl) c.in_default.field-0 c.in_default.is
-
-pub scan_condition-requires : goal.scan_condition-requires
-scan_condition-requires c = (passed c.args.text.now (rest c.args.word.now) (λ k. k) c.args.at c.scan_word-said.result c.scan_word-said.ensures c.in-At.n c.in-At.is).1
+pub returns-in_err-n : goal.returns-in_err-n
+returns-in_err-n c w =
+    failed c.args.text.now c.args.at (λ k. rest c.args.word.now (unit 0 w k)) (rest (32 ∷ w)) c.from_residual.result _ c.from_residual.ensures.1 (λ k. c.in_err-n.ensures (unit 0 w k))
 
 pub returns : goal.returns
 returns c w =
-    let p = passed c.args.text.now (rest c.args.word.now) (λ k. k) c.args.at c.scan_word-said.result c.scan_word-said.ensures c.in-At.n c.in-At.is in
-    chained c.args.text.now (unit 0 w) (rest (32 ∷ w)) c.in-At.n c.scan_condition.result (c.scan_condition.ensures w)
-    c.args.at (λ k. rest c.args.word.now (unit 0 w k)) (rest (32 ∷ w)) (λ k. k) (λ k. p.2 (unit 0 w k)) p.0 (λ k. refl)
+    chained c.args.text.now (unit 0 w) (rest (32 ∷ w)) c.in_ok-n.n c.args.at (λ k. rest c.args.word.now (unit 0 w k)) (rest (32 ∷ w)) (λ k. k) (λ k. c.in_ok-n.ensures.2 (unit 0 w k))
+    c.scan_condition.result (c.scan_condition.ensures w) c.in_ok-n.ensures.0 (λ k. refl)

@@ -1,10 +1,7 @@
+use Rattle.std.proofs.Common.{◌≡◌, length, ap, arith, ◌∙◌}
+use mathlib.Core.Option.{some}
 use Rattle.scan.proofs.Scanning.{remark_short, remark_over, remark_on}
-use mathlib.Core.Path.{refl, ◌∙◌}
-use native.Mathlib.Omega.{arith}
 use Rattle.scan.proofs.scan.scan_remark.Goals as goal
-
-pub loop-n-init : goal.loop-n-init
-loop-n-init c = (omega arith, c.requires, λ k. refl)
 
 pub returns-then-text-n-eq10 : goal.returns-then-text-n-eq10
 returns-then-text-n-eq10 c =
@@ -20,6 +17,7 @@ loop-n-preserved c =
 
 pub returns : goal.returns
 returns c k =
-    let a = c.loop-n.invariant.1 in
+    let b = c.loop-n.invariant.1 in
     let t = c.loop-n-test.false in
-    c.loop-n.invariant.2 k ∙ remark_short c.args.text.now c.loop-n.n k (omega arith)
+    let e : c.loop-n.n ≡ length c.args.text.now = omega arith in
+    c.loop-n.invariant.2 k ∙ remark_short c.args.text.now c.loop-n.n k e ∙ ap some e

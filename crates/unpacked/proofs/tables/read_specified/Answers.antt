@@ -4,4 +4,4 @@ use Rattle.unpacked.specs.declared.tables.Specified.{Specified}
 use Rattle.unpacked.proofs.tables.read_specified.Goals as goal
 
 pub returns : goal.returns
-returns c = ap {B = Specified} (λ (e : SpecificationEntry). record { action = e.action; node = e.node }) c.read_specification-e.ensures
+returns c = ap {B = Specified} (λ (e : SpecificationEntry). record { action = e.action; node = e.node }) c.specification-e.ensures

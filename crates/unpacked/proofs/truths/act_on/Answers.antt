@@ -1,13 +1,5 @@
-use mathlib.Core.Path.{refl}
-use native.Mathlib.Omega.{arith}
-use Rattle.unpacked.proofs.Filling.{filled_none, filled_turn}
+use Rattle.std.proofs.Common.{rules}
 use Rattle.unpacked.proofs.truths.act_on.Goals as goal
 
-pub loop-k-init : goal.loop-k-init
-loop-k-init c = (omega arith, filled_none (omega arith))
-
-pub loop-k-preserved : goal.loop-k-preserved
-loop-k-preserved c = (omega arith, filled_turn (omega arith) c.loop-k.invariant.1 refl)
-
 pub returns : goal.returns
-returns c = λ k h. c.loop-k.invariant.1.holds k (omega arith)
+returns c = λ i h. (let p = c.table.ensures i h in search rules)

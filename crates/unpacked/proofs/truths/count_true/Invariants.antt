@@ -1,13 +1,10 @@
 use mathlib.Core.Bool.{false}
 use mathlib.Core.Path.{◌≡◌}
-use Prim.Native.Nat.{◌-◌, ◌≤◌}
+use Prim.Native.Nat.{◌≤◌}
 use lib.ListN.{get_or}
 use Rattle.runs.specs.Order.{numbers}
 use Rattle.meaning.specs.Looking.{how_many}
 use Rattle.unpacked.proofs.truths.count_true.Given as goal
 
 abbrev pub invariant-loop-k : goal.invariant-loop-k
-invariant-loop-k l = (l.k ≤ 256) × (l.n ≤ l.k) × (l.n ≡ how_many (λ j. get_or l.truths j false) (numbers 0 l.k))
-
-abbrev pub decreases-loop-k : goal.decreases-loop-k
-decreases-loop-k l = 256 - l.k
+invariant-loop-k l = (l.n ≤ l.k) × (l.n ≡ how_many (λ j. get_or l.truths j false) (numbers 0 l.k))

@@ -1,13 +1,9 @@
 use mathlib.Core.Path.{◌≡◌}
 use mathlib.Core.Bool.{false}
-use Prim.Native.Nat.{◌-◌, ◌≤◌}
 use lib.ListN.{length, get_or}
 use Rattle.paper.specs.Theorems.{AreBytes}
 use Rattle.sets.specs.Sets.{Passing}
 use Rattle.unpacked.proofs.truths.pack_set.Given as goal
 
 abbrev pub invariant-loop-k : goal.invariant-loop-k
-invariant-loop-k l = (l.k ≤ 256) × (length l.s ≡ 32) × AreBytes l.s × Passing (λ j. get_or l.truths j false) l.k l.s
-
-abbrev pub decreases-loop-k : goal.decreases-loop-k
-decreases-loop-k l = 256 - l.k
+invariant-loop-k l = (length l.s ≡ 32) × AreBytes l.s × Passing (λ j. get_or l.truths j false) l.k l.s

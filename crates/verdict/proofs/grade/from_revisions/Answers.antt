@@ -16,28 +16,28 @@ abbrev rule : Layout → Bytes → ℕ → Revision
 rule l b i = revision_of (conditions 𝐁 l b) l b (revision_at l b i)
 
 pub loop-i-init : goal.loop-i-init
-loop-i-init c = (omega arith, left_start _ _ _ _ _)
+loop-i-init c = left_start _ _ _ _ _
 
 pub returns-then-not-revision_lowers : goal.returns-then-not-revision_lowers
 unfolding agent_for agent_of revision_of
 returns-then-not-revision_lowers c =
     let a = c.args in
     let l = c.loop-i in
-    let b = a.card.now in
-    left_bad (lowers (weight b)) Offender.Revision (rule a.l b) a.l.revisions.count Verdict.Bounded l.i (omega arith) (sym c.revision_lowers.ensures ∙ c.if-not-revision_lowers.true) l.invariant.1
+    let b = a.card.now.bytes.now in
+    left_bad (lowers (weight b)) Offender.Revision (rule a.card.now.layout b) a.card.now.layout.revisions.count Verdict.Bounded l.i (omega arith) (sym c.revision_lowers.ensures ∙ c.if-not-revision_lowers.true) l.invariant
 
 pub loop-i-preserved : goal.loop-i-preserved
 unfolding agent_for agent_of revision_of
 loop-i-preserved c =
     let a = c.args in
     let l = c.loop-i in
-    let b = a.card.now in
-    (omega arith, left_turn (lowers (weight b)) Offender.Revision (rule a.l b) a.l.revisions.count Verdict.Bounded l.i (omega arith) (sym c.revision_lowers.ensures ∙ c.if-not-revision_lowers.false) l.invariant.1)
+    let b = a.card.now.bytes.now in
+    left_turn (lowers (weight b)) Offender.Revision (rule a.card.now.layout b) a.card.now.layout.revisions.count Verdict.Bounded l.i (omega arith) (sym c.revision_lowers.ensures ∙ c.if-not-revision_lowers.false) l.invariant
 
 pub returns : goal.returns
 unfolding agent_for agent_of revision_of
 returns c =
     let a = c.args in
     let l = c.loop-i in
-    let b = a.card.now in
-    left_none (lowers (weight b)) Offender.Revision (rule a.l b) a.l.revisions.count Verdict.Bounded l.i (omega arith) l.invariant.1
+    let b = a.card.now.bytes.now in
+    left_none (lowers (weight b)) Offender.Revision (rule a.card.now.layout b) a.card.now.layout.revisions.count Verdict.Bounded l.i (omega arith) l.invariant

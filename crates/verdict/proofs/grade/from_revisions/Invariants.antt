@@ -5,7 +5,7 @@ use Rattle.runs.specs.declared.Verdict.{Verdict}
 use Rattle.runs.specs.declared.Offender.{Offender}
 use Rattle.paper.specs.Language.{𝐁, Revision}
 use Rattle.meaning.specs.declared.Layout.{Layout}
-use Prim.Native.Nat.{ℕ, ◌-◌, ◌≤◌}
+use Prim.Native.Nat.{ℕ}
 use Rattle.verdict.proofs.grade.from_revisions.Given as goal
 
 -- revision rule i
@@ -14,7 +14,4 @@ abbrev rule : Layout → Bytes → ℕ → Revision
 rule l b i = revision_of (conditions 𝐁 l b) l b (revision_at l b i)
 
 abbrev pub invariant-loop-i : goal.invariant-loop-i
-invariant-loop-i l = (l.i ≤ l.n) × Left (lowers (weight l.card)) Offender.Revision (rule l.l l.card) l.n Verdict.Bounded l.i
-
-abbrev pub decreases-loop-i : goal.decreases-loop-i
-decreases-loop-i l = l.n - l.i
+invariant-loop-i l = Left (lowers (weight l.card.bytes.now)) Offender.Revision (rule l.card.layout l.card.bytes.now) l.card.layout.revisions.count Verdict.Bounded l.i

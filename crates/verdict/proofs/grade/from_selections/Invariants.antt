@@ -5,7 +5,7 @@ use Rattle.runs.specs.declared.Offender.{Offender}
 use Rattle.paper.specs.Language.{𝐁, 𝐆, Selection}
 use Rattle.verdict.specs.Verdicts.{revisions_verdict}
 use Rattle.meaning.specs.declared.Layout.{Layout}
-use Prim.Native.Nat.{ℕ, ◌-◌, ◌≤◌}
+use Prim.Native.Nat.{ℕ}
 use Rattle.verdict.proofs.grade.from_selections.Given as goal
 
 -- selection rule i
@@ -14,7 +14,4 @@ abbrev rule : Layout → Bytes → ℕ → Selection
 rule l b i = selection_of (conditions 𝐁 l b) (conditions 𝐆 l b) l b (selection_at l b i)
 
 abbrev pub invariant-loop-i : goal.invariant-loop-i
-invariant-loop-i l = (l.i ≤ l.n) × Left (λ x. light (weight l.card) x.π) Offender.Selection (rule l.l l.card) l.n (revisions_verdict l.l l.card) l.i
-
-abbrev pub decreases-loop-i : goal.decreases-loop-i
-decreases-loop-i l = l.n - l.i
+invariant-loop-i l = Left (λ x. light (weight l.card.bytes.now) x.π) Offender.Selection (rule l.card.layout l.card.bytes.now) l.card.layout.selections.count (revisions_verdict l.card.layout l.card.bytes.now) l.i

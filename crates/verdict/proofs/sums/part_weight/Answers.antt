@@ -9,7 +9,7 @@ use lib.ListN.{length, get_or}
 use Rattle.verdict.proofs.sums.part_weight.Goals as goal
 
 pub loop-i-init : goal.loop-i-init
-loop-i-init c = (omega arith, omega arith, omega arith)
+loop-i-init c = (omega arith, omega arith)
 
 pub overflow_add-at : goal.overflow_add-at
 overflow_add-at c = let p = c.requires.near in search (rules, p)
@@ -43,8 +43,8 @@ loop-i-preserved c =
     let n : length π ≡ a.n = length_part b a.at a.n p.inside in
     let f : weight b (get_or π l.i 0) ≡ weight b (byte b (a.at + l.i)) = ap (weight b) (part_at b a.at a.n l.i (omega arith)) in
     let s = weigh_next (weight b) π l.i (omega arith) in
-    let u = l.invariant.2 in
-    (omega arith, omega arith, omega arith)
+    let u = l.invariant.1 in
+    (omega arith, omega arith)
 
 pub returns : goal.returns
 returns c =
@@ -54,5 +54,5 @@ returns c =
     let π = part b a.at a.n in
     let n : length π ≡ a.n = length_part b a.at a.n c.requires.inside in
     let s = weigh_done (weight b) π l.i (omega arith) in
-    let u = l.invariant.2 in
+    let u = l.invariant.1 in
     omega arith

@@ -17,8 +17,8 @@ overflow_sub-result c =
     let a = c.args in
     let b = a.card.now in
     let e = weigh_part (weight b) b a.pool.offset a.s.start a.s.length in
-    let f = c.first_weight-front.ensures in
-    let g = c.first_weight-whole.ensures in
+    let f = c.first_weight-2.ensures in
+    let g = c.first_weight.ensures in
     omega arith
 
 pub returns : goal.returns
@@ -27,6 +27,6 @@ returns c =
     let a = c.args in
     let b = a.card.now in
     let e = weigh_part (weight b) b a.pool.offset a.s.start a.s.length in
-    let f = c.first_weight-front.ensures in
-    let g = c.first_weight-whole.ensures in
+    let f = c.first_weight-2.ensures in
+    let g = c.first_weight.ensures in
     omega arith

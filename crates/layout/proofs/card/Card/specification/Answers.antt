@@ -1,0 +1,6 @@
+use Rattle.meaning.specs.Card.{specification_at}
+use Rattle.layout.proofs.card.Card.specification.Goals as goal
+
+pub returns : goal.returns
+unfolding specification_at
+returns c = cc

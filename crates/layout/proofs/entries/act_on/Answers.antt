@@ -1,6 +1,0 @@
-use Rattle.meaning.specs.Card.{specification_at}
-use Rattle.layout.proofs.entries.act_on.Goals as goal
-
-pub returns : goal.returns
-unfolding specification_at
-returns c = cc
