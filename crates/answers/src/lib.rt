@@ -1,4 +1,5 @@
-// The numbers in which what the guide answers is told to others: the header, the drill and the program.
+// The numbers in which what the guide answers is told to others: the header, the drill and the program. Each is a function with a
+// name of its own, which docs/PROMISES.md and the calls for C cite, and no `From`.
 #![tactic(auto)]
 
 ghost use Rattle.std.specs.Prelude.{◌≡◌, ◌<◌};
@@ -79,7 +80,8 @@ pub fn answer_carried(a: Answer) -> usize
     }
 }
 
-// Which sheet is told: that of the part, and with 20 the refused one.
+// Which sheet is told: that of the part, and with 20 the refused one. The part's sheet comes as its number, as `Refusal::Sheet`
+// carries one: the enum is of `names`, on which this crate does not build.
 #[tactic(auto, unfolding(meaning::specs::Numbers::sheet_number))]
 pub fn sheet_number(a: Answer, sheet: usize) -> u8
     requires { sheet_number a sheet < 256 }

@@ -14,6 +14,7 @@ use Rattle.meaning.specs.Numbers.{sheet_number, ending_number, coming_number, co
 use Rattle.deliberation.specs.declared.Deliberated.{Deliberated}
 use Rattle.deliberation.specs.Deliberate.{deliberation_ending_number}
 use Rattle.names.specs.declared.Named.{Named}
+use Rattle.names.specs.Naming.{sheet_number_of}
 
 -- A configuration from its parts: "`beliefs` and `goals` are 32 bytes each, `plan` is 1,024 bytes"
 abbrev pub whole : Bytes → Bytes → Bytes → ℕ → ℕ → ℕ → Configuration
@@ -80,6 +81,6 @@ deliberated_to x n c count ending remaining length =
 abbrev pub named_as : Named → ℕ → ℕ → ℕ → ℕ → Type 0
 named_as x n sheet start length =
     (n ≡ answer_number x.answer)
-    × (sheet ≡ sheet_number x.answer x.sheet)
+    × (sheet ≡ sheet_number x.answer (sheet_number_of x.sheet))
     × (start ≡ x.part.start)
     × (length ≡ x.part.length)

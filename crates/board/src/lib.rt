@@ -1,5 +1,5 @@
 // The board: the guide's sixteen calls for C, as include/rigtemple.h declares them. A configuration is lent in its six parts;
-// the return value is the answer's number.
+// the return value is the answer's number. The parts, the calls that are alike and the numbers are as C takes them.
 #![tactic(auto)]
 
 ghost use Rattle.std.specs.Prelude.{◌≡◌};
@@ -501,7 +501,7 @@ pub extern "C" fn rigtemple_4_name_parts(
         sheet.new start.new length.new }
 {
     let named = names::name::named(card, shed, master, action as usize);
-    *sheet = sheet_number(named.answer, named.sheet);
+    *sheet = sheet_number(named.answer, named.sheet.number());
     *start = named.part.start;
     *length = named.part.length;
     answer_number(named.answer)

@@ -33,7 +33,8 @@ pub fn nodes_good(card: &Card) -> bool
 }
 
 // The mark of a node by its kind and the marks of its children, which are read whatever the kind is: the machine then chooses
-// without a jump, and in a card's check a wrong guess of the kind would cost more than what is read for nothing.
+// without a jump, and in a card's check a wrong guess of the kind would cost more than what is read for nothing. The kind is a
+// byte: "Node, 4 bytes: kind, a, b, 0."
 fn mark_of(kind: u8, first: u8, second: u8) -> u8
     requires { kind ≤ 5 }
     ensures { result ≡ mark_of (node_kind kind) first second }
@@ -43,13 +44,6 @@ fn mark_of(kind: u8, first: u8, second: u8) -> u8
         3 => first,
         _ => first | second,
     }
-}
-
-// Every node is marked, for both kinds.
-pub fn all_marks() -> [u8; 256]
-    ensures { result ≡ replicate 256 3 }
-{
-    [3; 256]
 }
 
 // The nodes that contain a belief atom, and those that contain a goal atom, where all are marked at first: in one pass.

@@ -9,7 +9,7 @@ ghost use Rattle.layout.specs.GoodLayout.{TwoByteSpan};
 ghost use Rattle.card.specs.Marks.{Marks};
 ghost use Rattle.card.specs.Entries.{entry_good};
 
-use crate::nodes::{AtomKind, all_marks, free_of, mark_nodes};
+use crate::nodes::{AtomKind, free_of, mark_nodes};
 use layout::bytes::byte_below;
 use layout::card::Card;
 use layout::header::in_range;
@@ -59,7 +59,7 @@ fn revision_good(l: Layout, marks: &[u8; 256], e: RevisionEntry) -> bool
         & (e.zero == 0)
 }
 
-// Whether entry i of a kind keeps its kind's rule.
+// Whether entry i of a kind keeps its kind's rule: a match that names each kind is as plain as a table.
 fn entry_good(card: &Card, marks: &[u8; 256], kind: Kind, i: usize) -> bool
     requires there { i < count_of card.now.layout (kind_number kind) }
     requires marks { Marks 1 card.now.layout card.now.bytes.now marks.now × Marks 2 card.now.layout card.now.bytes.now marks.now }
@@ -89,7 +89,7 @@ pub fn rules_good(card: &Card) -> bool
     requires { (nodes_good card.now.layout card.now.bytes.now ≡ true) × TwoByteSpan card.now.layout.initial }
     ensures { result ≡ rules_good (containing 1 card.now.layout card.now.bytes.now) (containing 2 card.now.layout card.now.bytes.now) card.now.layout card.now.bytes.now }
 {
-    let mut marks = all_marks();
+    let mut marks = [3; 256];
     mark_nodes(card, &mut marks);
     entries_good(card, &marks, Kind::Action)
         & entries_good(card, &marks, Kind::Selection)

@@ -147,7 +147,7 @@ fn revision_enabled(card: &Card, m: Standing, plan: &Plan, marks: &Marks, i: usi
     )
 }
 
-// Whether a choice that the card has is enabled.
+// Whether a choice that the card has is enabled: beside `ask_entry`, by the cheaper questions above.
 pub fn is_enabled(card: &Card, m: Standing, plan: &Plan, marks: &Marks, choice: Choice) -> bool
     requires { SomeSets card.now.layout card.now.bytes.now m plan.now marks.now × (choice.number < count_of card.now.layout (kind_number choice.kind)) }
     ensures { AllSets card.now.layout card.now.bytes.now m plan.now marks.now

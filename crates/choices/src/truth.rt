@@ -1,6 +1,6 @@
 // Conditions, judged in one pass over the nodes from the lowest upward. 02, Wish 3: "keeping one mark and the settling atom for
 // each node".
-ghost use Rattle.std.specs.Prelude.{◌≡◌, Bool, not, ℕ, ◌≤◌, length, replicate};
+ghost use Rattle.std.specs.Prelude.{◌≡◌, Bool, not, ℕ, ◌≤◌, length};
 ghost use Rattle.meaning.specs.Kinds.{node_kind};
 ghost use Rattle.card.specs.GoodCard.{GoodCard};
 ghost use Rattle.door.specs.Asking.{both};
@@ -47,7 +47,7 @@ pub fn both_of(left: u16, right: u16) -> u16
     if is_true(left) { right } else { left }
 }
 
-// One of two: the same of an "or".
+// One of two: the same of an "or". One function for both would take what a true left gives as a parameter.
 fn one_of(left: u16, right: u16) -> u16
     ensures { of_mark result ≡ either (of_mark left) (of_mark right) }
 {
@@ -86,11 +86,4 @@ pub fn judge_nodes(card: &Card, beliefs: &Set, goals: &Set, marks: &mut Marks)
     for i in 0..card.layout.nodes.count as usize {
         marks[i] = judge(i as u8, card.node(i), beliefs, goals, marks);
     }
-}
-
-// No node is marked.
-pub fn no_marks() -> Marks
-    ensures { result ≡ replicate 256 0 }
-{
-    [0u16; 256]
 }

@@ -5,7 +5,7 @@ ghost use Rattle.notation.specs.Built.{node};
 ghost use Rattle.notation.specs.Making.{added_to, when};
 ghost use Rattle.conditions.specs.Reads.{nodes_of, last_of, joined_nodes};
 
-// A node behind k others.
+// A node behind k others. Its kind is the byte that a card has.
 pub fn put_node(nodes: &mut [u8], k: Option<usize>, kind: u8, a: u8, b: u8) -> Option<usize>
     requires nodes_len { length nodes.old ≡ 1024 }
     requires k_bound { IfSome k (λ n. n ≤ 256) }

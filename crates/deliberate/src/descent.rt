@@ -51,6 +51,7 @@ fn into_part(e: Node, movable: &[u8; 16], stack: &mut [u8; 128], top: usize) -> 
 }
 
 // Into the left of a sequence, and of that: "a sequence is one number until a move is made in it". No mark is needed for it.
+// A while, for it goes from an entry to its part and counts nothing.
 pub fn lead(program: &[u8], stack: &mut [u8; 128], from: usize, top: usize) -> Leaf
     requires { ((l : Layout) × ((b : Bytes) × GoodProgram l b program.now)) × Stack program.now stack.old from top }
     ensures by_index { (has : ℕ → Bool)
@@ -74,7 +75,8 @@ pub fn lead(program: &[u8], stack: &mut [u8; 128], from: usize, top: usize) -> L
     }
 }
 
-// Down from an entry, behind which the numbers from top on stand: each part has a lower number.
+// Down from an entry, behind which the numbers from top on stand: each part has a lower number, and the while goes from part to
+// part.
 pub fn descend(
     program: &[u8],
     movable: &[u8; 16],

@@ -37,7 +37,8 @@ pub struct Point {
     pub top: usize,
 }
 
-// What a move comes to, where it leaves the deliberation, and whether the marks of the nodes are still true.
+// What a move comes to, where it leaves the deliberation, and whether the marks of the nodes are still true. The flag goes with
+// each of the others, so that it is no Option.
 #[derive(Clone, Copy)]
 pub struct AfterMove {
     pub standing: Standing,
@@ -227,7 +228,7 @@ fn put_back(made: MoveMade, stack: &mut [u8; 128], top: usize, next: u8)
     }
 }
 
-// The lowest enabled action, where an entry of this kind is an execute.
+// The lowest enabled action, where an entry of this kind, a byte as a node's is, is an execute.
 fn action_for(card: &Card, m: Standing, plan: &Plan, marks: &Marks, kind: u8) -> Option<Choice>
     requires { SomeSets card.now.layout card.now.bytes.now m plan.now marks.now }
     ensures { AllSets card.now.layout card.now.bytes.now m plan.now marks.now

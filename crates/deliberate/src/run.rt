@@ -4,7 +4,6 @@ ghost use Rattle.door.specs.Words.{configured};
 ghost use Rattle.deliberate.specs.Ran.{Starts, outcome_of, RanTo, stopped_by};
 
 use crate::made::{MoveMade, Point, make_move};
-use choices::truth::no_marks;
 use deliberation::DeliberationEnding;
 use layout::card::Card;
 use meaning::{Plan, Set, Standing};
@@ -60,7 +59,7 @@ pub fn run_moves(
         result (configured beliefs.new goals.new result.standing plan.new) stack.new }
 {
     let mut here = at;
-    let mut marks = no_marks();
+    let mut marks = [0; 256];
     let mut known = false;
     for count in 0..budget {
         if here.top == 128 {

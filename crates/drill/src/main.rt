@@ -15,7 +15,8 @@ use input::read_full;
 use meaning::{BoundedRan, BoundedReply, Configuration, Listed, Mind, Plan, Ran, Reply};
 use std::io;
 
-// Why the program ends: its input has ended, or has a request that breaks the rules; or a read or a write failed.
+// Why the program ends, the error that `?` hands on: its input has ended, or has a request that breaks the rules; or a read or a
+// write failed.
 #[derive(Drop)]
 enum End {
     Input,
@@ -373,7 +374,7 @@ fn go_on(rt: HostRuntime, card: &[u8]) -> Result<()> {
 // (2) of the part"
 fn tell_name(rt: HostRuntime, card: &[u8], shed: &[u8], master: &[u8], action: u16) -> Result<()> {
     let n = guide::named(card, shed, master, action);
-    let sheet = sheet_number(n.answer, n.sheet);
+    let sheet = sheet_number(n.answer, n.sheet.number());
     tell(rt, answer_number(n.answer))?;
     tell_bytes(rt, &[sheet])?;
     tell(rt, n.part.start)?;

@@ -28,6 +28,7 @@ use Rattle.deliberation.specs.Entries.{program_table, numbers_table, go_on_answe
 use Rattle.deliberation.specs.Theorems.{GoesOn}
 use Rattle.deliberation.proofs.Call.{said}
 use Rattle.names.specs.declared.Named.{Named}
+use Rattle.names.specs.declared.sheet.Sheet.{Sheet}
 use Rattle.names.specs.Sheets.{name_span}
 use Rattle.names.specs.Naming.{Question, name_table, name_answer, named, refused_name, found, answered, names, Names}
 use Rattle.names.proofs.Naming.{on_refusal}
@@ -42,7 +43,7 @@ found_done : (q : Question) → (found q).answer ≡ Ok tt
 unfolding found
 found_done q = go (ltb 0 (name_span q.shed q.action).length) (name_span q.shed q.action) (name_span q.master q.action)
   where
-    go : (t : Bool) (x y : Span) → (if t (named (Ok tt) 1 x) (named (Ok tt) 0 y)).answer ≡ Ok tt
+    go : (t : Bool) (x y : Span) → (if t (named (Ok tt) Sheet.Shed x) (named (Ok tt) Sheet.Master y)).answer ≡ Ok tt
     go true x y = refl
     go false x y = refl
 

@@ -9,7 +9,7 @@ use std::io;
 use std::io::Read;
 
 // Reads until the buffer is full or the input ends, and answers how many bytes it put at the buffer's start. A failed read ends it,
-// and what was read before that is gone.
+// and what was read before that is gone. A while, for it moves by what a read gives.
 pub fn read_full<R: Read>(from: &mut R, bytes: &mut [u8]) -> io::Result<usize>
     ensures bound { ReadsAtMost result bytes.new }
     ensures bytes { IfOk result (λ n. Consumes (R.remaining from.old) (R.remaining from.new) (take n bytes.new)) }

@@ -9,14 +9,14 @@ ghost use Rattle.listing.specs.Listed.{enabled_code, Gathered};
 ghost use Rattle.listing.specs.Looking.{look_at, look_by, judged_in};
 
 use choices::ask::{ask, is_enabled};
-use choices::truth::{Marks, is_true, judge_nodes, no_marks};
+use choices::truth::{Marks, is_true, judge_nodes};
 use door::asked::{Asked, Choice};
 use layout::card::Card;
 use meaning::{Plan, Set, Standing};
 use runs::Kind;
 use sets::add_member;
 
-// Of a choice: whether it is enabled, and how many conditions are judged for it.
+// Of a choice: whether it is enabled, and how many conditions are judged for it, also where it is not.
 #[derive(Clone, Copy)]
 pub struct Look {
     pub enabled: bool,
@@ -133,7 +133,7 @@ pub fn gather(
         (state_of (configured beliefs.now goals.now m plan.now)).mental }
     ensures codes_len { length codes.new ≡ 96 }
 {
-    let mut marks = no_marks();
+    let mut marks = [0; 256];
     judge_nodes(card, beliefs, goals, &mut marks);
     let nothing = Looked {
         enabled: 0,

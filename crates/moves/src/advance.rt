@@ -8,7 +8,7 @@ ghost use Rattle.moves.specs.Steps.{Advances, Steps, own_move};
 use crate::step::{Stepped, Transition, step};
 use card::check::answer_of;
 use choices::ask::choose;
-use choices::truth::{Marks, judge_nodes, no_marks};
+use choices::truth::{Marks, judge_nodes};
 use door::admit::admit;
 use layout::card::Card;
 use meaning::{Answer, Plan, Set, Standing};
@@ -66,7 +66,7 @@ pub fn advance_once(
             },
         };
     };
-    let mut marks = no_marks();
+    let mut marks = [0; 256];
     judge_nodes(&card, beliefs, goals, &mut marks);
     AdvancedInPlace {
         answer: Ok(()),

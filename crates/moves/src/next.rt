@@ -10,7 +10,7 @@ ghost use Rattle.moves.specs.Next.{is_full, next_with};
 use crate::step::revised_length;
 use card::check::answer_of;
 use choices::ask::choose;
-use choices::truth::{Marks, judge_nodes, no_marks};
+use choices::truth::{Marks, judge_nodes};
 use door::admit::admit;
 use door::asked::Choice;
 use layout::card::Card;
@@ -69,7 +69,7 @@ pub fn next(card: &[u8], beliefs: &Set, goals: &Set, m: Standing, plan: &Plan) -
             coming: Coming::Rest,
         };
     };
-    let mut marks = no_marks();
+    let mut marks = [0; 256];
     judge_nodes(&card, beliefs, goals, &mut marks);
     NextInPlace {
         answer: Ok(()),

@@ -8,7 +8,7 @@ ghost use Rattle.choices.specs.Judged.{Marked};
 use crate::advance::advance;
 use crate::step::Transition;
 use card::check::answer_of;
-use choices::truth::{Marks, judge_nodes, no_marks};
+use choices::truth::{Marks, judge_nodes};
 use door::admit::admit;
 use door::in_place::RanInPlace;
 use layout::card::Card;
@@ -54,7 +54,7 @@ pub fn run_on(
         ≡ ran (run (agent_for card.now.layout card.now.bytes.now) budget (state_of (configured beliefs.old goals.old m plan.old))) }
 {
     let mut cur = m;
-    let mut marks = no_marks();
+    let mut marks = [0; 256];
     let mut known = false;
     for count in 0..budget {
         refresh(card, beliefs, goals, known, &mut marks);

@@ -11,7 +11,7 @@ ghost use Rattle.moves.specs.Steps.{answer_to, taken_by};
 use crate::step::{Transition, step};
 use card::check::answer_of;
 use choices::ask::ask;
-use choices::truth::{judge_nodes, no_marks};
+use choices::truth::judge_nodes;
 use door::admit::admit;
 use door::asked::{Asked, Choice};
 use door::in_place::ReplyInPlace;
@@ -63,7 +63,7 @@ pub fn take_choice(
             standing: m,
         };
     };
-    let mut marks = no_marks();
+    let mut marks = [0; 256];
     judge_nodes(card, beliefs, goals, &mut marks);
     let answer = answer_asked(ask(card, m, plan, &marks, choice));
     let Ok(()) = answer else {

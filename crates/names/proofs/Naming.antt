@@ -23,8 +23,9 @@ use Rattle.card.proofs.Rows.{last_row, no_row}
 use Rattle.meaning.proofs.Calls.{checks_good, good_judged, refused_judged}
 use Rattle.card.proofs.GoodCard.{good_card}
 use Rattle.names.specs.declared.Named.{Named}
+use Rattle.names.specs.declared.sheet.Sheet as Which
 use Rattle.names.specs.Sheets.{name_span, bytes_of, shed_good, master_good}
-use Rattle.names.specs.Naming.{Question, name_table, name_answer, named, refused_name, found, answered, names, sheet_of, name_of, place_of}
+use Rattle.names.specs.Naming.{Question, name_table, name_answer, named, refused_name, found, answered, names, either_sheet, sheet_of, name_of, place_of}
 use Rattle.names.specs.Working.{SheetsReady}
 use Rattle.names.specs.Theorems.{Sheet, PartOf, OnDone, OnRefusal}
 use Rattle.names.proofs.Rules.{rules_of, shed_rules, end_within, sheet_holds, shed_holds}
@@ -58,13 +59,13 @@ ready n q h e =
 
 module _ (q : Question) where
   abbrev pub either : Bool → Named
-  either t = if t (named (Ok tt) 1 (name_span q.shed q.action)) (named (Ok tt) 0 (name_span q.master q.action))
+  either t = if t (named (Ok tt) Which.Sheet.Shed (name_span q.shed q.action)) (named (Ok tt) Which.Sheet.Master (name_span q.master q.action))
 
-  pub found_own : (p : Span) → p ≡ name_span q.shed q.action → 0 < p.length → named (Ok tt) 1 p ≡ found q
+  pub found_own : (p : Span) → p ≡ name_span q.shed q.action → 0 < p.length → named (Ok tt) Which.Sheet.Shed p ≡ found q
   unfolding found
-  found_own p e h = ap (named (Ok tt) 1) e ∙ sym (ap either (ap (λ p. ltb 0 p.length) (sym e) ∙ lt-ltb 0 p.length h))
+  found_own p e h = ap (named (Ok tt) Which.Sheet.Shed) e ∙ sym (ap either (ap (λ p. ltb 0 p.length) (sym e) ∙ lt-ltb 0 p.length h))
 
-  pub found_other : (p : Span) → p ≡ name_span q.shed q.action → p.length ≤ 0 → named (Ok tt) 0 (name_span q.master q.action) ≡ found q
+  pub found_other : (p : Span) → p ≡ name_span q.shed q.action → p.length ≤ 0 → named (Ok tt) Which.Sheet.Master (name_span q.master q.action) ≡ found q
   unfolding found
   found_other p e h = sym (ap either (ap (λ p. ltb 0 p.length) (sym e) ∙ le-ltb 0 p.length h))
 
@@ -137,17 +138,17 @@ module _ (b : Bytes) (q : Question) where
 
 -- ---- the parts
 
-part_own : (n : ℕ) (q : Question) → SheetsPass n q → 0 < (name_span q.shed q.action).length → PartOf q (named (Ok tt) 1 (name_span q.shed q.action))
+part_own : (n : ℕ) (q : Question) → SheetsPass n q → 0 < (name_span q.shed q.action).length → PartOf q (named (Ok tt) Which.Sheet.Shed (name_span q.shed q.action))
 part_own n q p h = go (shed_rules n q.shed p.shed)
   where
-    go : (q.shed ≡ []) ⊎ Sheet 0 n q.shed → PartOf q (named (Ok tt) 1 (name_span q.shed q.action))
+    go : (q.shed ≡ []) ⊎ Sheet 0 n q.shed → PartOf q (named (Ok tt) Which.Sheet.Shed (name_span q.shed q.action))
     go (inl e) = let z : (name_span q.shed q.action).length ≡ 0 = ap (λ s. (name_span s q.action).length) e in absurd (omega arith)
     go (inr r) =
         let w = end_within 0 n q.shed r q.action p.known in
         let f = r.never_fall q.action p.known in
         record { within = omega (arith, w, f); some = h; in_utf8 = r.in_utf8 q.action p.known }
 
-part_other : (n : ℕ) (q : Question) → SheetsPass n q → PartOf q (named (Ok tt) 0 (name_span q.master q.action))
+part_other : (n : ℕ) (q : Question) → SheetsPass n q → PartOf q (named (Ok tt) Which.Sheet.Master (name_span q.master q.action))
 unfolding master_good
 part_other n q p =
     let r = rules_of 1 n q.master p.master in
@@ -188,11 +189,11 @@ part_within b q = go (name_answer b q) refl
 -- ---- what is handed back, of an answer n
 
 module _ (b : Bytes) (q : Question) (n : Named) (e : n ≡ names b q) where
-  pub own_sheet : {X : Type 0} (x y : X) → 0 < n.sheet → sheet_of (names b q) x y ≡ x
-  own_sheet x y h = ap (λ n. sheet_of n x y) (sym e) ∙ ap (λ t. if t x y) (lt-ltb 0 n.sheet h)
+  pub own_sheet : {X : Type 0} (x y : X) → n.sheet ≡ Which.Sheet.Shed → sheet_of (names b q) x y ≡ x
+  own_sheet x y h = ap (λ n. sheet_of n x y) (sym e) ∙ ap (λ s. either_sheet s x y) h
 
-  pub other_sheet : {X : Type 0} (x y : X) → n.sheet ≤ 0 → sheet_of (names b q) x y ≡ y
-  other_sheet x y h = ap (λ n. sheet_of n x y) (sym e) ∙ ap (λ t. if t x y) (le-ltb 0 n.sheet h)
+  pub other_sheet : {X : Type 0} (x y : X) → n.sheet ≡ Which.Sheet.Master → sheet_of (names b q) x y ≡ y
+  other_sheet x y h = ap (λ n. sheet_of n x y) (sym e) ∙ ap (λ s. either_sheet s x y) h
 
   -- the sheet that it is a part of
   module _ (s : Bytes) (so : sheet_of (names b q) q.shed q.master ≡ s) where

@@ -15,7 +15,7 @@ use Rattle.meaning.specs.Numbers.{sheet_number}
 use Rattle.meaning.proofs.Tables.{given, not_given}
 use Rattle.names.specs.declared.Named.{Named}
 use Rattle.names.specs.Sheets.{name_span}
-use Rattle.names.specs.Naming.{Question, name_table, name_answer, found, names}
+use Rattle.names.specs.Naming.{Question, name_table, name_answer, sheet_number_of, found, names}
 use Rattle.names.proofs.Naming.{either, names_found, on_refusal}
 
 -- a table whose refusals carry 0 or 1
@@ -40,14 +40,14 @@ answer_small : (b : Bytes) (q : Question) → answer_carried (name_answer b q) �
 unfolding name_answer card_answer card_table name_table small carried
 answer_small b q = then_small (card_answer b) _ (table_small card_table b refl) (table_small (name_table (layout b).actions) q refl)
 
-found_told : (q : Question) → sheet_number (found q).answer (found q).sheet ≤ 1
+found_told : (q : Question) → sheet_number (found q).answer (sheet_number_of (found q).sheet) ≤ 1
 unfolding found sheet_number
-found_told q = elim (ltb 0 (name_span q.shed q.action).length) as (λ t. sheet_number (either q t).answer (either q t).sheet ≤ 1) [ true ↦ omega arith | false ↦ omega arith ]
+found_told q = elim (ltb 0 (name_span q.shed q.action).length) as (λ t. sheet_number (either q t).answer (sheet_number_of (either q t).sheet) ≤ 1) [ true ↦ omega arith | false ↦ omega arith ]
 
-pub sheet_told : (b : Bytes) (q : Question) (n : Named) → n ≡ names b q → sheet_number n.answer n.sheet ≤ 1
+pub sheet_told : (b : Bytes) (q : Question) (n : Named) → n ≡ names b q → sheet_number n.answer (sheet_number_of n.sheet) ≤ 1
 unfolding answer_carried sheet_number
 sheet_told b q n told = go (name_answer b q) refl
   where
-    go : (a : Answer) → name_answer b q ≡ a → sheet_number n.answer n.sheet ≤ 1
-    go (Ok _) e = subst (λ (n : Named). sheet_number n.answer n.sheet ≤ 1) (sym (told ∙ names_found b q e)) (found_told q)
-    go (Err r) e = subst (λ (n : Named). sheet_number n.answer n.sheet ≤ 1) (sym (told ∙ on_refusal b q r e)) (subst (λ a. answer_carried a ≤ 1) e (answer_small b q))
+    go : (a : Answer) → name_answer b q ≡ a → sheet_number n.answer (sheet_number_of n.sheet) ≤ 1
+    go (Ok _) e = subst (λ (n : Named). sheet_number n.answer (sheet_number_of n.sheet) ≤ 1) (sym (told ∙ names_found b q e)) (found_told q)
+    go (Err r) e = subst (λ (n : Named). sheet_number n.answer (sheet_number_of n.sheet) ≤ 1) (sym (told ∙ on_refusal b q r e)) (subst (λ a. answer_carried a ≤ 1) e (answer_small b q))

@@ -7,6 +7,7 @@ use Rattle.meaning.specs.declared.Span.{Span}
 use Rattle.meaning.specs.Card.{Bytes, layout}
 use Rattle.meaning.specs.Refusals.{Row, ◌given_when◌, first_given, and_then, card_answer}
 use Rattle.names.specs.declared.Named.{Named}
+use Rattle.names.specs.declared.sheet.Sheet.{Sheet}
 use Rattle.names.specs.Sheets.{name_span, bytes_of, shed_good, master_good}
 
 -- 02, Wish 8: "a master sheet of move names and may have one in its own language", "Asked for an action": what is asked beside the
@@ -32,21 +33,26 @@ name_table n =
 unfoldable pub name_answer : Bytes → Question → Answer
 name_answer b q = and_then (card_answer b) (first_given (name_table (layout b).actions) q)
 
--- An answer with a part of the master's sheet, 0, or of the shed's, 1.
-abbrev pub named : Answer → ℕ → Span → Named
+-- The number in which a sheet is told: 0 the master's, 1 the shed's.
+abbrev pub sheet_number_of : Sheet → ℕ
+sheet_number_of Sheet.Master = 0
+sheet_number_of Sheet.Shed = 1
+
+-- An answer with a part of the master's sheet or of the shed's.
+abbrev pub named : Answer → Sheet → Span → Named
 named a k p = record { answer = a; sheet = k; part = p }
 
 -- 02, Wish 8: "with an empty part of the master"
 abbrev pub refused_name : Answer → Named
-refused_name a = named a 0 (record { start = 0; length = 0 })
+refused_name a = named a Sheet.Master (record { start = 0; length = 0 })
 
 -- 02, Wish 8: "hands back the part of the shed's sheet that holds its name, or the part of the master sheet where the shed's name
 -- is empty".
 unfoldable pub found : Question → Named
 found q =
     if (ltb 0 (name_span q.shed q.action).length)
-    (named (Ok tt) 1 (name_span q.shed q.action))
-    (named (Ok tt) 0 (name_span q.master q.action))
+    (named (Ok tt) Sheet.Shed (name_span q.shed q.action))
+    (named (Ok tt) Sheet.Master (name_span q.master q.action))
 
 -- What the call answers.
 abbrev pub answered : Answer → Question → Named
@@ -61,8 +67,12 @@ abbrev pub Names : Bytes → Question → Named → Type 0
 Names b q r = r ≡ names b q
 
 -- The sheet that an answer's part lies in.
+abbrev pub either_sheet : {X : Type 0} → Sheet → X → X → X
+either_sheet Sheet.Shed shed master = shed
+either_sheet Sheet.Master shed master = master
+
 abbrev pub sheet_of : {X : Type 0} → Named → X → X → X
-sheet_of n shed master = if (ltb 0 n.sheet) shed master
+sheet_of n shed master = either_sheet n.sheet shed master
 
 -- 02, Wish 8: "hands back the part": its bytes, and where it lies, its start behind where its sheet does. A place is a piece of
 -- memory and an offset in it.

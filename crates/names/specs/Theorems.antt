@@ -4,6 +4,7 @@ use Rattle.meaning.specs.declared.Refusal.{Refusal}
 use Rattle.meaning.specs.Card.{Bytes, layout, number_at}
 use Rattle.utf8.specs.Grammar.{UTF8_octets}
 use Rattle.names.specs.declared.Named.{Named}
+use Rattle.names.specs.declared.sheet.Sheet as Which
 use Rattle.names.specs.Sheets.{offset_at, name_span, bytes_of, shed_good, master_good}
 use Rattle.names.specs.Naming.{Question, name_answer, refused_name, named, names, sheet_of, name_of}
 
@@ -34,8 +35,8 @@ pub record PartOf (q : Question) (n : Named) : Type 0 where
 pub record DoneName (b : Bytes) (q : Question) : Type 0 where
   pub known : q.action < (layout b).actions
   pub part : PartOf q (names b q)
-  pub own : 0 < (name_span q.shed q.action).length → names b q ≡ named (Ok tt) 1 (name_span q.shed q.action)
-  pub other : (name_span q.shed q.action).length ≡ 0 → names b q ≡ named (Ok tt) 0 (name_span q.master q.action)
+  pub own : 0 < (name_span q.shed q.action).length → names b q ≡ named (Ok tt) Which.Sheet.Shed (name_span q.shed q.action)
+  pub other : (name_span q.shed q.action).length ≡ 0 → names b q ≡ named (Ok tt) Which.Sheet.Master (name_span q.master q.action)
 
 abbrev pub OnDone : Type 0
 OnDone = (b : Bytes) (q : Question) → name_answer b q ≡ Ok tt → DoneName b q

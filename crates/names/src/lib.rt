@@ -4,12 +4,13 @@
 pub mod name;
 pub mod sheet;
 
+use crate::sheet::Sheet;
 use meaning::{Answer, Span};
 
-// The answer, and the part that it hands back: of the master's sheet (0) or of the shed's (1).
+// The answer, and the part that it hands back: of which sheet, and where in it.
 #[derive(Clone, Copy)]
 pub struct Named {
     pub answer: Answer,
-    pub sheet: usize,
+    pub sheet: Sheet,
     pub part: Span,
 }

@@ -4,7 +4,7 @@ ghost use Rattle.names.specs.Naming.{asked, name_answer, refused_name, found, na
 ghost use Rattle.names.specs.Working.{SheetsReady};
 
 use crate::Named;
-use crate::sheet::{master_good, name_span, shed_good};
+use crate::sheet::{Sheet, master_good, name_span, shed_good};
 use card::check::{check, row};
 use meaning::{Answer, Refusal, Span};
 
@@ -25,7 +25,7 @@ fn refused_name(a: Answer) -> Named
 {
     Named {
         answer: a,
-        sheet: 0,
+        sheet: Sheet::Master,
         part: Span {
             start: 0,
             length: 0,
@@ -43,14 +43,14 @@ fn find(shed: &[u8], master: &[u8], action: usize) -> Named
     if 0 < own.length {
         return Named {
             answer: Ok(()),
-            sheet: 1,
+            sheet: Sheet::Shed,
             part: own,
         };
     }
     let other = name_span(master, action);
     Named {
         answer: Ok(()),
-        sheet: 0,
+        sheet: Sheet::Master,
         part: other,
     }
 }
@@ -77,8 +77,8 @@ pub fn name<'a>(card: &[u8], shed: &'a [u8], master: &'a [u8], action: usize) ->
     let n = named(card, shed, master, action);
     let start = n.part.start as usize;
     let end = start + (n.part.length as usize);
-    if 0 < n.sheet {
-        return &shed[start..end];
+    match n.sheet {
+        Sheet::Shed => &shed[start..end],
+        Sheet::Master => &master[start..end],
     }
-    &master[start..end]
 }

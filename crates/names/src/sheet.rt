@@ -2,11 +2,28 @@
 ghost use Rattle.std.specs.Prelude.{◌≡◌, ◌+◌, ◌*◌, ◌≤◌, length};
 ghost use Rattle.meaning.specs.Refusals.{every};
 ghost use Rattle.names.specs.Sheets.{offset_at, name_span, head_good, name_good, sheet_good, shed_good, master_good};
+ghost use Rattle.names.specs.Naming.{sheet_number_of};
 ghost use Rattle.names.specs.Working.{Holds};
 
 use layout::bytes::{number_at, two_bytes_at};
 use meaning::Span;
 use utf8::utf8_part;
+
+// "the part of the shed's sheet …, or the part of the master sheet": which of the two, 0 the master's, 1 the shed's.
+#[derive(Clone, Copy)]
+pub enum Sheet {
+    Master,
+    Shed,
+}
+
+impl Sheet {
+    // The number in which it is told.
+    pub fn number(self) -> usize
+        ensures { result ≡ sheet_number_of self }
+    {
+        self as usize
+    }
+}
 
 // "a count n", "the first 2n + 4, the last the sheet's length"
 fn head_good(sheet: &[u8], n: usize) -> bool

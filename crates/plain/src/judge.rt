@@ -8,7 +8,7 @@ use meaning::{Layout, Node};
 use unpacked::configuration::Unpacked;
 use unpacked::tables::Tables;
 
-// Whether a condition holds, and "the atom that settled it", by its node.
+// Whether a condition holds, and "the atom that settled it", by its node, also where it does not hold.
 #[derive(Clone, Copy)]
 pub struct Judgement {
     pub value: bool,

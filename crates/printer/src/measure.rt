@@ -17,7 +17,8 @@ pub struct Measured {
     pub length: u16,
 }
 
-// Whether a node of a kind is a lower thing than is wanted: 0 an or-list, 1 an and-list, 2 a unit.
+// Whether a node of a kind is a lower thing than is wanted: 0 an or-list, 1 an and-list, 2 a unit. Here and below a node's kind is
+// the byte that the card has.
 pub fn is_lower(wanted: u8, kind: u8) -> bool
     ensures { result ≡ lower wanted (node_kind kind) }
 {

@@ -12,7 +12,7 @@ ghost use Rattle.deliberation.specs.Kinds.{entry_kind};
 ghost use Rattle.deliberation.specs.Entries.{entry_of, length_good, kind_good, entry_good, program_good};
 
 use card::check::row;
-use card::nodes::{AtomKind, all_marks, free_of, mark_nodes};
+use card::nodes::{AtomKind, free_of, mark_nodes};
 use layout::bytes::byte_below;
 use layout::card::Card;
 use layout::header::in_range;
@@ -79,7 +79,7 @@ fn program_good(card: &Card, program: &[u8]) -> bool
     if !length_good(n) {
         return false;
     }
-    let mut marks = all_marks();
+    let mut marks = [3; 256];
     mark_nodes(card, &mut marks);
     entries_good(program, card.layout, &marks, n / 4)
 }

@@ -8,7 +8,7 @@ ghost use Rattle.choices.specs.Judged.{SomeSets};
 use answers::refusal_number;
 use card::check::accept;
 use choices::ask::{ask, choose};
-use choices::truth::{Marks, judge_nodes, no_marks};
+use choices::truth::{Marks, judge_nodes};
 use door::admit::admit;
 use door::asked::{Asked, Choice};
 use input::read_full;
@@ -251,7 +251,7 @@ fn say_why(
     let Ok(card) = admit(card, beliefs, goals, m, plan) else {
         return Ok(());
     };
-    let mut marks = no_marks();
+    let mut marks = [0; 256];
     judge_nodes(&card, beliefs, goals, &mut marks);
     say_next(rt, &card, *goals, m, plan, &marks, ending)
 }

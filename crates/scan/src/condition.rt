@@ -106,7 +106,7 @@ fn behind_last(last: Opened) -> Result<usize, Wrong>
     }
 }
 
-// "condition = or-list"
+// "condition = or-list". A loop, for it moves by the unit that was scanned.
 pub fn scan_condition(text: &[u8], at: usize) -> Result<usize, Wrong>
     requires { at ≤ length text.now }
     ensures { ConditionOver text.now at result }

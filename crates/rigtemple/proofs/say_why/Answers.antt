@@ -1,8 +1,5 @@
 use Rattle.rigtemple.proofs.say_why.Goals as goal
 
-pub judge_nodes-requires : goal.judge_nodes-requires
-judge_nodes-requires c = (c.in-Ok.ensures.ready.card, rw c.no_marks-marks.ensures)
-
 pub say_next-requires : goal.say_next-requires
 say_next-requires c =
     let a = c.args in

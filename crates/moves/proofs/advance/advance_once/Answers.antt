@@ -20,9 +20,6 @@ returns-in_default c =
       steps = (ap transition_of (sym t), ap (λ (x : Reached). configuration_after x d) (sym t));
     }
 
-pub judge_nodes-requires : goal.judge_nodes-requires
-judge_nodes-requires c = (c.in-Ok.ensures.ready.card, rw c.no_marks-marks.ensures)
-
 pub advance-requires : goal.advance-requires
 advance-requires c = record { ready = c.in-Ok.ensures.ready; marked = c.judge_nodes.ensures.0 }
 

@@ -18,9 +18,6 @@ returns-in_default c =
     let s = c.answer_of.ensures ∙ ap answer_of c.in_default.is in
     ap (λ (x : Answer). record { answer = x; coming = Coming.Rest; configuration = d }) s ∙ sym (nexts_refused a.card.now d _ e)
 
-pub judge_nodes-requires : goal.judge_nodes-requires
-judge_nodes-requires c = (c.in-Ok.ensures.ready.card, rw c.no_marks-marks.ensures)
-
 pub coming-requires : goal.coming-requires
 coming-requires c =
     let a = c.args in

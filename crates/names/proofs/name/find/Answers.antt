@@ -1,4 +1,5 @@
 use Rattle.std.specs.Prelude.{Ok}
+use Rattle.names.specs.declared.sheet.Sheet.{Sheet}
 use Rattle.names.specs.Naming.{asked, named}
 use Rattle.names.proofs.Naming.{found_own, found_other}
 use mathlib.Core.Path.{ap, ◌∙◌}
@@ -17,6 +18,6 @@ returns c =
     let a = c.args in
     let own = c.name_span-own in
     let other = c.name_span-other in record {
-      value = ap (named (Ok tt) 0) other.ensures.value ∙ found_other (asked a.shed.now a.master.now a.action) own.result own.ensures.value c.if-own-gt0.false;
+      value = ap (named (Ok tt) Sheet.Master) other.ensures.value ∙ found_other (asked a.shed.now a.master.now a.action) own.result own.ensures.value c.if-own-gt0.false;
       length_bound = other.ensures.length_bound;
     }

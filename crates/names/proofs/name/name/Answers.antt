@@ -11,31 +11,31 @@ slice_bounds-result-end c =
     let a = c.args in
     let q = asked a.shed.now a.master.now a.action in
     let n = c.named-n in
-    ends_within a.card.now q n.result n.ensures.names a.shed.now (own_sheet a.card.now q n.result n.ensures.names a.shed.now a.master.now c.if-n-gt0.true)
+    ends_within a.card.now q n.result n.ensures.names a.shed.now (own_sheet a.card.now q n.result n.ensures.names a.shed.now a.master.now c.in-Shed.is)
 
-pub returns-then-n-gt0 : goal.returns-then-n-gt0
-returns-then-n-gt0 c =
+pub returns-in-Shed : goal.returns-in-Shed
+returns-in-Shed c =
     let a = c.args in
     let q = asked a.shed.now a.master.now a.action in
     let n = c.named-n in
-    let h = c.if-n-gt0.true in record {
+    let h = c.in-Shed.is in record {
       result_value = its_bytes a.card.now q n.result n.ensures.names a.shed.now (own_sheet a.card.now q n.result n.ensures.names a.shed.now a.master.now h);
       ref_ptr_value = its_place a.card.now q n.result n.ensures.names a.shed.ref_ptr a.master.ref_ptr a.shed.ref_ptr (own_sheet a.card.now q n.result n.ensures.names a.shed.ref_ptr a.master.ref_ptr h);
     }
 
-pub slice_bounds-result-end-2 : goal.slice_bounds-result-end-2
-slice_bounds-result-end-2 c =
+pub slice_bounds-result-end-in-Master : goal.slice_bounds-result-end-in-Master
+slice_bounds-result-end-in-Master c =
     let a = c.args in
     let q = asked a.shed.now a.master.now a.action in
     let n = c.named-n in
-    ends_within a.card.now q n.result n.ensures.names a.master.now (other_sheet a.card.now q n.result n.ensures.names a.shed.now a.master.now c.if-n-gt0.false)
+    ends_within a.card.now q n.result n.ensures.names a.master.now (other_sheet a.card.now q n.result n.ensures.names a.shed.now a.master.now c.in-Master.is)
 
-pub returns : goal.returns
-returns c =
+pub returns-in-Master : goal.returns-in-Master
+returns-in-Master c =
     let a = c.args in
     let q = asked a.shed.now a.master.now a.action in
     let n = c.named-n in
-    let h = c.if-n-gt0.false in record {
+    let h = c.in-Master.is in record {
       result_value = its_bytes a.card.now q n.result n.ensures.names a.master.now (other_sheet a.card.now q n.result n.ensures.names a.shed.now a.master.now h);
       ref_ptr_value = its_place a.card.now q n.result n.ensures.names a.shed.ref_ptr a.master.ref_ptr a.master.ref_ptr (other_sheet a.card.now q n.result n.ensures.names a.shed.ref_ptr a.master.ref_ptr h);
     }
