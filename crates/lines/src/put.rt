@@ -6,6 +6,7 @@ ghost use Rattle.lines.specs.Lines.{Held, Puts, PutAt, count_in, too_large, with
 
 use crate::lists::Edition1Set;
 use crate::made::Made;
+use layout::sizes::edition_1_header;
 
 // Something is too large.
 pub fn too_large(m: Made) -> Made
@@ -49,7 +50,7 @@ pub fn put_weight(card: &mut [u8], m: Made, w: usize) -> Made
     ensures { Puts (weight_in (two_bytes w)) m card.old result card.new }
 {
     let e = two_bytes(w);
-    match put(card, 64, count_in(m, m.weights), &e) {
+    match put(card, edition_1_header(), count_in(m, m.weights), &e) {
         Some(weights) => Made { weights, ..m },
         None => too_large(m),
     }

@@ -69,7 +69,8 @@ fn is_head(card: &Card, head: Span, plan: &Plan, len: usize) -> bool
 
 // A revision rule: "Enabled if the head is a prefix of the plan and the condition holds."
 fn ask_revision(card: &Card, t: &Tables, u: &Unpacked, judged: &Judgements, i: usize) -> Asked
-    requires { Ready card.now.layout card.now.bytes.now (configuration_from u.now) × Tabled card.now.layout card.now.bytes.now t.now × (i < card.now.layout.revisions.count) }
+    requires { Ready card.now.layout card.now.bytes.now (configuration_from u.now) × Tabled card.now.layout card.now.bytes.now t.now
+        × (i < card.now.layout.revisions.count) }
     ensures { result ≡ ask_revision card.now.layout card.now.bytes.now t.now u.now judged.now i }
 {
     let e = t.revisions[i];

@@ -53,7 +53,8 @@ fn add_kind(before: Codes, answers: Answers, kind: Kind) -> Codes
 fn gather(card: &Card, t: Tables, u: Unpacked, judged: Judgements) -> Codes
     requires ready { Ready card.now.layout card.now.bytes.now (configuration_from u) × Tabled card.now.layout card.now.bytes.now t }
     requires judged_all { JudgedAll card.now.layout card.now.bytes.now (configuration_from u) judged }
-    ensures codes_value { take result.count result.codes ≡ enabled_codes (agent_for card.now.layout card.now.bytes.now) (state_of (configuration_from u)).mental }
+    ensures codes_value { take result.count result.codes
+        ≡ enabled_codes (agent_for card.now.layout card.now.bytes.now) (state_of (configuration_from u)).mental }
     ensures count_bound { result.count ≤ 768 }
 {
     let none = Codes {

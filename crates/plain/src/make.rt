@@ -69,7 +69,9 @@ fn taken(choice: Choice, u: Unpacked, plan: Plan, n: usize) -> Made
 
 // Selection rule i: "The rule's plan becomes the plan."
 fn make_selection(card: &Card, e: SelectionEntry, u: Unpacked, i: usize) -> Made
-    requires { Ready card.now.layout card.now.bytes.now (configuration_from u) × Enabled card.now.layout card.now.bytes.now (configuration_from u) (select i) × (e ≡ selection_at card.now.layout card.now.bytes.now i) }
+    requires { Ready card.now.layout card.now.bytes.now (configuration_from u)
+        × Enabled card.now.layout card.now.bytes.now (configuration_from u) (select i)
+        × (e ≡ selection_at card.now.layout card.now.bytes.now i) }
     ensures { StepsBy card.now.layout card.now.bytes.now (configuration_from u) (select i) result.transition (configuration_from result.unpacked) }
 {
     let len = u.standing.length as usize;
@@ -110,7 +112,9 @@ fn make_action(card: &Card, u: Unpacked, i: usize) -> Made
 
 // Revision rule i: "The body takes the head's place; the rest stays." A plan that would be too long is not made.
 fn make_revision(card: &Card, e: RevisionEntry, u: Unpacked, i: usize) -> Made
-    requires { Ready card.now.layout card.now.bytes.now (configuration_from u) × Enabled card.now.layout card.now.bytes.now (configuration_from u) (revise i) × (e ≡ revision_at card.now.layout card.now.bytes.now i) }
+    requires { Ready card.now.layout card.now.bytes.now (configuration_from u)
+        × Enabled card.now.layout card.now.bytes.now (configuration_from u) (revise i)
+        × (e ≡ revision_at card.now.layout card.now.bytes.now i) }
     ensures { StepsBy card.now.layout card.now.bytes.now (configuration_from u) (revise i) result.transition (configuration_from result.unpacked) }
 {
     let len = u.standing.length as usize;

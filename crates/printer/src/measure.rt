@@ -122,7 +122,8 @@ fn measure_node(
     lengths: &[u16; 256],
     i: usize,
 ) -> Measured
-    requires { GoodCard card.now.layout card.now.bytes.now × (i < card.now.layout.nodes.count) × MeasuredTo card.now.layout card.now.bytes.now sizes.now depths.now lengths.now i }
+    requires { GoodCard card.now.layout card.now.bytes.now × (i < card.now.layout.nodes.count)
+        × MeasuredTo card.now.layout card.now.bytes.now sizes.now depths.now lengths.now i }
     ensures { Right 257 (tree_at card.now.layout card.now.bytes.now i) result.size result.depth result.length }
 {
     let x = card.node(i);
