@@ -1,5 +1,6 @@
 -- A deliberation so far, over plain values.
 use mathlib.Core.Path.{◌≡◌, refl, ap, ap₂, ◌∙◌, sym, subst}
+use mathlib.Core.Bool.{Bool, true, false}
 use mathlib.Core.List.{List, [], ◌∷◌, ◌++◌}
 use mathlib.Core.Option.{Option, none, some}
 use Prim.Native.Nat.{ℕ, suc, ◌+◌, ◌-◌, ◌%◌, ◌≤◌, ◌<◌}
@@ -8,6 +9,7 @@ use native.Mathlib.Omega.{arith}
 use lib.ListN.{length, drop, get_or, drop_of_length-le}
 use Rattle.paper.specs.Language.{𝐁, Agent, Config}
 use Rattle.paper.specs.Transitions.{Choice, Step}
+use Rattle.paper.specs.Next.{if}
 use Rattle.runs.specs.Order.{State, kind}
 use Rattle.runs.specs.Step.{after, Reached, step}
 use Rattle.runs.proofs.Step.{StepsTo, none_there, too_long, taken, steps_to}
@@ -58,6 +60,11 @@ module _ (A : Agent) (s : State) where
   led (taking k) ns ns' t e = led_by k ns ns' t refl (steps_to A s k) e
 
 -- ---- the deliberation so far
+
+-- one move more, or none
+pub at_most_one : (t : Bool) → if t 0 1 ≤ 1
+at_most_one true = omega arith
+at_most_one false = omega arith
 
 -- an outcome with so many moves before it
 abbrev counted : ℕ → Outcome → Outcome

@@ -2,7 +2,7 @@
 ghost use Rattle.std.specs.Prelude.{◌≡◌, ℕ, ◌≤◌, ◌<◌};
 ghost use Rattle.paper.specs.Atoms.{◌∈◌};
 ghost use Rattle.paper.specs.Next.{is_some};
-ghost use Rattle.door.specs.Words.{agent_for, state_of, first_of_kind};
+ghost use Rattle.door.specs.Words.{agent_for, state_of};
 ghost use Rattle.choices.specs.Judged.{SomeSets, AllSets};
 ghost use Rattle.deliberation.specs.Kinds.{entry_kind};
 ghost use Rattle.deliberation.specs.FirstMove.{lowest_action};
@@ -58,21 +58,21 @@ fn has_move(
     }
 }
 
-// The entries below n that have a first move, where the lowest enabled action is known.
+// The entries below n that have a first move, where it is known whether an action is enabled.
 pub fn mark_moves(
     card: &Card,
     m: Standing,
     plan: &Plan,
     marks: &Marks,
     program: &[u8],
-    action: Option<Choice>,
+    acts: bool,
     n: usize,
 ) -> [u8; 16]
     requires { SomeSets card.now.layout card.now.bytes.now m plan.now marks.now × GoodProgram card.now.layout card.now.bytes.now program.now × (n ≤ entry_count program.now) }
     ensures { AllSets card.now.layout card.now.bytes.now m plan.now marks.now
-        (λ c. action ≡ first_of_kind card.now.layout card.now.bytes.now c 1 → Movable card.now.layout card.now.bytes.now program.now c n result) }
+        (λ c. acts ≡ is_some (lowest_action (agent_for card.now.layout card.now.bytes.now) (state_of c).mental)
+        → Movable card.now.layout card.now.bytes.now program.now c n result) }
 {
-    let acts = action.is_some();
     let mut movable = [0u8; 16];
     for i in 0..n {
         let e = read_entry(program, i);

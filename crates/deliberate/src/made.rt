@@ -266,7 +266,7 @@ fn reach(
         };
     }
     let action = first_of_kind(card, m, plan, marks, Kind::Action);
-    let movable = mark_moves(card, m, plan, marks, program, action, first.at);
+    let movable = mark_moves(card, m, plan, marks, program, action.is_some(), first.at);
     Reached {
         leaf: descend(program, &movable, stack, first.at, first.top),
         action,

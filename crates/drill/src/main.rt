@@ -4,6 +4,7 @@
 #![tactic(auto)]
 
 ghost use Rattle.std.specs.Prelude.{◌≤◌};
+ghost use Rattle.demands.specs.CallContracts.{Loads, Lists, Takes, Runs};
 
 use answers::{
     answer_carried, answer_number, bounded_answer_carried, bounded_answer_number,
@@ -12,6 +13,7 @@ use answers::{
 };
 use deliberation::Deliberated;
 use input::read_full;
+use layout::bytes::{number_at, set_at, two_bytes_at};
 use meaning::{BoundedRan, BoundedReply, Configuration, Listed, Mind, Plan, Ran, Reply};
 use std::io;
 
@@ -74,20 +76,18 @@ fn next_part(rt: HostRuntime, buffer: &mut [u8]) -> Result<&mut [u8]> {
 // "An image of a configuration: beliefs, goals (16 bytes each; from 9 on 32), plan length (2), phase (1), from 4 on the finished
 // count (2), m (2, at most 1,024), and the first m bytes of the plan's array; the rest of the array is zero."
 fn next_image(rt: HostRuntime) -> Result<Configuration> {
-    let beliefs = next_bytes(rt)?;
-    let goals = next_bytes(rt)?;
-    let length = next_number(rt)?;
-    let [phase] = next_bytes::<1>(rt)?;
-    let finished = next_number(rt)?;
+    let head = next_bytes::<71>(rt)?;
     let mut plan = [0u8; 1024];
-    next_part(rt, &mut plan)?;
+    fill(rt, lent(&mut plan, number_at(&head, 69))?)?;
+    let beliefs = set_at(&head, 0, 2);
+    let goals = set_at(&head, 32, 2);
     Ok(Configuration {
         mind: Mind {
             beliefs,
             goals,
-            length,
-            phase,
-            finished,
+            length: two_bytes_at(&head, 64),
+            phase: head[66],
+            finished: two_bytes_at(&head, 67),
         },
         plan,
     })
@@ -125,12 +125,23 @@ fn least(plan: &Plan) -> usize
 // An image is told.
 fn tell_image(rt: HostRuntime, c: Configuration) -> Result<()> {
     let m = least(&c.plan);
+    let length = c.mind.length.to_le_bytes();
+    let finished = c.mind.finished.to_le_bytes();
+    let least = (m as u16).to_le_bytes();
     tell_bytes(rt, &c.mind.beliefs)?;
     tell_bytes(rt, &c.mind.goals)?;
-    tell(rt, c.mind.length)?;
-    tell_bytes(rt, &[c.mind.phase])?;
-    tell(rt, c.mind.finished)?;
-    tell(rt, m as u16)?;
+    tell_bytes(
+        rt,
+        &[
+            length[0],
+            length[1],
+            c.mind.phase,
+            finished[0],
+            finished[1],
+            least[0],
+            least[1],
+        ],
+    )?;
     tell_bytes(rt, &c.plan[..m])
 }
 
@@ -141,6 +152,53 @@ fn check(rt: HostRuntime, card: &[u8]) -> Result<()> {
     match guide::check(card) {
         Ok(_) => tell(rt, 0),
         Err(refusal) => tell(rt, refusal_number(refusal)),
+    }
+}
+
+// Which of the two engines is asked: requests 2, 4, 5 and 6, or 15 to 18.
+#[derive(Clone, Copy)]
+enum Engine {
+    First,
+    Plain,
+}
+
+// A call of either engine: one contract, whichever is asked.
+fn loaded(card: &[u8], engine: Engine) -> Reply
+    ensures { Loads card.now result }
+{
+    match engine {
+        Engine::First => guide::load(card),
+        Engine::Plain => plain::load::load(card),
+    }
+}
+
+// The same.
+fn listed(card: &[u8], engine: Engine, c: Configuration, out: &mut [u16]) -> Listed
+    ensures { Lists card.now c out.old result out.new }
+{
+    match engine {
+        Engine::First => guide::list(card, c, out),
+        Engine::Plain => plain::list::list(card, c, out),
+    }
+}
+
+// The same.
+fn taken(card: &[u8], engine: Engine, c: Configuration, choice: u16) -> Reply
+    ensures { Takes card.now c choice result }
+{
+    match engine {
+        Engine::First => guide::take(card, c, choice),
+        Engine::Plain => plain::take::take(card, c, choice),
+    }
+}
+
+// The same.
+fn ran(card: &[u8], engine: Engine, c: Configuration, budget: u16) -> Ran
+    ensures { Runs card.now c budget result }
+{
+    match engine {
+        Engine::First => guide::run(card, c, budget),
+        Engine::Plain => plain::run::run(card, c, budget),
     }
 }
 
@@ -159,11 +217,10 @@ fn grade(rt: HostRuntime, card: &[u8]) -> Result<()> {
     let Ok(()) = r.answer else {
         return tell_bytes(rt, &[0; 4]);
     };
-    tell_bytes(
-        rt,
-        &[verdict_number(r.verdict), verdict_offender(r.verdict)],
-    )?;
-    tell(rt, rule)
+    let verdict = verdict_number(r.verdict);
+    let offender = verdict_offender(r.verdict);
+    let rule = rule.to_le_bytes();
+    tell_bytes(rt, &[verdict, offender, rule[0], rule[1]])
 }
 
 // Requests 4 and 16: "It is lent filled with EEEE hex; room is at most 1,024"
@@ -178,23 +235,24 @@ fn list<F: Fn(Configuration, &mut [u16]) -> Listed + Drop>(rt: HostRuntime, call
     tell(rt, r.count)?;
     tell(rt, r.judged)?;
     tell(rt, r.goals)?;
-    for entry in out.iter() {
-        tell(rt, *entry)?;
+    let mut entries = [[0u8; 2]; 1024];
+    for (two, entry) in entries.iter_mut().zip(out.iter()) {
+        *two = entry.to_le_bytes();
     }
-    Ok(())
+    tell_bytes(rt, lent(&mut entries, out.len())?.as_flattened())
 }
 
 // What a chosen move answers, on any card or on a bounded one: its number, the node that it carries, and the image.
 #[derive(Drop)]
-struct Taken {
+struct Moved {
     number: u16,
     node: usize,
     configuration: Configuration,
 }
 
-impl From<Reply> for Taken {
+impl From<Reply> for Moved {
     fn from(r: Reply) -> Self {
-        Taken {
+        Moved {
             number: answer_number(r.answer),
             node: answer_carried(r.answer),
             configuration: r.configuration,
@@ -202,9 +260,9 @@ impl From<Reply> for Taken {
     }
 }
 
-impl From<BoundedReply> for Taken {
+impl From<BoundedReply> for Moved {
     fn from(r: BoundedReply) -> Self {
-        Taken {
+        Moved {
             number: bounded_answer_number(r.answer),
             node: bounded_answer_carried(r.answer),
             configuration: r.configuration,
@@ -213,7 +271,7 @@ impl From<BoundedReply> for Taken {
 }
 
 // Requests 5, 13 and 17: "number (2), … the node (2: with 16 the one that settled it, else 0), image"
-fn take<F: Fn(Configuration, u16) -> Taken + Drop>(rt: HostRuntime, call: F) -> Result<()>
+fn take<F: Fn(Configuration, u16) -> Moved + Drop>(rt: HostRuntime, call: F) -> Result<()>
     requires { F.IsAlwaysCallable call }
 {
     let c = next_image(rt)?;
@@ -271,8 +329,8 @@ impl From<Deliberated> for Reached {
 fn tell_reached(rt: HostRuntime, r: Reached) -> Result<()> {
     tell(rt, r.number)?;
     tell_image(rt, r.configuration)?;
-    tell(rt, r.count)?;
-    tell_bytes(rt, &[r.ending])
+    let count = r.count.to_le_bytes();
+    tell_bytes(rt, &[count[0], count[1], r.ending])
 }
 
 // Requests 6, 14 and 18.
@@ -293,8 +351,8 @@ fn next(rt: HostRuntime, card: &[u8]) -> Result<()> {
     let Ok(()) = r.answer else {
         return tell_bytes(rt, &[0; 3]);
     };
-    tell_bytes(rt, &[coming_number(r.coming)])?;
-    tell(rt, coming_choice(r.coming))
+    let choice = coming_choice(r.coming).to_le_bytes();
+    tell_bytes(rt, &[coming_number(r.coming), choice[0], choice[1]])
 }
 
 // Request 7: "room bytes, lent filled with EE hex; room is at most 2,048"
@@ -395,13 +453,18 @@ fn name(rt: HostRuntime, card: &[u8]) -> Result<()> {
 
 // The calls by their number: the guide's, and of 15 to 18 the plain engine's.
 fn answer(rt: HostRuntime, card: &[u8], request: u8) -> Result<()> {
+    let engine = if request < 15 {
+        Engine::First
+    } else {
+        Engine::Plain
+    };
     match request {
         1 => check(rt, card),
-        2 => tell_reply(rt, guide::load(card)),
+        2 | 15 => tell_reply(rt, loaded(card, engine)),
         3 => grade(rt, card),
-        4 => list(rt, |c, out| guide::list(card, c, out)),
-        5 => take(rt, |c, choice| Taken::from(guide::take(card, c, choice))),
-        6 => run(rt, |c, budget| Reached::from(guide::run(card, c, budget))),
+        4 | 16 => list(rt, |c, out| listed(card, engine, c, out)),
+        5 | 17 => take(rt, |c, choice| Moved::from(taken(card, engine, c, choice))),
+        6 | 18 => run(rt, |c, budget| Reached::from(ran(card, engine, c, budget))),
         7 => save(rt, card),
         8 => restore(rt, card),
         9 => text(rt),
@@ -410,21 +473,11 @@ fn answer(rt: HostRuntime, card: &[u8], request: u8) -> Result<()> {
         12 => name(rt, card),
         13 => take(
             rt,
-            |c, choice| Taken::from(guide::take_bounded(card, c, choice)),
+            |c, choice| Moved::from(guide::take_bounded(card, c, choice)),
         ),
         14 => run(
             rt,
             |c, budget| Reached::from(guide::run_bounded(card, c, budget)),
-        ),
-        15 => tell_reply(rt, plain::load::load(card)),
-        16 => list(rt, |c, out| plain::list::list(card, c, out)),
-        17 => take(
-            rt,
-            |c, choice| Taken::from(plain::take::take(card, c, choice)),
-        ),
-        18 => run(
-            rt,
-            |c, budget| Reached::from(plain::run::run(card, c, budget)),
         ),
         21 => go_on(rt, card),
         22 => next(rt, card),

@@ -12,7 +12,7 @@ use crate::bytes::{add_set, number_at, remove_set, set_at, two_bytes_at};
 use crate::card::Card;
 use crate::header::read_span;
 use crate::sizes::{del_at, goals_at, header_bytes, specification_bytes};
-use meaning::{Node, RevisionEntry, Section, SelectionEntry, Set, SpecificationEntry};
+use meaning::{Layout, Node, RevisionEntry, Section, SelectionEntry, Set, SpecificationEntry};
 use runs::Kind;
 
 // Where entry i of a section stands, whose entries have a size: it ends within the section.
@@ -21,6 +21,22 @@ fn entry_at(s: Section, size: usize, i: usize) -> usize
     ensures { (result ≡ entry_at size s i) × (result + size ≤ end_of size s) }
 {
     (s.offset as usize) + size * i
+}
+
+// Where specification i stands.
+pub fn specification_at(l: Layout, i: usize) -> usize
+    requires { (i < l.specifications.count) × (end_of (specification_bytes (set_bytes l)) l.specifications ≤ 65535) }
+    ensures value { result ≡ entry_at (specification_bytes (set_bytes l)) l.specifications i }
+    ensures l_bound { result + specification_bytes (set_bytes l) ≤ end_of (specification_bytes (set_bytes l)) l.specifications }
+{
+    entry_at(l.specifications, specification_bytes(l), i)
+}
+
+// Where action i of the pool stands: "The pool is one byte an action."
+pub fn pool_at(l: Layout, i: u16) -> usize
+    ensures { result ≡ l.pool.offset + i }
+{
+    (l.pool.offset as usize) + (i as usize)
 }
 
 impl Card<'_> {
@@ -65,11 +81,7 @@ impl Card<'_> {
         ensures l_bound { result + specification_bytes (set_bytes self.now.layout)
             ≤ end_of (specification_bytes (set_bytes self.now.layout)) self.now.layout.specifications }
     {
-        entry_at(
-            self.layout.specifications,
-            specification_bytes(self.layout),
-            i,
-        )
+        specification_at(self.layout, i)
     }
 
     // "Specification, 36 bytes: action, node, 0, 0, Add, Del."
@@ -139,7 +151,7 @@ impl Card<'_> {
     pub fn pool_at(&self, i: u16) -> usize
         ensures { result ≡ self.now.layout.pool.offset + i }
     {
-        (self.layout.pool.offset as usize) + (i as usize)
+        pool_at(self.layout, i)
     }
 
     // "initial beliefs"

@@ -93,14 +93,14 @@ fn ask(card: &Card, t: &Tables, u: &Unpacked, judged: &Judgements, choice: Choic
 }
 
 // Every choice of a kind. Past those that the card has there is no rule.
-pub fn ask_kind(card: &Card, t: Tables, u: Unpacked, judged: Judgements, kind: Kind) -> Answers
-    requires ready { Ready card.now.layout card.now.bytes.now (configuration_from u) × Tabled card.now.layout card.now.bytes.now t }
-    requires judged_all { JudgedAll card.now.layout card.now.bytes.now (configuration_from u) judged }
-    ensures { AsksKind card.now.layout card.now.bytes.now (configuration_from u) (kind_number kind) result }
+pub fn ask_kind(card: &Card, t: &Tables, u: &Unpacked, judged: &Judgements, kind: Kind) -> Answers
+    requires ready { Ready card.now.layout card.now.bytes.now (configuration_from u.now) × Tabled card.now.layout card.now.bytes.now t.now }
+    requires judged_all { JudgedAll card.now.layout card.now.bytes.now (configuration_from u.now) judged.now }
+    ensures { AsksKind card.now.layout card.now.bytes.now (configuration_from u.now) (kind_number kind) result }
 {
     let mut answers = [Asked::NoRule; 256];
     for number in 0..card.count_of(kind) {
-        answers[number] = ask(card, &t, &u, &judged, Choice { kind, number });
+        answers[number] = ask(card, t, u, judged, Choice { kind, number });
     }
     answers
 }

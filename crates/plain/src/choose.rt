@@ -1,5 +1,5 @@
 // The guide's own choice: the kinds are tried in turn.
-ghost use Rattle.std.specs.Prelude.{◌≡◌, ◌≤◌};
+ghost use Rattle.std.specs.Prelude.{◌≡◌, ◌%◌, ◌≤◌};
 ghost use Rattle.runs.specs.Order.{guide};
 ghost use Rattle.listing.specs.Looking.{look_by};
 ghost use Rattle.door.specs.Words.{kind_number, agent_for, state_of, chosen, Ready};
@@ -10,7 +10,7 @@ ghost use Rattle.plain.specs.Asking.{FindsFirst};
 
 use crate::ask::{Answers, ask_kind};
 use crate::judge::Judgements;
-use door::asked::{Asked, Choice, kind_of};
+use door::asked::{Asked, Choice};
 use layout::card::Card;
 use runs::Kind;
 use unpacked::configuration::Unpacked;
@@ -23,11 +23,23 @@ pub fn is_enabled(asked: Asked) -> bool
     matches!(asked, Asked::Enabled)
 }
 
-// The lowest enabled of the first n choices of a kind.
-pub fn first_enabled(answers: Answers, n: usize, kind: Kind) -> Option<Choice>
-    requires { n ≤ 256 }
-    ensures { FindsFirst answers n (kind_number kind) result }
+// The kind of a number, modulo 3: "the kind (0 selection, 1 action, 2 revision)".
+fn kind_of(number: u8) -> Kind
+    ensures { kind_number result ≡ number % 3 }
 {
+    match number % 3 {
+        0 => Kind::Selection,
+        1 => Kind::Action,
+        _ => Kind::Revision,
+    }
+}
+
+// The lowest enabled of the first n choices of a kind, which is told by its number, modulo 3.
+pub fn first_enabled(answers: Answers, n: usize, kind: u8) -> Option<Choice>
+    requires { n ≤ 256 }
+    ensures { FindsFirst answers n (kind % 3) result }
+{
+    let kind = kind_of(kind);
     for number in 0..n {
         if is_enabled(answers[number]) {
             return Some(Choice { kind, number });
@@ -44,9 +56,10 @@ pub fn choose(card: &Card, t: Tables, u: Unpacked, judged: Judgements) -> Option
     ensures { result ≡ chosen (guide (agent_for card.now.layout card.now.bytes.now) (state_of (configuration_from u))) }
 {
     for turn in 0..3 {
-        let kind = kind_of(u.standing.phase + turn);
-        let answers = ask_kind(card, t, u, judged, kind);
-        if let Some(choice) = first_enabled(answers, card.count_of(kind), kind) {
+        let number = u.standing.phase + turn;
+        let kind = kind_of(number);
+        let answers = ask_kind(card, &t, &u, &judged, kind);
+        if let Some(choice) = first_enabled(answers, card.count_of(kind), number) {
             return Some(choice);
         }
     }

@@ -1,5 +1,5 @@
 // The list of all enabled choices, how many conditions are judged for it, and how many goals are open.
-ghost use Rattle.std.specs.Prelude.{◌≡◌, ◌++◌, ◌+◌, ◌≤◌, ◌<◌, length, take};
+ghost use Rattle.std.specs.Prelude.{◌≡◌, ◌++◌, ◌+◌, ◌*◌, ◌≤◌, ◌<◌, length, take};
 ghost use Rattle.runs.specs.Order.{enabled_codes};
 ghost use Rattle.demands.specs.CallContracts.{Lists};
 ghost use Rattle.meaning.specs.Calls.{over};
@@ -17,7 +17,7 @@ use crate::choose::is_enabled;
 use crate::judge::{Judgements, judge_all};
 use crate::load::admit_configuration;
 use card::check::answer_of;
-use door::asked::{Asked, Choice};
+use door::asked::Asked;
 use layout::card::Card;
 use meaning::{Answer, Configuration, Layout, Listed, Refusal};
 use runs::Kind;
@@ -32,7 +32,15 @@ pub struct Codes {
     pub count: usize,
 }
 
-// The codes of a kind's enabled choices too: "256 times the kind … plus the number".
+// "A choice is coded as 256 times the kind … plus the number".
+fn code_of(kind: Kind, number: usize) -> u16
+    requires { number < 256 }
+    ensures { result ≡ 256 * kind_number kind + number }
+{
+    256 * (kind as u16) + (number as u16)
+}
+
+// The codes of a kind's enabled choices too.
 fn add_kind(before: Codes, answers: Answers, kind: Kind) -> Codes
     requires { before.count ≤ 512 }
     ensures codes_value { take result.count result.codes ≡ take before.count before.codes ++ codes_from answers (kind_number kind) }
@@ -42,7 +50,7 @@ fn add_kind(before: Codes, answers: Answers, kind: Kind) -> Codes
     let mut count = before.count;
     for number in 0..256 {
         if is_enabled(answers[number]) {
-            codes[count] = Choice { kind, number }.code();
+            codes[count] = code_of(kind, number);
             count += 1;
         }
     }
@@ -63,17 +71,17 @@ fn gather(card: &Card, t: Tables, u: Unpacked, judged: Judgements) -> Codes
     };
     let one = add_kind(
         none,
-        ask_kind(card, t, u, judged, Kind::Selection),
+        ask_kind(card, &t, &u, &judged, Kind::Selection),
         Kind::Selection,
     );
     let two = add_kind(
         one,
-        ask_kind(card, t, u, judged, Kind::Action),
+        ask_kind(card, &t, &u, &judged, Kind::Action),
         Kind::Action,
     );
     add_kind(
         two,
-        ask_kind(card, t, u, judged, Kind::Revision),
+        ask_kind(card, &t, &u, &judged, Kind::Revision),
         Kind::Revision,
     )
 }
@@ -117,8 +125,8 @@ fn conditions_judged(card: &Card, t: Tables, u: Unpacked, judged: Judgements) ->
     if u.standing.length == 0 {
         return judged_selecting(card.layout, t, judged);
     }
-    let specifications = ask_kind(card, t, u, judged, Kind::Action);
-    let revisions = ask_kind(card, t, u, judged, Kind::Revision);
+    let specifications = ask_kind(card, &t, &u, &judged, Kind::Action);
+    let revisions = ask_kind(card, &t, &u, &judged, Kind::Revision);
     judged_otherwise(specifications) + judged_otherwise(revisions)
 }
 

@@ -9,7 +9,7 @@ ghost use Rattle.unpacked.specs.Tables.{Tabled};
 ghost use Rattle.unpacked.specs.Truths.{configuration_from};
 ghost use Rattle.plain.specs.Calls.{taken_from};
 
-use door::asked::{Choice, number_of};
+use door::asked::Choice;
 use layout::card::Card;
 use meaning::{Plan, RevisionEntry, SelectionEntry, Standing};
 use moves::step::Transition;
@@ -59,7 +59,7 @@ fn taken(choice: Choice, u: Unpacked, plan: Plan, n: usize) -> Made
             plan,
             standing: Standing {
                 length: n as u16,
-                phase: (number_of(choice.kind) + 1) % 3,
+                phase: (choice.kind as u8 + 1) % 3,
                 finished: finished_with(u.standing.finished, n),
             },
             ..u

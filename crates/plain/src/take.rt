@@ -6,7 +6,7 @@ ghost use Rattle.meaning.specs.Why.{why_closed};
 ghost use Rattle.runs.specs.Step.{step_by};
 ghost use Rattle.meaning.specs.declared.Refusal.{Refusal};
 ghost use Rattle.door.specs.Asking.{answer_asked};
-ghost use Rattle.door.specs.Words.{agent_for, state_of, asked, choice_of, Ready};
+ghost use Rattle.door.specs.Words.{agent_for, state_of, asked, choice_of, chosen, Ready};
 ghost use Rattle.moves.specs.Steps.{answer_to, taken_by};
 ghost use Rattle.unpacked.specs.Tables.{Tabled};
 ghost use Rattle.unpacked.specs.Truths.{configuration_from};
@@ -21,15 +21,31 @@ use door::asked::{Asked, Choice};
 use layout::card::Card;
 use meaning::{Answer, Configuration, Refusal, Reply};
 use moves::step::Transition;
+use runs::Kind;
 use unpacked::configuration::{Unpacked, pack, unpack};
 use unpacked::tables::{Tables, unpack_card};
+
+// The choice of a code, "256 times the kind … plus the number of the rule or specification": there is no kind past 2.
+fn choice_by(code: u16) -> Option<Choice>
+    ensures { result ≡ chosen (choice code) }
+{
+    let kind = match code / 256 {
+        0 => Kind::Selection,
+        1 => Kind::Action,
+        2 => Kind::Revision,
+        _ => return None,
+    };
+    let number = (code % 256) as usize;
+    Some(Choice { kind, number })
+}
 
 // A choice of any number: "no such rule or specification" where there is none.
 fn ask_choice(card: &Card, t: Tables, u: Unpacked, choice: Choice) -> Asked
     requires { Ready card.now.layout card.now.bytes.now (configuration_from u) × Tabled card.now.layout card.now.bytes.now t × (choice.number < 256) }
     ensures { result ≡ asked card.now.layout card.now.bytes.now (state_of (configuration_from u)).mental (choice_of choice) }
 {
-    ask_kind(card, t, u, judge_all(card.layout, t, u), choice.kind)[choice.number]
+    let judged = judge_all(card.layout, t, u);
+    ask_kind(card, &t, &u, &judged, choice.kind)[choice.number]
 }
 
 // Rows 14, 15 and 16: why a choice is closed, or done.
@@ -61,7 +77,7 @@ fn take_choice(card: &Card, t: Tables, u: Unpacked, code: u16) -> Answered
     ensures { reply_from result ≡ taken_by (why_closed card.now.layout card.now.bytes.now (state_of (configuration_from u)).mental (choice code))
         (step_by (agent_for card.now.layout card.now.bytes.now) (state_of (configuration_from u)) (choice code)) (configuration_from u) }
 {
-    let Some(choice) = Choice::of_code(code) else {
+    let Some(choice) = choice_by(code) else {
         return Answered {
             answer: Err(Refusal::NoRule),
             unpacked: u,

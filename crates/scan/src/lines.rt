@@ -143,7 +143,7 @@ fn scan_line(text: &[u8], n: usize, stage: Stage) -> Result<Staged, Wrong>
             Stage::First | Stage::Ending => return Err(wrong),
             _ => (scan_begin(text, at)?, Stage::Ending),
         },
-        _ => return Err(wrong),
+        _ => return Err(Wrong { at: n }),
     };
     Ok(Staged { at, stage })
 }

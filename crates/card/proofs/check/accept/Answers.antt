@@ -1,5 +1,5 @@
 -- each row of the table in its order
-use Rattle.card.specs.Accepted.{Accepted}
+use Rattle.card.specs.Accepted.{Accepted, AcceptedCard}
 use Rattle.card.proofs.Rows.{row_passed, row_kept_out}
 use Rattle.card.proofs.Checked.{no_header, no_counts, no_offsets, well_laid, no_weights, no_nodes, no_rules, no_pool, no_sets, no_refusal}
 use mathlib.Core.Path.{refl}
@@ -84,4 +84,4 @@ returns c =
     let pool = row_passed _ _ _ c.pool_good.ensures c.in_ok-row-6.ensures in
     let sets = row_passed _ _ _ c.sets_good.ensures c.in_ok-row-7.ensures in
     let r = no_refusal c.args.bytes.now c.in_ok-layout.layout c.in_ok-layout.ensures counts offsets weights nodes rules pool sets in
-    record { same = refl; checked = r.0; good = r.1 }
+    let told : AcceptedCard c.args.bytes.now (record { bytes = c.args.bytes; layout = c.in_ok-layout.layout; good = c.card-1.given.0 }) = record { same = refl; checked = r.0; good = r.1 } in told

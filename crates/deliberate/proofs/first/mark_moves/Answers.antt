@@ -1,4 +1,3 @@
-use Rattle.std.specs.Prelude as Std
 use Rattle.paper.specs.Atoms.{Atoms, ◌∈◌}
 use Rattle.paper.specs.Next.{is_some}
 use Rattle.sets.proofs.Members.{passing_none, passing_yes, passing_no}
@@ -9,7 +8,7 @@ use Rattle.meaning.specs.Configurations.{state_of}
 use Rattle.meaning.specs.Card.{agent_for}
 use Rattle.meaning.specs.declared.Node.{Node}
 use Rattle.deliberate.specs.First.{movable_of, Movable}
-use Rattle.deliberate.proofs.Marking.{at_some, movable_next}
+use Rattle.deliberate.proofs.Marking.{movable_next}
 use Rattle.layout.specs.PlaceParts.{configured}
 use Rattle.choices.specs.Judged.{Judged}
 use mathlib.Core.Bool.{Bool}
@@ -37,7 +36,7 @@ loop-i-preserved c =
     let b = a.card.now.bytes.now in
     let p = a.program.now in
     let marked : (σ γ : Atoms) → (j : Judged a.card.now.layout b (configured σ γ a.m a.plan.now) a.marks.now)
-    → c.is_some-acts.result ≡ is_some (lowest_action A (state_of (configured σ γ a.m a.plan.now)).mental)
+    → a.acts ≡ is_some (lowest_action A (state_of (configured σ γ a.m a.plan.now)).mental)
     → c.has_move.result ≡ is_some (move_at a.card.now.layout b p (state_of (configured σ γ a.m a.plan.now)).mental l.i) =
     λ σ γ j q.
     (let d = configured σ γ a.m a.plan.now in
@@ -59,11 +58,9 @@ loop-i-preserved c =
     ]
 
 pub returns : goal.returns
-unfolding lowest_action
 returns c = λ σ γ j e.
     let a = c.args in
     let l = c.loop-i in
     let d = configured σ γ a.m a.plan.now in
     let n : l.i ≡ a.n = omega arith in
-    let q = c.is_some-acts.ensures ∙ ap Std.is_some e ∙ at_some (lowest_action (agent_for a.card.now.layout a.card.now.bytes.now) (state_of d).mental) in
-    subst (λ n. Movable a.card.now.layout a.card.now.bytes.now a.program.now d n l.movable) n (l.invariant.1 σ γ j q)
+    subst (λ n. Movable a.card.now.layout a.card.now.bytes.now a.program.now d n l.movable) n (l.invariant.1 σ γ j e)

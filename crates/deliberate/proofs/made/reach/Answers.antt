@@ -1,12 +1,16 @@
+use Rattle.std.specs.Prelude as Std
 use Rattle.paper.specs.Atoms.{◌∈◌}
 use Rattle.sets.proofs.Members.{passing_below}
 use Rattle.paper.specs.Next.{is_some}
 use Rattle.layout.specs.PlaceParts.{configured}
 use Rattle.meaning.specs.Configurations.{state_of}
+use Rattle.meaning.specs.Card.{agent_for}
+use Rattle.deliberation.specs.FirstMove.{lowest_action}
+use Rattle.deliberate.proofs.Marking.{at_some}
 use Rattle.deliberation.specs.Entries.{move_at}
 use Rattle.deliberate.proofs.Descending.{stacked_room, down_came, later_kept}
 use mathlib.Core.Bool.{Bool}
-use mathlib.Core.Path.{refl, ◌∙◌}
+use mathlib.Core.Path.{refl, ap, ◌∙◌}
 use Prim.Native.Nat.{ℕ}
 use native.Mathlib.Omega.{arith}
 use Rattle.deliberate.proofs.made.reach.Goals as goal
@@ -38,6 +42,7 @@ mark_moves-movable-requires c =
     (j, g, omega arith)
 
 pub returns : goal.returns
+unfolding lowest_action
 returns c =
     let a = c.args in
     let b = a.card.now.bytes.now in
@@ -52,11 +57,12 @@ returns c =
           (let d = configured σ γ a.m a.plan.now in
           let has : ℕ → Bool = λ i. is_some (move_at a.card.now.layout b p (state_of d).mental i) in
           let act = c.first_of_kind-action.ensures σ γ j in
+          let acts = c.is_some.ensures ∙ ap Std.is_some act ∙ at_some (lowest_action (agent_for a.card.now.layout b) (state_of d).mental) in
           record {
             leaf = y;
             same =
                 down_came a.card.now.layout b p d g a.from has (λ i h. refl) (q.ensures.by_index has)
-                ∙ down_came a.card.now.layout b p d g q.result.at (λ i. i ∈ k.result) (passing_below has q.result.at k.result (k.ensures σ γ j act)) e.ensures.down;
+                ∙ down_came a.card.now.layout b p d g q.result.at (λ i. i ∈ k.result) (passing_below has q.result.at k.result (k.ensures σ γ j acts)) e.ensures.down;
             action = λ _. act;
           });
       top_le_top = (omega arith, later_kept q.result.top a.top e.new.stack q.new.stack rising kept' ∙ kept);

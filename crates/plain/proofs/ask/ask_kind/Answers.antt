@@ -18,11 +18,11 @@ loop-number-preserved c =
     let l = c.loop-number in
     let m = at_most_256 a.card.now.layout a.card.now.bytes.now c.requires.ready.0.card.layout (kind_number a.kind) in (
       simp length-set l.invariant.0,
-      asks_turn (λ i. asked a.card.now.layout a.card.now.bytes.now (state_of (configuration_from a.u)).mental (choice_at (kind_number a.kind) i)) l.number l.answers c.ask.result (omega arith) c.ask.ensures l.invariant.1,
+      asks_turn (λ i. asked a.card.now.layout a.card.now.bytes.now (state_of (configuration_from a.u.now)).mental (choice_at (kind_number a.kind) i)) l.number l.answers c.ask.result (omega arith) c.ask.ensures l.invariant.1,
     )
 
 pub returns : goal.returns
 returns c =
     let a = c.args in
     let l = c.loop-number in
-    kind_asked a.card.now.layout a.card.now.bytes.now (configuration_from a.u) (kind_number a.kind) l.number (omega arith) l.answers l.invariant.1
+    kind_asked a.card.now.layout a.card.now.bytes.now (configuration_from a.u.now) (kind_number a.kind) l.number (omega arith) l.answers l.invariant.1

@@ -1,4 +1,5 @@
-use mathlib.Core.Path.{◌≡◌, sym, ap, ◌∙◌}
+use Rattle.std.specs.Prelude.{Some, None}
+use mathlib.Core.Path.{◌≡◌, sym, ap, ◌∙◌, subst}
 use mathlib.Core.List.{List}
 use Prim.Native.Nat.{ℕ, ◌<◌}
 use native.Mathlib.Omega.{arith}
@@ -15,7 +16,7 @@ use Rattle.door.specs.declared.asked.Asked.{Asked}
 use Rattle.door.specs.Asking.{choice_at}
 use Rattle.door.proofs.First.{left_turn, found_of_kind, none_of_kind}
 use Rattle.listing.specs.Looking.{look_by}
-use Rattle.plain.specs.Asking.{AsksKind}
+use Rattle.plain.specs.Asking.{AsksKind, FindsFirst}
 use Rattle.plain.proofs.Asking.{read_inside, answer_enabled}
 use Rattle.plain.proofs.choose.first_enabled.Goals as goal
 
@@ -26,19 +27,25 @@ found l b s kind answers m a i h =
     sym (answer_enabled l b s kind answers a i h) ∙ ap (λ (x : Asked). (look_by x).enabled) (read_inside answers i Asked.NoRule Asked.Enabled (omega arith))
 
 pub returns-then-is_enabled : goal.returns-then-is_enabled
-returns-then-is_enabled c = λ l b s e a.
+returns-then-is_enabled c =
     let x = c.args in
+    let k = c.kind_of-kind.result in
     let i = c.loop-number.number in
-    let r = c.loop-number.invariant l b s e a in
-    found_of_kind l b (state_of s).mental x.kind i (omega arith) (found l b s (kind_number x.kind) x.answers (search rules) a i (omega arith) ∙ sym c.is_enabled.ensures ∙ c.if-is_enabled.true) r
+    subst (λ t. FindsFirst x.answers x.n t (Some (record { kind = k; number = i }))) c.kind_of-kind.ensures
+    (λ l b s e a. found_of_kind l b (state_of s).mental k i (omega arith) (found l b s (kind_number k) x.answers (search rules) a i (omega arith) ∙ sym c.is_enabled.ensures ∙ c.if-is_enabled.true) (c.loop-number.invariant l b s e a))
 
 pub loop-number-preserved : goal.loop-number-preserved
 loop-number-preserved c =
     λ l b s e a.
     let x = c.args in
+    let k = c.kind_of-kind.result in
     let i = c.loop-number.number in
     let r = c.loop-number.invariant l b s e a in
-    left_turn (agent_for l b) (state_of s).mental (choice_at (kind_number x.kind)) (count_of l (kind_number x.kind)) i (omega arith) (found l b s (kind_number x.kind) x.answers (search rules) a i (omega arith) ∙ sym c.is_enabled.ensures ∙ c.if-is_enabled.false) r
+    left_turn (agent_for l b) (state_of s).mental (choice_at (kind_number k)) (count_of l (kind_number k)) i (omega arith) (found l b s (kind_number k) x.answers (search rules) a i (omega arith) ∙ sym c.is_enabled.ensures ∙ c.if-is_enabled.false) r
 
 pub returns : goal.returns
-returns c = λ l b s e a. none_of_kind l b (state_of s).mental c.args.kind c.loop-number.number (omega arith) (c.loop-number.invariant l b s e a)
+returns c =
+    let x = c.args in
+    let k = c.kind_of-kind.result in
+    subst (λ t. FindsFirst x.answers x.n t None) c.kind_of-kind.ensures
+    (λ l b s e a. none_of_kind l b (state_of s).mental k c.loop-number.number (omega arith) (c.loop-number.invariant l b s e a))

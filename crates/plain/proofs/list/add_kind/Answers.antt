@@ -2,7 +2,6 @@ use mathlib.Core.Path.{◌≡◌, sym, ap, ◌∙◌}
 use native.Mathlib.Omega.{arith}
 use borrow.Author.Rules.{rules}
 use Rattle.runs.specs.Kinds.{kind_number}
-use Rattle.door.proofs.Told.{code_at}
 use lib.ListN.{length, get_or}
 use Rattle.door.specs.declared.asked.Asked.{Asked}
 use Rattle.listing.specs.Looking.{look_by}
@@ -22,6 +21,6 @@ loop-number-preserved c =
     let e : (look_by (get_or a.answers l.number Asked.NoRule)).enabled ≡ c.is_enabled.result =
     ap (λ (x : Asked). (look_by x).enabled) (read_inside a.answers l.number Asked.NoRule Asked.Enabled (omega arith)) ∙ sym c.is_enabled.ensures in
     elim c.if-is_enabled.branch [
-      | then-is_enabled w ↦ rw (w.codes-is, w.code.ensures ∙ sym (code_at a.kind l.number), w.count-is) (added_yes a.answers (kind_number a.kind) a.before.count a.before.codes l.number l.codes l.count l.invariant (omega arith) c.requires (e ∙ w.if-is_enabled.true))
+      | then-is_enabled w ↦ rw (w.codes-is, w.code_of.ensures, w.count-is) (added_yes a.answers (kind_number a.kind) a.before.count a.before.codes l.number l.codes l.count l.invariant (omega arith) c.requires (e ∙ w.if-is_enabled.true))
       | else-is_enabled w ↦ rw (w.codes-is, w.count-is) (added_no a.answers (kind_number a.kind) a.before.count a.before.codes l.number l.codes l.count l.invariant (omega arith) (e ∙ w.if-is_enabled.false))
     ]
